@@ -17,7 +17,7 @@ use Rattle.pool_defs.specs.Laws.{LinesStay, TransactionsKeepTheirRules, CommitsS
 use Rattle.pool_defs.specs.declared.line.Line.{Line}
 use Rattle.pool_defs.proofs.StepLemmas.{by_step, keep_all}
 use Rattle.pool_defs.proofs.RulesLemmas.{rules-agree}
-use Rattle.pool_defs.proofs.ItemLemmas.{Holds, holds-next, agrees, still-committed, behind-first}
+use Rattle.pool_defs.proofs.ItemLemmas.{Holds, holds-next, agrees, still-committed, after-first}
 
 -- ---- The lines
 
@@ -33,7 +33,7 @@ lines-from spec branch so_far [] = ([], sym (append-nil so_far.lines), refl)
 lines-from spec branch so_far (item ∷ items) =
     let one = one-line spec branch so_far item in
     let more = lines-from spec branch (take_item spec branch so_far item) items in
-    (one.0 ∷ more.0, more.1 ∙ ap (λ (front : List Line). front ++ more.0) one.1 ∙ append_assoc so_far.lines (one.0 ∷ []) more.0, ap suc more.2)
+    (one.0 ∷ more.0, more.1 ∙ ap (λ (earlier : List Line). earlier ++ more.0) one.1 ∙ append_assoc so_far.lines (one.0 ∷ []) more.0, ap suc more.2)
 
 pub lines-stay : LinesStay
 unfolding assembled assembly
@@ -78,7 +78,7 @@ rules-sealed spec branch done all holds =
     let b : Block = all.block in
     let rest : List Transaction = drop 1 b.transactions in
     subst AllHold (rules-agree spec branch b (sealed spec branch b) 1 spec.max_cycles rest
-    (agrees spec branch b (sealed spec branch b) [] (sym (append-nil b.transactions)) (1 + length rest) (omega (arith, behind-first b.transactions holds.some)))) holds.rules
+    (agrees spec branch b (sealed spec branch b) [] (sym (append-nil b.transactions)) (1 + length rest) (omega (arith, after-first b.transactions holds.some)))) holds.rules
 
 pub transactions-keep : TransactionsKeepTheirRules
 unfolding assembled

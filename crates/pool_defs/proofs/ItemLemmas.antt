@@ -23,7 +23,7 @@ use Rattle.pool_defs.specs.declared.line.Line.TheVariants.{Commit, Propose, Refu
 use Rattle.pool_defs.proofs.StepLemmas.{changes_nothing, by_step}
 use Rattle.pool_defs.proofs.RulesLemmas.{AgreeUpTo, hold-append, site-agrees, rules-agree, left-agrees, rules-push, left-push}
 
--- ---- A block with more transactions behind those that it has
+-- ---- A block with more transactions after those that it has
 
 module _ (spec : Specification) (branch : List Block) (b other : Block) (more : List Transaction)
     (grown : other.transactions ≡ b.transactions ++ more) where
@@ -34,11 +34,11 @@ module _ (spec : Specification) (branch : List Block) (b other : Block) (more : 
   agrees end within place below = agree-within place (omega (arith, within, below))
 
   pub left-grown : (place : ℕ) → 0 < place → place ≤ length b.transactions → left_before spec branch b place ≡ left_before spec branch other place
-  left-grown place behind within =
+  left-grown place after_cellbase within =
       let rest : List Transaction = drop 1 (take place b.transactions) in
       let long : length (take place b.transactions) ≡ place = length-take-le place b.transactions within in
       let short = length-drop 1 (take place b.transactions) in
-      left-agrees spec branch b other 1 spec.max_cycles rest (agrees (1 + length rest) (omega (arith, long, short, within, behind)))
+      left-agrees spec branch b other 1 spec.max_cycles rest (agrees (1 + length rest) (omega (arith, long, short, within, after_cellbase)))
       ∙ ap (λ (txs : List Transaction). left_from spec branch other 1 spec.max_cycles (drop 1 txs)) (agree-within place within)
 
   pub still-committed : (t : Transaction) (paid cycles : ℕ) → IsCommitted spec branch b t paid cycles → IsCommitted spec branch other t paid cycles
@@ -47,10 +47,10 @@ module _ (spec : Specification) (branch : List Block) (b other : Block) (more : 
       let site : site_at spec branch b is.place ≡ site_at spec branch other is.place =
       site-agrees spec branch b other is.place (agree-within is.place (omega (arith, within))) in
       let left : left_before spec branch b is.place ≡ left_before spec branch other is.place =
-      left-grown is.place is.behind (omega (arith, within)) in
+      left-grown is.place is.after_cellbase (omega (arith, within)) in
       record {
         place = is.place;
-        behind = is.behind;
+        after_cellbase = is.after_cellbase;
         there = ap (λ (txs : List Transaction). slice_get txs is.place) grown ∙ slice_get-before b.transactions more is.place within ∙ is.there;
         kept = subst AllHold (ap (λ (s : Site). transaction_rules s (left_before spec branch b is.place) t) site
             ∙ ap (λ (l : ℕ). transaction_rules (site_at spec branch other is.place) l t) left) is.kept;
@@ -77,9 +77,9 @@ drop-push : (txs : List Transaction) (t : Transaction) → 0 < length txs → dr
 drop-push [] t some = absurd (omega (arith, some))
 drop-push (first ∷ later) t some = refl
 
-pub behind-first : (txs : List Transaction) → 0 < length txs → 1 + length (drop 1 txs) ≡ length txs
-behind-first [] some = absurd (omega (arith, some))
-behind-first (first ∷ later) some = omega arith
+pub after-first : (txs : List Transaction) → 0 < length txs → 1 + length (drop 1 txs) ≡ length txs
+after-first [] some = absurd (omega (arith, some))
+after-first (first ∷ later) some = omega arith
 
 module _ (spec : Specification) (branch : List Block) (done : List (List ℕ)) (item : List ℕ) (so_far : Assembly) (holds : Holds spec branch done so_far) where
   one-more : (line : Line) → length (so_far.lines ++ line ∷ []) ≡ length (done ++ item ∷ [])
@@ -151,7 +151,7 @@ module _ (spec : Specification) (branch : List Block) (done : List (List ℕ)) (
       same = sym (append-nil so_far.block.transactions)
 
       within : 1 + length rest ≤ length so_far.block.transactions + 1
-      within = omega (arith, behind-first so_far.block.transactions holds.some)
+      within = omega (arith, after-first so_far.block.transactions holds.some)
 
   commits-one : (t : Transaction) → decoded transaction item ≡ Some t
       → first_failing (transaction_rules (next_site spec branch so_far.block) so_far.left t) ≡ None
@@ -171,7 +171,7 @@ module _ (spec : Specification) (branch : List Block) (done : List (List ℕ)) (
           is,
           record {
             place = length so_far.block.transactions;
-            behind = holds.some;
+            after_cellbase = holds.some;
             there = slice_get-push so_far.block.transactions t;
             kept = subst AllHold (ap (λ (s : Site). transaction_rules s so_far.left t) site ∙ ap (λ (l : ℕ). transaction_rules there l t) before) kept;
             fee_is = paid_is paid cycles same ∙ ap (λ (s : Site). fee s t) site;
@@ -197,7 +197,7 @@ module _ (spec : Specification) (branch : List Block) (done : List (List ℕ)) (
       kept = (finds_none (transaction_rules here so_far.left t)).0 unbroken
 
       agree : AgreeUpTo (1 + length rest) so_far.block other
-      agree = agrees spec branch so_far.block other (t ∷ []) refl (1 + length rest) (omega (arith, behind-first so_far.block.transactions holds.some))
+      agree = agrees spec branch so_far.block other (t ∷ []) refl (1 + length rest) (omega (arith, after-first so_far.block.transactions holds.some))
 
       site : here ≡ there
       site = site-agrees spec branch so_far.block other (length so_far.block.transactions)
@@ -207,7 +207,7 @@ module _ (spec : Specification) (branch : List Block) (done : List (List ℕ)) (
       left_here = sym (holds.left ∙ left-agrees spec branch so_far.block other 1 spec.max_cycles rest agree)
 
       at_end : site_at spec branch other (1 + length rest) ≡ here
-      at_end = ap (site_at spec branch other) (behind-first so_far.block.transactions holds.some) ∙ sym site
+      at_end = ap (site_at spec branch other) (after-first so_far.block.transactions holds.some) ∙ sym site
 
       before : so_far.left ≡ left_before spec branch other (length so_far.block.transactions)
       before = sym left_here ∙ ap (λ (txs : List Transaction). left_from spec branch other 1 spec.max_cycles (drop 1 txs))

@@ -1,3 +1,4 @@
+pub mod GrowthLemmas
 pub mod StepLemmas
 pub mod RulesLemmas
 pub mod ItemLemmas

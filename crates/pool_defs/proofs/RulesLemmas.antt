@@ -17,9 +17,9 @@ hold-append (rule ∷ rules) later before after =
     All-cons (λ rule. IsTrue rule.1) rule (rules ++ later) (All-head (λ rule. IsTrue rule.1) rule rules before)
     (hold-append rules later (All-tail (λ rule. IsTrue rule.1) rule rules before) after)
 
--- where a transaction stands behind these of its block
-abbrev site_behind : Specification → List Block → List Transaction → Site
-site_behind spec branch earlier =
+-- where a transaction stands after these of its block
+abbrev site_after_these : Specification → List Block → List Transaction → Site
+site_after_these spec branch earlier =
     record { spec = spec; branch = branch; cell = λ (o : OutPoint). cell_after (events branch ++ events_from 0 earlier (length branch)) o }
 
 -- Two blocks have the same transactions before a place.
@@ -28,7 +28,7 @@ AgreeUpTo end b other = (place : ℕ) → place < end → take place b.transacti
 
 pub site-agrees : (spec : Specification) (branch : List Block) (b other : Block) (place : ℕ)
     → take place b.transactions ≡ take place other.transactions → site_at spec branch b place ≡ site_at spec branch other place
-site-agrees spec branch b other place agree = ap (site_behind spec branch) agree
+site-agrees spec branch b other place agree = ap (site_after_these spec branch) agree
 
 pub rules-agree : (spec : Specification) (branch : List Block) (b other : Block) (place left : ℕ) (txs : List Transaction)
     → AgreeUpTo (place + length txs) b other → rules_from spec branch b place left txs ≡ rules_from spec branch other place left txs

@@ -69,7 +69,7 @@ module _ (spec : Specification) (branch : List Block) (so_far : Assembly) (item 
   unfolding take_item
   by_step = by_form (decoded transaction item) refl
 
--- What holds at the start, and with each item more, holds behind all of them.
+-- What holds at the start, and with each item more, holds after all of them.
 pub keep_all : {K I : Type 0} (P : List I → K → Type 0) (kept_after : K → I → K)
     → ((done : List I) (kept : K) (item : I) → P done kept → P (done ++ item ∷ []) (kept_after kept item))
     → (done items : List I) (kept : K) → P done kept → P (done ++ items) (keep kept_after kept items)

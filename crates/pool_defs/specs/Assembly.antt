@@ -32,7 +32,7 @@ pub record Assembly : Type 0 where
 
 -- ---- One item
 
--- a block with a transaction, or a proposal id, behind those that it has
+-- a block with a transaction, or a proposal id, after those that it has
 abbrev pub with_transaction : Block → Transaction → Block
 with_transaction b t = record b { transactions = b.transactions ++ t ∷ [] }
 
@@ -72,7 +72,7 @@ abbrev pub commit : Specification → List Block → Assembly → Transaction �
 commit spec branch so_far t =
     if fits_length spec (with_transaction so_far.block t) then committed_at (next_site spec branch so_far.block) so_far t else with_line so_far Later
 
--- by the first of J18 and J20 to J30 that it breaks behind the block's transactions, with the cycles that they leave. J19 is kept.
+-- by the first of J18 and J20 to J30 that it breaks after the block's transactions, with the cycles that they leave. J19 is kept.
 abbrev pub judge : Specification → List Block → Assembly → Transaction → Option ℕ → Assembly
 judge spec branch so_far t (Some rule) = with_line so_far (Refused rule)
 judge spec branch so_far t None = commit spec branch so_far t

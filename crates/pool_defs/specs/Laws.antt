@@ -41,10 +41,10 @@ left_from spec branch b place left (t ∷ later) = left_from spec branch b (suc 
 abbrev pub left_before : Specification → List Block → Block → ℕ → ℕ
 left_before spec branch b place = left_from spec branch b 1 spec.max_cycles (drop 1 (take place b.transactions))
 
--- A transaction stands in a block behind its cellbase. There it keeps J18 to J30, and pays this fee and takes these cycles.
+-- A transaction stands in a block after its cellbase. There it keeps J18 to J30, and pays this fee and takes these cycles.
 pub record IsCommitted (spec : Specification) (branch : List Block) (b : Block) (t : Transaction) (paid cycles : ℕ) : Type 0 where
   pub place : ℕ
-  pub behind : 0 < place
+  pub after_cellbase : 0 < place
   pub there : slice_get b.transactions place ≡ Some t
   pub kept : AllHold (transaction_rules (site_at spec branch b place) (left_before spec branch b place) t)
   pub fee_is : paid ≡ fee (site_at spec branch b place) t
