@@ -21,7 +21,7 @@ returns-in-Ok-End-clause-read g c =
     let found = c.in-Ok-End.ensures.next in
     let next = rw c.in-Ok-End.field-0-is at found.2 in
     let answer = read_at limits items read.all c.args.needed (get_or limits i 0) c.len.result left c.items.items c.in-Ok-End.end c.items.offset found.0 (concat items ++ found.0) refl
-    c.len.ensures refl (next_limit limits c.items.items.items i c.items.invariant.count c.items-test.true) read.place next.0 next.1 in (
+    (omega (arith, c.len.ensures, c.items.items.ok)) refl (next_limit limits c.items.items.items i c.items.invariant.count c.items-test.true) read.place next.0 next.1 in (
       concat items ++ found.0,
       gives_more (g.S.Source.left c.args.input.now) (g.S.Source.left c.items.input) left (concat items) found.0 read.gives found.1,
       subst (λ (w : Whole). IsReadWhole limits c.args.needed left (Ok w) (concat items ++ found.0))
@@ -75,17 +75,17 @@ items-preserved g c =
     let read = c.items.invariant.read in
     let found = c.in-Ok-Item.ensures.next in
     let next = rw c.in-Ok-Item.field-0-is at found.2 in
-    let size : length item.items ≡ c.len.result = omega (arith, c.len.ensures, item.ok) in
+    let size : length item.items ≡ c.len-in-items.result = omega (arith, c.len-in-items.ensures, item.ok) in
     let grown : map (λ (v : Vec ℕ Global). v.items) c.push.new.self.items ≡ items ++ item.items ∷ [] =
     ap (map (λ (v : Vec ℕ Global). v.items)) c.in-Ok.ensures.items ∙ map-append (λ (v : Vec ℕ Global). v.items) vectors (item ∷ []) in
     let more : HasRead limits old left (items ++ item.items ∷ []) (c.items.offset + length item.items) =
     has_read_more limits old (g.S.Source.left c.items.input) left items item.items found.0 c.items.offset (get_or limits i 0) read
     (next_limit limits vectors i c.items.invariant.count c.items-test.true) next found.1 in
     record {
-      read = subst (λ (them : List (List ℕ)). HasRead limits old left them (c.items.offset + c.len.result)) (sym grown)
+      read = subst (λ (them : List (List ℕ)). HasRead limits old left them (c.items.offset + c.len-in-items.result)) (sym grown)
           (subst (λ (n : ℕ). HasRead limits old left (items ++ item.items ∷ []) (c.items.offset + n)) size more);
       count = ap length c.in-Ok.ensures.items ∙ length_push vectors item ∙ ap (λ (n : ℕ). n + 1) c.items.invariant.count;
-      fits = offset_fits limits i c.items.offset c.len.result c.items-test.true c.items.invariant.fits (omega (arith, size, next.is_item.most));
+      fits = offset_fits limits i c.items.offset c.len-in-items.result c.items-test.true c.items.invariant.fits (omega (arith, size, next.is_item.most));
       unchanged = c.in-Ok-Item.ensures.faults.unchanged (λ e. cc) ∙ c.items.invariant.unchanged;
     }
 
