@@ -1,5 +1,5 @@
 // A block that is assembled.
-ghost use Rattle.std.specs.Prelude.{◌≡◌, ◌<◌, ◌≤◌, ◌==◌, ◌^◌, ℕ, List, map, length, Some, None, Err, IfOk, IsTrue, ⊥};
+ghost use Rattle.std.specs.Prelude.{◌≡◌, ◌<◌, ◌≤◌, ◌==◌, ◌^◌, ℕ, List, map, length, Some, None, Err, IfOk, IsTrue};
 ghost use Rattle.std.specs.List.{All, list_any};
 ghost use Rattle.outside.specs.declared.disk.Damage.{Damage};
 ghost use Rattle.outside.specs.declared.disk.ReadStop.TheVariants.{Damaged};
@@ -17,6 +17,7 @@ ghost use Rattle.pool_defs.specs.Assembly.{assembled};
 ghost use Rattle.pool_defs.specs.Laws.{breakable};
 ghost use Rattle.tx_pool.specs.Assembling.{IsAssembled, chain_on, most_items, most_bytes};
 
+use crate::open::rt_open;
 use block_judge::Context;
 use cell_model::Cells;
 use chain_tree::Blocks;
@@ -24,11 +25,6 @@ use mol_schema::CellbaseWitnessView;
 use outside::ReadStop;
 use pool_defs::Line;
 use std::alloc::Global;
-
-unsafe extern "C" {
-    safe fn rt_open()
-        ensures { ⊥ };
-}
 
 /// A block that was assembled: what became of each item, its bytes, and the first rule that it breaks.
 #[derive(Drop)]

@@ -2,5 +2,6 @@
 #![tactic(auto)]
 
 mod assembling;
+mod open;
 
 pub use assembling::{Assembled, assemble};
