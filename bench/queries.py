@@ -32,11 +32,11 @@ def write_store(folder, count):
     spec, genesis, blocks, kept, tip = chaingen.make(0, count, plain=True)
     with open(os.path.join(folder, 'log.bin'), 'wb') as f:
         f.write(b'CKBDEV01' + record(1, spec) + record(2, genesis))
-        # no block commits anything, so each has an ext that tells of nothing
+        # no block commits anything, so each has an ext without fees and cells
         f.writelines(record(3, chaingen.as_bytes(block) + bytes(8)) for block in blocks)
         f.write(b'\0')
     height, hash_of_tip = kept[tip]
-    # the header of a block is the first of its four fields: it has 208 bytes behind the table's 20
+    # the header of a block is the first of its four fields: it has 208 bytes after the table's 20
     header = blocks[tip - 1][20:228]
     # the coin of the genesis, which no block spends
     coin = ['0x' + chaingen.genesis_transaction()[1].hex(), '1']
