@@ -1,15 +1,16 @@
 #!/usr/bin/env python3
-"""Measures the figures of the README, and writes its table.
+"""Runs all scripts beside this one, and writes the table of the README.
 
     python3 bench/all.py [--only exec,opening] [--rounds 3] [--write]
 
-Each figure is measured by a script beside this one, one after the other, and a row of the
-table is made of what the script prints. The rows go to standard output. With --write each
-takes the place of the README's row that begins alike, with the day; the others stay.
+They run one after the other. What those print that measure a figure of the README becomes
+a row of its table; the others have a limit alone. The rows go to standard output. With
+--write each takes the place of the README's row that begins alike, with the day; the
+others stay.
 
 The programs are those that the gate or `./ckbdev` and `rt run` built. A figure whose program is
 not there, or whose script fails, has no row: that is said on standard error, and the
-status is 1. It is 1 too where a figure is above the limit of its script.
+status is 1. It is 1 too where a script ends with another status than 0: a limit is passed.
 """
 
 import argparse
@@ -122,30 +123,37 @@ def of_peak(text):
 # ------------------------------------------------------------------------------------------------ the rows
 
 Figure = collections.namedtuple('Figure', 'what of')
-# a script with its words but the program, the crate of the program, and the figures that it measures
-Bench = collections.namedtuple('Bench', 'words program takes_rounds figures')
+# a script with its words, the crate of its program, whether the program is a word too, and the figures that it measures
+Bench = collections.namedtuple('Bench', 'words program takes_program takes_rounds figures')
 
 BENCHES = {
-    'hash': Bench(['hash.py'], 'ckbhash', True, [Figure('`ckbhash` of 500 MB', of_hash)]),
-    'exec': Bench(['exec.py', '--only', workloads()], 'ckbdev', True,
+    'hash': Bench(['hash.py'], 'ckbhash', True, True, [Figure('`ckbhash` of 500 MB', of_hash)]),
+    'exec': Bench(['exec.py', '--only', workloads()], 'ckbdev', True, True,
                   [Figure('`exec`, geometric mean over seven workloads', of_exec)]),
-    'scripts': Bench(['scripts.py'], 'tx_vectors', True,
+    'scripts': Bench(['scripts.py'], 'tx_vectors', True, True,
                      [Figure('a script group of a transaction, from its code to its exit', of_scripts)]),
-    'importing': Bench(['importing.py', '--plain', '--row', '--tmpfs'], 'ckbdev', True, [
+    'importing': Bench(['importing.py', '--plain', '--row', '--tmpfs'], 'ckbdev', True, True, [
         Figure('`import` of 20,000 small blocks in a row, the store in memory; of 2,000', of_importing),
         Figure('the same with 100 transactions a block, each with two inputs, two outputs and one script group', of_transactions)]),
-    'branches': Bench(['branches.py'], 'ckbdev', True,
+    'branches': Bench(['branches.py'], 'ckbdev', True, True,
                       [Figure("`import` of a block on another branch than the tip's", of_branches)]),
-    'opening': Bench(['opening.py'], 'ckbdev', True, [Figure('opening a store of 20,000 blocks', of_opening)]),
-    'peak': Bench(['peak.py'], 'ckbdev', False,
+    'opening': Bench(['opening.py'], 'ckbdev', True, True, [Figure('opening a store of 20,000 blocks', of_opening)]),
+    'peak': Bench(['peak.py'], 'ckbdev', True, False,
                   [Figure('peak memory of `import` and of `tip`, 500 blocks of 597,000 bytes', of_peak)]),
+    'cells': Bench(['cells.py'], 'tx_vectors', False, False, []),
+    'queries': Bench(['queries.py'], 'ckbdev', True, True, []),
+    'snapshots': Bench(['snapshots.py'], 'ckbdev', True, True, []),
+    'json_text': Bench(['json_text.py'], 'format_vectors', False, False, []),
+    'start': Bench(['start.py'], 'machine_vectors', True, True, []),
+    'hostile': Bench(['hostile.py'], 'ckbdev', True, True, []),
 }
 
 
 def measured(bench, rounds):
     """The rows of a script, by their first cells, and its status."""
     script, *words = bench.words
-    words = [sys.executable, os.path.join(HERE, script), built(bench.program), *words]
+    program = built(bench.program)
+    words = [sys.executable, os.path.join(HERE, script), *([program] if bench.takes_program else []), *words]
     if rounds and bench.takes_rounds:
         words += ['--rounds', str(rounds)]
     ran = subprocess.run(words, cwd=TOP, stdin=subprocess.DEVNULL, stdout=subprocess.PIPE, text=True)
@@ -192,7 +200,7 @@ def main():
             continue
         rows.update(made)
         if ended:
-            print('all.py: %s: a figure is above its limit' % name, file=sys.stderr)
+            print('all.py: %s: status %d' % (name, ended), file=sys.stderr)
             status = 1
     print(HEAD + ''.join(rows.values()), end='')
     if a.write:
