@@ -123,29 +123,29 @@ def of_peak(text):
 # ------------------------------------------------------------------------------------------------ the rows
 
 Figure = collections.namedtuple('Figure', 'what of')
-# a script with its words, the crate of its program, whether the program is a word too, and the figures that it measures
-Bench = collections.namedtuple('Bench', 'words program takes_program takes_rounds figures')
+# a script with its words but the program, the crate of the program, and the figures that it measures; some find the program themselves
+Bench = collections.namedtuple('Bench', 'words program takes_rounds figures finds_program', defaults=[False])
 
 BENCHES = {
-    'hash': Bench(['hash.py'], 'ckbhash', True, True, [Figure('`ckbhash` of 500 MB', of_hash)]),
-    'exec': Bench(['exec.py', '--only', workloads()], 'ckbdev', True, True,
+    'hash': Bench(['hash.py'], 'ckbhash', True, [Figure('`ckbhash` of 500 MB', of_hash)]),
+    'exec': Bench(['exec.py', '--only', workloads()], 'ckbdev', True,
                   [Figure('`exec`, geometric mean over seven workloads', of_exec)]),
-    'scripts': Bench(['scripts.py'], 'tx_vectors', True, True,
+    'scripts': Bench(['scripts.py'], 'tx_vectors', True,
                      [Figure('a script group of a transaction, from its code to its exit', of_scripts)]),
-    'importing': Bench(['importing.py', '--plain', '--row', '--tmpfs'], 'ckbdev', True, True, [
+    'importing': Bench(['importing.py', '--plain', '--row', '--tmpfs'], 'ckbdev', True, [
         Figure('`import` of 20,000 small blocks in a row, the store in memory; of 2,000', of_importing),
         Figure('the same with 100 transactions a block, each with two inputs, two outputs and one script group', of_transactions)]),
-    'branches': Bench(['branches.py'], 'ckbdev', True, True,
+    'branches': Bench(['branches.py'], 'ckbdev', True,
                       [Figure("`import` of a block on another branch than the tip's", of_branches)]),
-    'opening': Bench(['opening.py'], 'ckbdev', True, True, [Figure('opening a store of 20,000 blocks', of_opening)]),
-    'peak': Bench(['peak.py'], 'ckbdev', True, False,
+    'opening': Bench(['opening.py'], 'ckbdev', True, [Figure('opening a store of 20,000 blocks', of_opening)]),
+    'peak': Bench(['peak.py'], 'ckbdev', False,
                   [Figure('peak memory of `import` and of `tip`, 500 blocks of 597,000 bytes', of_peak)]),
-    'cells': Bench(['cells.py'], 'tx_vectors', False, False, []),
-    'queries': Bench(['queries.py'], 'ckbdev', True, True, []),
-    'snapshots': Bench(['snapshots.py'], 'ckbdev', True, True, []),
-    'json_text': Bench(['json_text.py'], 'format_vectors', False, False, []),
-    'start': Bench(['start.py'], 'machine_vectors', True, True, []),
-    'hostile': Bench(['hostile.py'], 'ckbdev', True, True, []),
+    'cells': Bench(['cells.py'], 'tx_vectors', False, [], True),
+    'queries': Bench(['queries.py'], 'ckbdev', True, []),
+    'snapshots': Bench(['snapshots.py'], 'ckbdev', True, []),
+    'json_text': Bench(['json_text.py'], 'format_vectors', False, [], True),
+    'start': Bench(['start.py'], 'machine_vectors', True, []),
+    'hostile': Bench(['hostile.py'], 'ckbdev', True, []),
 }
 
 
@@ -153,7 +153,7 @@ def measured(bench, rounds):
     """The rows of a script, by their first cells, and its status."""
     script, *words = bench.words
     program = built(bench.program)
-    words = [sys.executable, os.path.join(HERE, script), *([program] if bench.takes_program else []), *words]
+    words = [sys.executable, os.path.join(HERE, script), *([] if bench.finds_program else [program]), *words]
     if rounds and bench.takes_rounds:
         words += ['--rounds', str(rounds)]
     ran = subprocess.run(words, cwd=TOP, stdin=subprocess.DEVNULL, stdout=subprocess.PIPE, text=True)
@@ -200,7 +200,7 @@ def main():
             continue
         rows.update(made)
         if ended:
-            print('all.py: %s: status %d' % (name, ended), file=sys.stderr)
+            print('all.py: %s: ended with status %d: a limit is passed' % (name, ended), file=sys.stderr)
             status = 1
     print(HEAD + ''.join(rows.values()), end='')
     if a.write:
