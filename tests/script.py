@@ -40,7 +40,7 @@ def check_script_explains_statuses(_):
     items, _ = first.first_blocks()
     given, text = first.input_and_text(items)
 
-    def must_say(words, status, out, why, given=b'', **how):
+    def must_tell(words, status, out, why, given=b'', **how):
         ran = Ran([SCRIPT, *words], given, cwd=away, **how)
         must_be((ran.status, ran.out), (status, out), repr(words))
         must(ran.err.startswith(b'ckbdev: status %d: ' % status), '%r: no line explains the status' % words)
@@ -50,17 +50,17 @@ def check_script_explains_statuses(_):
     with new_folder() as away:
         for name in ('store', 'empty', 'other'):
             os.mkdir(os.path.join(away, name))
-        must_say(['gone', 'tip'], 5, b'', "the folder 'gone' is not there")
-        must_say(['empty', 'tip'], 7, b'', 'init makes one')
+        must_tell(['gone', 'tip'], 5, b'', "the folder 'gone' is not there")
+        must_tell(['empty', 'tip'], 7, b'', 'init makes one')
         with open(os.path.join(away, 'other', 'log.bin'), 'wb') as f:
             f.write(b'no log')
-        must_say(['other', 'import'], 7, b'', 'something else')
-        must_say(['other/log.bin', 'tip'], 5, b'', "is no folder")
+        must_tell(['other', 'import'], 7, b'', 'something else')
+        must_tell(['other/log.bin', 'tip'], 5, b'', "is no folder")
         must_answer(Ran([SCRIPT, 'store', 'init'], FIRST_INIT, cwd=away), 0, FIRST_LINE, 'init')
-        must_say(['store', 'init'], 10, b'', 'has a store', FIRST_INIT)
+        must_tell(['store', 'init'], 10, b'', 'has a store', FIRST_INIT)
         with open(os.path.join(away, 'store', 'log.bin'), 'rb') as log:
             fcntl.flock(log, fcntl.LOCK_EX)
-            must_say(['store', 'tip'], 5, b'', "another run has the folder 'store'")
+            must_tell(['store', 'tip'], 5, b'', "another run has the folder 'store'")
         closed = Ran(['sh', '-c', 'exec "$@" <&-', '', SCRIPT, 'store', 'import'], cwd=away)
         must_be((closed.status, closed.out), (3, b''), 'a closed standard input')
         must(closed.err.startswith(b'ckbdev: status 3: '), 'a closed standard input is not named')
@@ -70,12 +70,12 @@ def check_script_explains_statuses(_):
         must_be(ran.returncode, 4, 'a full standard output')
         must(ran.stderr.startswith(b'ckbdev: status 4: '), 'a full standard output is not named')
         block, lines = items[0][0], text.splitlines(keepends=True)
-        must_say(['store', 'import'], 8, lines[0] + b'cut %d\n' % len(block), 'inside an item', block + block[:9])
-        must_say(['store', 'import'], 9, b'bad size 0\n', 'the size at the start', b'\3\0\0\0')
-        must_say(['empty', 'exec', '5'], 12, b'extra 1048576\n', 'bytes follow', bytes((1 << 20) + 1))
-        must_say(['empty', 'init'], 8, b'cut 0\n', 'a specification and a genesis')
+        must_tell(['store', 'import'], 8, lines[0] + b'cut %d\n' % len(block), 'inside an item', block + block[:9])
+        must_tell(['store', 'import'], 9, b'bad size 0\n', 'the size at the start', b'\3\0\0\0')
+        must_tell(['empty', 'exec', '5'], 12, b'extra 1048576\n', 'bytes follow', bytes((1 << 20) + 1))
+        must_tell(['empty', 'init'], 8, b'cut 0\n', 'a specification and a genesis')
         bad = first.changed(first.SPEC, epoch_length=0).item() + first.GENESIS.item()
-        must_say(['empty', 'init'], 11, b'bad spec S2\n', 'the rule that the line names', bad)
+        must_tell(['empty', 'init'], 11, b'bad spec S2\n', 'the rule that the line names', bad)
 
 
 def check_script_on_bad_words(_):
