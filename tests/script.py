@@ -342,7 +342,7 @@ def check_script_takes_the_build_of_the_gate(_):
         it.must_run(b'the gate', 1, 'after the gate')
         it.must_run(b'the gate', 1, 'a second time after the gate')
         it.write('crates/low/src/lib.rt', LOW % 'changed')
-        it.must_run(b'one', 2, 'after a change after the gate')
+        it.must_run(b'one', 2, 'after a change since the gate')
 
 
 # ------------------------------------------------------------ what is shown
