@@ -99,7 +99,25 @@ def check_places_of_a_change(_):
                      or glob.glob(os.path.join(CRATES, folder, '*', name)), '%s: there is no place %s/%s' % (where, folder, name))
 
 
-# ---------------------------------------------------------------------- clauses
+# ---------------------------------------------------------------------- names and clauses
+
+@functools.lru_cache(maxsize=None)
+def names_of_the_code():
+    """The words of all sources, and what their files and folders are called."""
+    names = {re.sub(r'\.\w+$', '', name) for _, inner, files in os.walk(CRATES) for name in inner + files}
+    for place in ('crates/*/*/**/*.rt', 'crates/*/*/**/*.antt', '*/*.py', '*/*/*.py', 'bench/*.c'):
+        for path in glob.glob(os.path.join(TOP, place), recursive=True):
+            names.update(re.findall(r'[A-Za-z_]\w*', text_of(path)))
+    return names
+
+
+def check_names_of_the_documents(_):
+    """What looks like a name of the code, as `read_line` or `FolderDisk`, is one."""
+    for page in ('ARCHITECTURE', 'COMMANDS', 'DECISIONS', 'PROVED', 'PROVING', 'STORE'):
+        for where, line in lines_of(os.path.join(TOP, 'docs', page + '.md')):
+            for name in re.findall(r'\b[A-Za-z]\w*_\w+\b|\b[A-Z][a-z]+[A-Z]\w+\b', line):
+                must(name in names_of_the_code() or name in ('start_lib', 'start_io'), '%s: there is no %s' % (where, name))
+
 
 def sources(crate, *places):
     return '\n'.join(text_of(it) for place in places
