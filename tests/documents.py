@@ -5,7 +5,7 @@ import glob
 import os
 import re
 
-from harness import TOP, must
+from harness import TOP, must, must_be
 
 CRATES = os.path.join(TOP, 'crates')
 CELL_LIMIT = 300
@@ -97,6 +97,16 @@ def check_places_of_a_change(_):
                 # the folder of a function lies below that of its file
                 must(' ' in name or '`' in name or os.path.exists(os.path.join(CRATES, folder, name))
                      or glob.glob(os.path.join(CRATES, folder, '*', name)), '%s: there is no place %s/%s' % (where, folder, name))
+
+
+def check_commands_of_the_script(_):
+    """The script `ckbdev` knows the commands of docs/COMMANDS.md, and its usage text has each with its words."""
+    wanted = re.findall(r'^    ckbdev FOLDER (\w+(?: [A-Z]+)*)', text_of(os.path.join(TOP, 'docs', 'COMMANDS.md')), re.MULTILINE)
+    script = text_of(os.path.join(TOP, 'ckbdev'))
+    known = re.findall(r"^commands='(.*)'$", script, re.MULTILINE)[0].split()
+    must_be(sorted(known), sorted(it.split()[0] for it in wanted), 'the commands of the script')
+    shown = re.findall(r'^(?:usage:|      ) ckbdev FOLDER (\w+(?: [A-Z]+)*)(?= )', script, re.MULTILINE)
+    must_be(sorted(shown), sorted(wanted), 'the commands of its usage text')
 
 
 # ---------------------------------------------------------------------- names and clauses
