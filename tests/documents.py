@@ -4,8 +4,11 @@ import functools
 import glob
 import os
 import re
+import subprocess
+import sys
 
 from harness import TOP, must, must_be
+import all as figures
 
 CRATES = os.path.join(TOP, 'crates')
 CELL_LIMIT = 300
@@ -97,6 +100,14 @@ def check_places_of_a_change(_):
                 # the folder of a function lies below that of its file
                 must(' ' in name or '`' in name or os.path.exists(os.path.join(CRATES, folder, name))
                      or glob.glob(os.path.join(CRATES, folder, '*', name)), '%s: there is no place %s/%s' % (where, folder, name))
+
+
+def check_benches_start(_):
+    """Each script that bench/all.py runs reads its words: what it imports is there."""
+    for script in sorted({bench.words[0] for bench in figures.BENCHES.values()}):
+        ran = subprocess.run([sys.executable, os.path.join(TOP, 'bench', script), '--help'], stdin=subprocess.DEVNULL,
+                             stdout=subprocess.DEVNULL, stderr=subprocess.PIPE, text=True)
+        must(ran.returncode == 0, 'bench/%s does not start: %s' % (script, ran.stderr))
 
 
 def check_commands_of_the_script(_):
