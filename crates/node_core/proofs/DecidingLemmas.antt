@@ -250,5 +250,5 @@ trial-passes-else spec kept t tip (Err stop) is found is_fee is_cycles = tt
 pub joins-made : {E : Type 0} (chain : Chain) (number : ℕ) (hash : List ℕ) (result : Result Assembled E)
     → IfOk result (λ made. made.broken ≡ None → verdict_over chain made.block.items ≡ Joined number hash)
     → IfOk result (λ made. made.broken ≡ None → joins (verdict_over chain made.block.items) ≡ true)
-joins-made chain number hash (Ok made) answers unbroken = ap joins (answers unbroken)
+joins-made chain number hash (Ok made) answers = λ unbroken. ap joins (answers unbroken)
 joins-made chain number hash (Err stop) answers = tt

@@ -26,5 +26,6 @@ pub use block_judge::JudgeStop;
 pub use log_file::LogStop;
 pub use new_store::{NewStop, NewStore, judge};
 pub use node::{HELD, Node};
+pub use pool_defs::Line;
 pub use queries::{Fetched, HeaderAt, Live};
 pub use tx_pool::Assembled;

@@ -15,7 +15,7 @@ new-store-requires g c =
 pub assemble-requires-clause-counts : goal.assemble-requires-clause-counts
 assemble-requires-clause-counts g c =
     counts-blocks (blocks_of c.kept.inside.blocks.stored) c.args.kept.now.chain.blocks c.kept.inside.tree.entries _
-      (ap (λ (v : KeptValue). v.chain.blocks) c.kept.view_is) c.kept.invariant.indexed (ap (λ (t : TreeValue). t.entries) c.new-store.ensures.tree)
+    (ap (λ (v : KeptValue). v.chain.blocks) c.kept.view_is) c.kept.invariant.indexed (ap (λ (t : TreeValue). t.entries) c.new-store.ensures.tree)
 
 pub returns-clause-looked : goal.returns-clause-looked
 returns-clause-looked g c =
