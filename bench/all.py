@@ -1,15 +1,16 @@
 #!/usr/bin/env python3
-"""Measures the figures of the README, and writes its table.
+"""Runs all scripts beside this one, and writes the table of the README.
 
     python3 bench/all.py [--only exec,opening] [--rounds 3] [--write]
 
-Each figure is measured by a script beside this one, one after the other, and a row of the
-table is made of what the script prints. The rows go to standard output. With --write each
-takes the place of the README's row that begins alike, with the day; the others stay.
+They run one after the other. What those print that measure a figure of the README becomes
+a row of its table; the others have a limit alone. The rows go to standard output. With
+--write each takes the place of the README's row that begins alike, with the day; the
+others stay.
 
 The programs are those that the gate or `./ckbdev` and `rt run` built. A figure whose program is
 not there, or whose script fails, has no row: that is said on standard error, and the
-status is 1. It is 1 too where a figure is above the limit of its script.
+status is 1. It is 1 too where a script ends with another status than 0: a limit is passed.
 """
 
 import argparse
@@ -128,8 +129,8 @@ def of_peak(text):
 # ------------------------------------------------------------------------------------------------ the rows
 
 Figure = collections.namedtuple('Figure', 'what of')
-# a script with its words but the program, the crate of the program, and the figures that it measures
-Bench = collections.namedtuple('Bench', 'words program takes_rounds figures')
+# a script with its words but the program, the crate of the program, and the figures that it measures; some find the program themselves
+Bench = collections.namedtuple('Bench', 'words program takes_rounds figures finds_program', defaults=[False])
 
 BENCHES = {
     'hash': Bench(['hash.py'], 'ckbhash', True, [Figure('`ckbhash` of 500 MB', of_hash)]),
@@ -147,13 +148,20 @@ BENCHES = {
     'opening': Bench(['opening.py'], 'ckbdev', True, [Figure('opening a store of 20,000 blocks', of_opening)]),
     'peak': Bench(['peak.py'], 'ckbdev', False,
                   [Figure('peak memory of `import` and of `tip`, 500 blocks of 597,000 bytes', of_peak)]),
+    'cells': Bench(['cells.py'], 'tx_vectors', False, [], True),
+    'queries': Bench(['queries.py'], 'ckbdev', True, []),
+    'snapshots': Bench(['snapshots.py'], 'ckbdev', True, []),
+    'json_text': Bench(['json_text.py'], 'format_vectors', False, [], True),
+    'start': Bench(['start.py'], 'machine_vectors', True, []),
+    'hostile': Bench(['hostile.py'], 'ckbdev', True, []),
 }
 
 
 def measured(bench, rounds):
     """The rows of a script, by their first cells, and its status."""
     script, *words = bench.words
-    words = [sys.executable, os.path.join(HERE, script), built(bench.program), *words]
+    program = built(bench.program)
+    words = [sys.executable, os.path.join(HERE, script), *([] if bench.finds_program else [program]), *words]
     if rounds and bench.takes_rounds:
         words += ['--rounds', str(rounds)]
     ran = subprocess.run(words, cwd=TOP, stdin=subprocess.DEVNULL, stdout=subprocess.PIPE, text=True)
@@ -200,7 +208,7 @@ def main():
             continue
         rows.update(made)
         if ended:
-            print('all.py: %s: a figure is above its limit' % name, file=sys.stderr)
+            print('all.py: %s: ended with status %d: a limit is passed' % (name, ended), file=sys.stderr)
             status = 1
     print(HEAD + ''.join(rows.values()), end='')
     if a.write:

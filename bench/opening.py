@@ -46,7 +46,7 @@ def write_store(folder, count, size, snapshot):
     path = os.path.join(folder, 'log.bin')
     with open(path, 'wb') as f:
         f.write(b'CKBDEV01' + store_model.record(1, spec) + store_model.record(2, genesis))
-        # no block commits anything, so each has an ext that tells of nothing
+        # no block commits anything, so each has an ext without fees and cells
         f.writelines(store_model.record(3, chaingen.as_bytes(block) + bytes(8)) for block in blocks)
         f.write(b'\0')
     number = count // EVERY

@@ -22,7 +22,7 @@ import tempfile
 sys.dont_write_bytecode = True
 import chaingen  # noqa: E402
 from importing import Run  # noqa: E402
-from opening import must_print, record  # noqa: E402
+from opening import must_print, store_model  # noqa: E402
 
 MOST_RATIO = 1.1
 
@@ -31,12 +31,12 @@ def write_store(folder, count):
     """Writes the log of a chain, and answers the words and the line of each query, that of `tip` first."""
     spec, genesis, blocks, kept, tip = chaingen.make(0, count, plain=True)
     with open(os.path.join(folder, 'log.bin'), 'wb') as f:
-        f.write(b'CKBDEV01' + record(1, spec) + record(2, genesis))
-        # no block commits anything, so each has an ext that tells of nothing
-        f.writelines(record(3, chaingen.as_bytes(block) + bytes(8)) for block in blocks)
+        f.write(b'CKBDEV01' + store_model.record(1, spec) + store_model.record(2, genesis))
+        # no block commits anything, so each has an ext without fees and cells
+        f.writelines(store_model.record(3, chaingen.as_bytes(block) + bytes(8)) for block in blocks)
         f.write(b'\0')
     height, hash_of_tip = kept[tip]
-    # the header of a block is the first of its four fields: it has 208 bytes behind the table's 20
+    # the header of a block is the first of its four fields: it has 208 bytes after the table's 20
     header = blocks[tip - 1][20:228]
     # the coin of the genesis, which no block spends
     coin = ['0x' + chaingen.genesis_transaction()[1].hex(), '1']

@@ -1,10 +1,10 @@
 #!/usr/bin/env python3
-"""Makes a chain of twelve blocks with a contract, and two transactions behind it, beside this file.
+"""Makes a chain of twelve blocks with a contract, and two transactions after it, beside this file.
 
     python3 examples/make_contract_chain.py
         contract-chain.bin  an input of `import`: fifteen items on the genesis below
         contract-chain.txt  the lines that they must be answered with
-        transfer.bin        an input of `check` behind them: a transaction that runs the contract
+        transfer.bin        an input of `check` after them: a transaction that runs the contract
         transfer.txt        its line
         refused.bin         another: one that breaks a rule
         refused.txt         its line
@@ -105,7 +105,7 @@ SPENDS_TWICE = Transaction([(FUNDS, 0)], [Cell(ANYONE, capacity=ckb(1000) - 4000
 FORCES = Transaction([(FUNDS, 1)], [Cell(ANYONE, capacity=ckb(1000) - 5000)])
 # goes on from SPENDS
 SPENDS_ON = Transaction([(SPENDS, 0)], [Cell(OPEN, capacity=ckb(400) - 3000)])
-# behind the last block: an open cell and anyone's, so that both programs run
+# after the last block: an open cell and anyone's, so that both programs run
 TRANSFER = Transaction([(SPENDS_ON, 0), (SPENDS, 1)], [Cell(ANYONE, capacity=ckb(1000) - 15000)])
 
 
@@ -149,7 +149,7 @@ class Block:
 # ------------------------------------------------------------------ inputs
 
 def contract_chain():
-    """The items with their lines, and the block that is the tip behind them."""
+    """The items with their lines, and the block that is the tip after them."""
     a1 = Block(GENESIS, proposes=[FUNDS])
     # FUNDS was proposed one block before, and w_close is 2
     too_early = Block(a1, commits=[FUNDS])
@@ -161,7 +161,7 @@ def contract_chain():
     a5 = Block(a4, commits=[SPENDS])
     spends_twice = Block(a5, commits=[SPENDS_TWICE])
     a6 = Block(a5)
-    # beside block 6, and never handed in: what it proposes counts from the block on that has it as an uncle
+    # beside block 6, and never imported: what it proposes counts from the block on that has it as an uncle
     uncle = Block(a5, proposes=[SPENDS_ON], nonce=1)
     a7 = Block(a6, uncles=[uncle])
     a8 = Block(a7)
@@ -196,7 +196,7 @@ def passes(transaction, fee):
 
 
 def transfer():
-    """A transaction behind the tip, with its line. It was never proposed: `check` does not ask for that."""
+    """A transaction after the tip, with its line. It was never proposed: `check` does not ask for that."""
     return TRANSFER.item, passes(TRANSFER, 10000)
 
 

@@ -159,10 +159,10 @@ def main():
     chain, moved = developer_chain()
     given, text = input_and_text(chain.items)
     transfer, line = last_transfer(moved)
-    told = list(answers(chain, moved)) + [('check < transfer.bin', line)]
+    answered = list(answers(chain, moved)) + [('check < transfer.bin', line)]
     for name, content in (('store.bin', chain.spec.item() + chain.genesis.item()), ('blocks.bin', given),
                           ('blocks.txt', text), ('transfer.bin', transfer),
-                          ('words.txt', ''.join('%s\t%s\n' % it for it in told).encode())):
+                          ('words.txt', ''.join('%s\t%s\n' % it for it in answered).encode())):
         store.write(os.path.join(sys.argv[1], name), content)
 
 

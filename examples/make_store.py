@@ -34,7 +34,7 @@ GENESIS_LIMIT = 4 << 20
 
 @dataclasses.dataclass(frozen=True)
 class Spec:
-    """The fields of a specification behind its size, in order."""
+    """The fields of a specification after its size, in order."""
 
     compact_target: int = 0x20000000
     epoch_length: int = 10

@@ -142,7 +142,7 @@ def next_dao(spec, parent, commits, pays):
 
 
 class Chain:
-    """A store and the items that are handed in, each with its line."""
+    """A store and the items that are imported, each with its line."""
 
     def __init__(self, dao=None, first=None, **fields):
         self.spec = Spec(**fields)

@@ -1,5 +1,5 @@
 #!/usr/bin/env python3
-"""What the documents tell a contract author: how a program is built, what it prints, and what usually goes wrong.
+"""What the documents say to a contract author: how a program is built, what it prints, and what usually goes wrong.
 
     sh tests/author.sh
 

@@ -1,4 +1,4 @@
-"""Snapshots that imports take: their bytes, what is answered behind them, and what a stop at each call of the disk leaves."""
+"""Snapshots that imports take: their bytes, what is answered after them, and what a stop at each call of the disk leaves."""
 
 import functools
 import os
@@ -14,7 +14,7 @@ PARTS, BELOW, OVER = 2950, 60, 3040
 
 def shape(count):
     """The places of the parents. Each 50th block is a sibling of the tip, and so the 1,000th; the 2,000th is none. From PARTS on
-    blocks stand on each other, and the first of them BELOW blocks below the tip, which they pass behind the 3,000th."""
+    blocks stand on each other, and the first of them BELOW blocks below the tip, which they pass after the 3,000th."""
     heights, parents, tip = [0], [0], 0
     for place in range(1, count + 1):
         if place > PARTS:
@@ -75,7 +75,7 @@ def check_snapshots_of_a_chain(program):
     it has then is the next snapshot."""
     chain = chain_of(4 * EVERY)
     must(chain.tip(EVERY) != EVERY and chain.tip(2 * EVERY) == 2 * EVERY, 'the first is of another block, the second of its own')
-    must(chain.tip(3 * EVERY) < PARTS < chain.tip(OVER), 'the branch of the third is left behind it')
+    must(chain.tip(3 * EVERY) < PARTS < chain.tip(OVER), 'the branch of the third is left after it')
     with new_store(program, chain.init, b'genesis 0x%s\n' % chain.hashes[0].hex().encode()) as folder:
         wanted = {'snap_a': b'', 'snap_b': b''}
         for number in (1, 2, 3, 4):
@@ -88,9 +88,9 @@ def check_snapshots_of_a_chain(program):
                 must_import(program, folder, chain, first, last, 'import up to %d' % last)
                 found = areas(folder)
                 for area, content in wanted.items():
-                    must_be(found[area], content, '%s behind %d blocks' % (area, last))
+                    must_be(found[area], content, '%s after %d blocks' % (area, last))
                 if last == OVER:
-                    must_answer_as_replayed(program, folder, chain, OVER, 'behind the snapshot, on another branch')
+                    must_answer_as_replayed(program, folder, chain, OVER, 'after the snapshot, on another branch')
                     without = {**found, 'snap_a': b'', 'snap_b': b''}
                     put(folder, without)
                     must_answer_as_replayed(program, folder, chain, OVER, 'without a snapshot')

@@ -1,7 +1,8 @@
 #!/usr/bin/env python3
 """What no contract pins: the built program on real folders, files and pipes, the
-script that builds and runs it, what the README says that they print, and whether the
-stored files that scripts make are what those make.
+script that builds and runs it, what the README says that they print, whether the
+documents name what is there, and whether the stored files that scripts make are what
+those make.
 
     sh tests/edge.sh [--program PROGRAM] [WORD ..]
 
@@ -21,6 +22,7 @@ sys.dont_write_bytecode = True
 import allocations  # noqa: E402 (beside the line above)
 import assembling  # noqa: E402
 import chain_snapshots  # noqa: E402
+import documents  # noqa: E402
 import folders  # noqa: E402
 import json_texts  # noqa: E402
 import script  # noqa: E402
@@ -39,7 +41,7 @@ def main():
     a.add_argument('--program')
     a.add_argument('words', nargs='*')
     a = a.parse_args()
-    modules = streams, assembling, json_texts, folders, allocations, chain_snapshots, script, tracing, stored
+    modules = streams, assembling, json_texts, folders, allocations, chain_snapshots, script, documents, tracing, stored
     checks = [it for module in modules for it in checks_of(module)]
     checks = [it for it in checks if not a.words or any(word in it[0] for word in a.words)]
     program = a.program and os.path.abspath(a.program)

@@ -28,14 +28,14 @@ def record(kind, body):
 
 
 def log_with(init, blocks, exts=None):
-    """The log of a store with these blocks, up to its end. Without `exts` each tells of no fee and no cell."""
+    """The log of a store with these blocks, up to its end. Without `exts` each has no fee and no cell."""
     bodies = [as_bytes(block) + ext for block, ext in zip(blocks, exts or [bytes(8)] * len(blocks))]
     return (b'CKBDEV01' + record(1, init[:100]) + record(2, init[100:])
             + b''.join(record(3, body) for body in bodies))
 
 
 def check_bytes_of_the_log(program):
-    """They are those of docs/STORE.md. What stands behind the end is not looked at."""
+    """They are those of docs/STORE.md. What stands after the end is not looked at."""
     chain = chain_of(9)
     with chain.store(program) as folder:
         must_be(log_of(folder), log_with(chain.init, []) + b'\0', 'a new log')
@@ -44,13 +44,13 @@ def check_bytes_of_the_log(program):
         whole = log_with(chain.init, chain.blocks[:4])
         must_be(log_of(folder), whole + b'\0', 'a log with four blocks')
         unfinished = record(3, bytes(700))
-        for behind in (b'\0' + unfinished, unfinished, unfinished[:-1], b'\1', b'\1\3', b'\2' * 9):
-            write(os.path.join(folder, 'log.bin'), whole + behind)
-            must_have_tip(program, folder, chain.tip(4), repr(behind[:9]))
+        for after in (b'\0' + unfinished, unfinished, unfinished[:-1], b'\1', b'\1\3', b'\2' * 9):
+            write(os.path.join(folder, 'log.bin'), whole + after)
+            must_have_tip(program, folder, chain.tip(4), repr(after[:9]))
         must_answer(Ran([program, folder, 'import'], b''.join(chain.blocks[3:])), 0,
-                    chain.known(4) + b''.join(chain.lines[4:]), 'import behind an unfinished record')
+                    chain.known(4) + b''.join(chain.lines[4:]), 'import after an unfinished record')
         must_be(log_of(folder), log_with(chain.init, chain.blocks) + b'\0', 'records that were put over old bytes')
-        must_have_tip(program, folder, chain.tip(9), 'behind all')
+        must_have_tip(program, folder, chain.tip(9), 'after all')
 
 
 def row(output, block, transaction):
@@ -114,7 +114,7 @@ def check_what_is_no_store(program):
         'a start alone': b'CKBDEV01',
         'a genesis first': b'CKBDEV01' + record(2, chain.init[100:]) + b'\0',
         'no genesis': b'CKBDEV01' + record(1, chain.init[:100]) + b'\0',
-        'a genesis with nothing behind it': log_with(chain.init, []),
+        'a genesis with nothing after it': log_with(chain.init, []),
         'a record of kind 4': whole + record(4, b'') + b'\0',
         'a block that is no block': whole + record(3, size_word(4) + size_word(4) + bytes(8)) + b'\0',
         'a block that is there twice': log_with(chain.init, [chain.blocks[0]] * 2) + b'\0',
@@ -200,7 +200,7 @@ def check_one_run_a_folder(program):
             else:
                 process.send_signal(number)
             must_be(status_of(process), 0 if number is None else -number, 'status')
-            must_have_tip(program, folder, chain.tip(2), 'behind the run that held the folder')
+            must_have_tip(program, folder, chain.tip(2), 'after the run that held the folder')
 
 
 # ---------------------------------------------------------- runs that are cut off
@@ -268,10 +268,10 @@ def check_memory_that_ends_on_the_way_to_another_branch(program):
         before = log_of(folder)
         must_answer(Ran([program, folder, 'import'], beside.item(), preexec_fn=limited_to(least + 1)), 6, b'', 'once more')
         must_be(log_of(folder), before, 'the log')
-        must_have_tip(program, folder, (first.tip(on_tip) + '\n').encode(), 'behind little memory')
+        must_have_tip(program, folder, (first.tip(on_tip) + '\n').encode(), 'after little memory')
         for output, live in asked:
             ran = Ran([program, folder, 'cell', '0x' + output[0].hash.hex(), str(output[1])])
-            must_be((ran.status, ran.out.startswith(b'live ')), (0, live), 'cell %d behind little memory' % output[1])
+            must_be((ran.status, ran.out.startswith(b'live ')), (0, live), 'cell %d after little memory' % output[1])
         must_answer(Ran([program, folder, 'import'], beside.item()), 0, (first.joined(beside) + '\n').encode(), 'with memory')
 
 
@@ -354,7 +354,7 @@ class Killed:
         must(not lines or lines[-1].endswith(b'\n'), 'a line is there in part')
         count = self.count
         for at, line in enumerate(lines, begin + 1):
-            must(line in self.wanted(at), 'block %d is answered %r behind %d that were' % (at, line, self.count))
+            must(line in self.wanted(at), 'block %d is answered %r after %d that were' % (at, line, self.count))
             count = max(count, at)
         self.count = count
 
@@ -363,7 +363,7 @@ class Killed:
         must_be(ran.status, 0, 'the status of tip')
         most = min(self.count + 1, len(self.chain.blocks))
         must(ran.out in (self.chain.tip(self.count), self.chain.tip(most)),
-             'the tip behind %d blocks is %r' % (self.count, ran.out))
+             'the tip after %d blocks is %r' % (self.count, ran.out))
 
 
     def must_go_on(self):

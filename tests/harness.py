@@ -227,7 +227,7 @@ class Chain:
         return b'known 0x%s\n' % self.kept[at][1].hex().encode()
 
     def tip(self, count):
-        """The line of the tip behind so many blocks."""
+        """The line of the tip after so many blocks."""
         return b'tip ' + self.named(max(range(count + 1), key=lambda at: (self.kept[at][0], -at)))
 
     def store(self, program):

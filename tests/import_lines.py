@@ -362,7 +362,7 @@ def has_form_of_cellbase(cellbase, height, branch):
 
 
 def first_broken(spec, branch, block):
-    """The first rule behind J3 that a block breaks on a branch, if one."""
+    """The first rule after J3 that a block breaks on a branch, if one."""
     header, transactions = block.header, block.transactions
     rule = broken_of_header(spec, branch, header) or broken_of_content(spec, block)
     if rule:
@@ -417,11 +417,11 @@ def records_of(log):
     """The kind and the body of each whole record."""
     at = 8
     while log[at:at + 1] == b'\1' and len(log) >= at + 6:
-        behind = at + 6 + number(log[at + 2:at + 6])
-        if behind >= len(log):
+        after = at + 6 + number(log[at + 2:at + 6])
+        if after >= len(log):
             break
-        yield log[at + 1], log[at + 6:behind]
-        at = behind
+        yield log[at + 1], log[at + 6:after]
+        at = after
 
 
 def is_ext(content):

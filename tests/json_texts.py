@@ -43,11 +43,11 @@ def must_come_back(program, block, what):
     must_answer(Ran([program, '/no/such/folder', 'unjson'], spread), 0, block, 'unjson of %s, spread' % what)
 
 
-def must_tell_branch(program, folder, branch, what):
-    """`json` tells each block of the best branch, and none above it."""
+def must_print_branch(program, folder, branch, what):
+    """`json` prints each block of the best branch, and none above it."""
     for height, block in enumerate(branch):
-        told = Ran([program, folder, 'json', str(height)])
-        must_answer(told, 0, line_of(block), '%s: json %d' % (what, height))
+        ran = Ran([program, folder, 'json', str(height)])
+        must_answer(ran, 0, line_of(block), '%s: json %d' % (what, height))
     for height in (len(branch), len(branch) + 1, MAX_NUMBER):
         must_answer(Ran([program, folder, 'json', str(height)]), 0, b'none\n', '%s: json %d' % (what, height))
 
@@ -55,7 +55,7 @@ def must_tell_branch(program, folder, branch, what):
 # ---------------------------------------------------------------------- checks
 
 def check_json_of_the_samples(program):
-    """Every block of examples/: the branches as `json` tells them, and those that do not join as texts alone."""
+    """Every block of examples/: the branches as `json` prints them, and those that do not join as texts alone."""
     chains = (
         ('the first chain', FIRST_INIT, FIRST_LINE, first.GENESIS.item(), first.first_blocks()),
         ('the chain with a contract', CONTRACT_INIT, CONTRACT_LINE, contract.GENESIS.item(), contract.contract_chain()),
@@ -63,10 +63,10 @@ def check_json_of_the_samples(program):
     for what, init, line, genesis, (items, tip) in chains:
         given, text = first.input_and_text(items)
         with new_store(program, init, line) as folder:
-            must_tell_branch(program, folder, [genesis], what + ' at its beginning')
+            must_print_branch(program, folder, [genesis], what + ' at its beginning')
             must_answer(Ran([program, folder, 'import'], given), 1, text, what)
             kept = [item for item, line in items if line.startswith('joined')]
-            must_tell_branch(program, folder, branch_of([genesis, *kept], hash_of(tip.item())), what)
+            must_print_branch(program, folder, branch_of([genesis, *kept], hash_of(tip.item())), what)
         must_come_back(program, genesis, what + ', its genesis')
         for item, line in items:
             if not line.endswith(' J1'):
@@ -83,7 +83,7 @@ def check_json_of_generated_chains(program):
             before, after = blocks[:count // 2], blocks[count // 2:]
             for part in (before, after):
                 must_be(Ran([program, folder, 'import'], b''.join(part)).status, 0, what)
-            must_tell_branch(program, folder, branch_of([genesis, *blocks], kept[tip][1]), what)
+            must_print_branch(program, folder, branch_of([genesis, *blocks], kept[tip][1]), what)
         for block in (genesis, *blocks):
             must_come_back(program, block, what)
 
@@ -95,7 +95,7 @@ def check_json_on_both_sides_of_a_reorganisation(program):
     with new_store(program) as folder:
         for block, branch in ((a1, (a1,)), (b1, (a1,)), (b2, (b1, b2))):
             must_answer(Ran([program, folder, 'import'], block.item()), 0, (first.joined(block) + '\n').encode(), 'import')
-            must_tell_branch(program, folder, [first.GENESIS.item(), *(it.item() for it in branch)], 'after a block')
+            must_print_branch(program, folder, [first.GENESIS.item(), *(it.item() for it in branch)], 'after a block')
 
 
 def changed_texts():

@@ -344,7 +344,7 @@ def check_script_takes_the_build_of_the_gate(_):
         it.must_run(b'the gate', 1, 'after the gate')
         it.must_run(b'the gate', 1, 'a second time after the gate')
         it.write('crates/low/src/lib.rt', LOW % 'changed')
-        it.must_run(b'one', 2, 'after a change behind the gate')
+        it.must_run(b'one', 2, 'after a change since the gate')
 
 
 # ------------------------------------------------------------ what is shown
@@ -393,7 +393,7 @@ def check_documents(_):
 
 
 def live_line(cell, height):
-    """What `cell` tells of a live cell without a type script, made at this height."""
+    """What `cell` prints of a live cell without a type script, made at this height."""
     return ('live %d %d %d 0x%s - 0x%s %d\n' % (cell.capacity, cell.occupied(), height, cell.lock.hash().hex(),
                                               data_hash(cell.content).hex(), len(cell.content))).encode()
 

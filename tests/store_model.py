@@ -65,7 +65,7 @@ class Chain:
         return found
 
     def tip(self, count):
-        """The place of the tip behind so many blocks: of the highest the first."""
+        """The place of the tip after so many blocks: of the highest the first."""
         return max(range(count + 1), key=lambda at: (self.numbers[at], -at))
 
     def line(self, word, place):
@@ -118,7 +118,7 @@ class Chain:
 
     @functools.lru_cache(maxsize=None)
     def snapshot(self, number, tip):
-        """The snapshot with a number, of the block at a place, behind its open gate."""
+        """The snapshot with a number, of the block at a place, after its open gate."""
         cells = self.live_cells(tip)
         return (b'\1' + uint(number, 4) + uint(tip, 4) + self.hashes[tip] + uint(len(cells), 8)
                 + b''.join(cells[it] for it in sorted(cells, key=in_order)))
@@ -134,8 +134,8 @@ class Chain:
 
     @functools.lru_cache(maxsize=None)
     def answers(self, count, other=0):
-        """Out-points that a wrong set of live cells would lack or have, with what `cell` prints of each behind so many
-        blocks: those that the newest blocks made, on the tip's branch and on that of the tip behind fewer blocks."""
+        """Out-points that a wrong set of live cells would lack or have, with what `cell` prints of each after so many
+        blocks: those that the newest blocks made, on the tip's branch and on that of the tip after fewer blocks."""
         points = [point for point, _ in self.events[self.tip(count)][0][1]]
         for place in dict.fromkeys((self.tip(count), count, self.tip(other or count))):
             coins = []

@@ -148,7 +148,7 @@ def check_statuses_of_init(program):
         ran = Ran([program, folder, 'init'], FIRST_INIT)
         must_answer(ran, 10, b'', 'init, where a store is')
         must_be(ran.read, 0, 'bytes read by init where a store is')
-        must_have_tip(program, folder, ('%s\n' % first.tip(first.GENESIS)).encode(), 'behind init')
+        must_have_tip(program, folder, ('%s\n' % first.tip(first.GENESIS)).encode(), 'after init')
     with new_folder() as folder:
         write(os.path.join(folder, 'log.bin'), b'\0')
         must_answer(Ran([program, folder, 'init'], FIRST_INIT), 10, b'', 'init, where a byte is')
@@ -284,7 +284,7 @@ def check_line_before_the_next_item(program):
 
 
 def check_out_of_memory(program):
-    """With too little memory for the blocks: whole lines of the text, and the status. What they tell is kept."""
+    """With too little memory for the blocks: whole lines of the text, and the status. What they name is kept."""
     chain = chain_of(34, block_bytes=597000)
     given, text = b''.join(chain.blocks), b''.join(chain.lines)
 
@@ -294,7 +294,7 @@ def check_out_of_memory(program):
     with chain.store(program) as folder:
         ran = Ran([program, folder, 'import'], given, preexec_fn=limit)
         must_be(ran.status, 6, 'status')
-        must(text.startswith(ran.out), 'what was written is not the front of the text')
+        must(text.startswith(ran.out), 'what was written is not a prefix of the text')
         must(ran.out.endswith(b'\n'), 'what was written does not end with a whole line')
         count = ran.out.count(b'\n')
         after = Ran([program, folder, 'import'], given)
@@ -324,7 +324,7 @@ def check_size_words(program):
 # ---------------------------------------------------------------------- check
 
 def tried_transactions():
-    """Transactions behind the chain with a contract, each with its status and its line."""
+    """Transactions after the chain with a contract, each with its status and its line."""
     fee_of_none = first.store.SHANNONS * 400 - 3000
     spends = [(contract.SPENDS_ON, 0)]
 
@@ -343,7 +343,7 @@ def tried_transactions():
     # what the output occupies, and a shannon less
     yield 0, paying(contract.ckb(41)).item, b'ok 35899997000 1052\n'
     yield refused(25, paying(contract.ckb(41) - 1))
-    # the block behind the tip has the number 13
+    # the block after the tip has the number 13
     yield 0, paying(fee_of_none, since=13).item, b'ok 0 1052\n'
     yield refused(24, paying(fee_of_none, since=14))
     yield refused(18, paying(fee_of_none, version=1))
@@ -386,9 +386,9 @@ def inputs_of_check():
     yield 'a byte too many', good + b'\0', 12, b'extra %d\n' % len(good)
     yield 'a second transaction', good + good, 12, b'extra %d\n' % len(good)
     # the end of the input is looked for before the transaction is judged
-    yield 'a byte behind what is no transaction', size_word(4) + b'\0', 12, b'extra 4\n'
+    yield 'a byte after what is no transaction', size_word(4) + b'\0', 12, b'extra 4\n'
     longest = size_word(ITEM_LIMIT) + bytes(ITEM_LIMIT - 4)
-    yield 'a byte behind the longest item', longest + b'\0', 12, b'extra %d\n' % ITEM_LIMIT
+    yield 'a byte after the longest item', longest + b'\0', 12, b'extra %d\n' % ITEM_LIMIT
 
 
 def check_statuses_of_check(program):
@@ -399,13 +399,13 @@ def check_statuses_of_check(program):
         for what, given, status, text in inputs_of_check():
             for piped in (False, True):
                 must_answer(Ran([program, folder, 'check'], given, piped), status, text, what)
-            must_be(log_of(folder), before, 'the log behind a check of %s' % what)
+            must_be(log_of(folder), before, 'the log after a check of %s' % what)
         must_be(sorted(os.listdir(folder)), ['log.bin', 'snap_a.bin', 'snap_b.bin'], 'what is in the folder')
-        must_have_tip(program, folder, (first.tip(tip) + '\n').encode(), 'behind all checks')
+        must_have_tip(program, folder, (first.tip(tip) + '\n').encode(), 'after all checks')
     good, _ = contract.transfer()
     # without the chain there is nothing that it could spend
     with new_store(program, CONTRACT_INIT, CONTRACT_LINE) as folder:
-        must_answer(Ran([program, folder, 'check'], good), 1, b'refused J20\n', 'behind the genesis')
+        must_answer(Ran([program, folder, 'check'], good), 1, b'refused J20\n', 'after the genesis')
     # it has the cycles of a whole block, and not one more
     for cycles, status, text in ((505, 0, b'ok 1000 505\n'), (504, 1, b'refused J30\n')):
         given = first.changed(contract.SPEC, max_cycles=cycles).item() + contract.GENESIS.item()
@@ -419,7 +419,7 @@ def check_statuses_of_check(program):
 
 
 def check_line_before_the_end(program):
-    """Who sends a byte too many need not end the input to be told so."""
+    """Who sends a byte too many need not end the input to be answered."""
     good, _ = contract.transfer()
     with contract_store(program) as folder, started([program, folder, 'check']) as process:
         process.stdin.write(good + b'\0')
@@ -448,7 +448,7 @@ def check_statuses_of_exec(program):
         for piped in (False, True):
             must_answer(Ran([program, '/no/such/folder', 'exec', budget], stdin, piped), status, wanted, what)
     ran = Ran([program, 'any', 'exec', '1'], bytes(1 << 21))
-    must(ran.read <= (1 << 20) + 1, 'more is read than a byte behind the longest file')
+    must(ran.read <= (1 << 20) + 1, 'more is read than a byte after the longest file')
 
 
 # each file of examples/scripts with its line; what it exits with is worked out from its source, and the cycles are those
@@ -580,7 +580,7 @@ def check_failing_input(program):
         line = (first.tip(first.GENESIS) + '\n').encode()
         closed = Ran(['sh', '-c', 'exec "$@" <&-', '', program, kept, 'tip'])
         must_answer(closed, 0, line, 'tip, which reads nothing')
-        must_have_tip(program, kept, line, 'behind runs without input')
+        must_have_tip(program, kept, line, 'after runs without input')
 
 
 def check_failing_output(program):
@@ -615,7 +615,7 @@ def check_failing_output(program):
             must_answer(closed, 3 if '<' in closes else 4, b'', 'check with ' + closes)
             must_answer(Ran([program, folder, 'import'], block), 0,
                         ((line if '<' in closes else line.replace('joined 1', 'known')) + '\n').encode(),
-                        'import behind one with ' + closes)
+                        'import after one with ' + closes)
 
 
 def check_full_output(program):

@@ -56,7 +56,7 @@ class Seen:
         return pid == self.root
 
     def what_of(self, pid, parents):
-        """The crate and the kind of work of a process, or of the nearest one above that tells it."""
+        """The crate and the kind of work of a process, or of the nearest one above that shows it."""
         while pid != self.root and pid in parents:
             try:
                 with open('/proc/%d/cmdline' % pid, 'rb') as f:

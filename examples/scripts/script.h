@@ -21,7 +21,7 @@ enum {
 
 struct registers { u64 a0, a1, a2, a3, a4, a5, a7; };
 
-/* ECALL: all registers that a syscall looks at, as they are before it and behind it. */
+/* ECALL: all registers that a syscall looks at, as they are before it and after it. */
 static inline void call(struct registers *r)
 {
     register u64 a0 __asm__("a0") = r->a0;

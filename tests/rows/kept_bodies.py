@@ -46,7 +46,7 @@ ROW = bytes(161)
 EXTS = [b'', ext([]), ext([5, 7]), ext([9], [ROW])]
 BODIES = [BLOCKS[0].item()] + [as_bytes(b.item()) + e for b, e in zip(BLOCKS[1:], EXTS[1:])]
 LOG = b'CKBDEV01' + record(1, SPEC.item())
-# where each body begins in LOG, behind the gate, the kind and the length of its record
+# where each body begins in LOG, after the gate, the kind and the length of its record
 PLACES = []
 for _kind, _body in zip((2, 3, 3, 3), BODIES):
     PLACES.append(len(LOG) + 6)
@@ -110,7 +110,7 @@ def damaged_bodies():
         emit('disk', '-')
         emit('prefix', size)
         brings(64, (0, 1, 2, 3, 0, 3), damaged=damaged)
-    print('# with all of the last body and no byte behind it')
+    print('# with all of the last body and no byte after it')
     emit('disk', '-')
     emit('prefix', PLACES[3] + len(BODIES[3]))
     brings(64, (0, 1, 2, 3))

@@ -238,7 +238,7 @@ def shared_fees():
     chain.joins(proposes=[a])
     chain.joins()
     chain.joins(proposes=[a, b])
-    # beside blocks 4 and never handed in: two uncles propose b, which block 3 proposed before
+    # beside blocks 4 and never imported: two uncles propose b, which block 3 proposed before
     uncles = [chain.block(proposes=[b], nonce=it) for it in (1, 2)]
     chain.joins(lock=LONG_LOCK)
     chain.joins(commits=[a], uncles=uncles, proposes=[c])

@@ -148,8 +148,8 @@ def fnv(content):
     return found
 
 
-def entry(call, registers, length, start, count, a0, length_behind, content):
-    checksum = fnv(uint(a0, 8) + uint((sum(registers[1:]) + call) % 2 ** 64, 8) + uint(length_behind, 8) + content)
+def entry(call, registers, length, start, count, a0, length_after, content):
+    checksum = fnv(uint(a0, 8) + uint((sum(registers[1:]) + call) % 2 ** 64, 8) + uint(length_after, 8) + content)
     assert len(content) == count
     numbers = [call, *registers, length, start, count]
     return b''.join(uint(number(it), 2) for it in numbers) + uint(checksum, 4)
@@ -394,7 +394,7 @@ def on_unknown(chain):
         one_check(chain, entry(2081, [at, at, 0, 0, 1, 4], 3, BUFFER, 2, 2, 3, b'\xa5' * 2))
     # debug output: a0 stays
     one_check(chain, entry(2177, [0x400000, 1, 2, 3, 4, 5], 3, BUFFER, 1, 0x400000, 3, b'\xa5'))
-    # the first call that differs is told
+    # the first call that differs is named
     for place in range(3):
         good, bad = (lambda items: loads(items, 2071, 0, 1)), untouched(2061, [BUFFER, LENGTH, 0, 0, 0, 0])
         scene = one_check(chain, good)
@@ -565,7 +565,7 @@ def on_groups(chain):
     def of(inputs, outputs=((ANYONE,),), deps=PROGRAMS):
         return of_cells(chain, inputs, outputs, deps)
 
-    # locks by their first inputs, then types by their first inputs and outputs: the group that fails is told
+    # locks by their first inputs, then types by their first inputs and outputs: the group that fails is named
     a, b, c = (by_data(EXIT, bytes([0, it])) for it in range(3))
     for place, fails in enumerate((a, b, c)):
         bad = by_data(EXIT, bytes([7 + place, place]))
@@ -608,7 +608,7 @@ def on_groups(chain):
 
 
 def on_first_failure(chain):
-    """Which group is told."""
+    """Which group is named."""
     def of(inputs, outputs=((ANYONE,),), deps=PROGRAMS):
         return of_cells(chain, inputs, outputs, deps)
 
@@ -751,7 +751,7 @@ def on_type_id_types(chain):
 
 
 def main():
-    # Blocks 2 and 3 both stand on block 1, and blocks 4 and 5 behind 3: places are not heights.
+    # Blocks 2 and 3 both stand on block 1, and blocks 4 and 5 after 3: places are not heights.
     parents = [0, 1, 1, 3, 4]
     chain = Chain(10, parents)
     for cases in (on_shown, on_witnesses, on_code_loads, on_large, on_contents, on_unknown, on_memory, on_code, on_codes, on_files,

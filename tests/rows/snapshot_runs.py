@@ -8,7 +8,7 @@ They stand there after those of branch_runs.py, over its branches. A snapshot is
 here, by docs/STORE.md ("A snapshot"): the live cells of a kept block's branch. Where each open
 one is that of a kept block, a run answers as a replay of the tip's branch from the genesis. Of
 two the one with the greater number is loaded, which a snapshot that lacks a cell shows. One that
-is none, behind an open gate, is damage. Nothing is taken from the program.
+is none, after an open gate, is damage. Nothing is taken from the program.
 """
 
 from common import emit
@@ -112,7 +112,7 @@ def main():
     begins(items, snapshot(kept, 5, kept[3]), snapshot(kept, 4, kept[1]))
     imports(chain.items[cuts[1]:])
     asks(chain.best[-1])
-    # behind an open gate something else, in the area that is loaded
+    # after an open gate something else, in the area that is loaded
     rows = rows_of(kept, tip)
     other = rows[0][:36] + uint(len(kept), 4) + rows[0][40:]
     for content in (right[:2], right[:4], right[:5], right[:48], right[:-1],

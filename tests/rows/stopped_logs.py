@@ -5,8 +5,8 @@
 
 They stand there after rows that no script here makes. A log of a genesis and three
 blocks is stopped at each record: before its first write, in it, between the two, and in
-the second, with what a crash may have left of what was not synced. Each is opened, told
-its tip, and given all three blocks again. The rows say by docs/STORE.md which blocks
+the second, with what a crash may have left of what was not synced. Each is opened, asked
+for its tip, and given all three blocks again. The rows say by docs/STORE.md which blocks
 each log has. They owe nothing to the program: the bytes of a log are put together here.
 """
 
@@ -64,10 +64,10 @@ def tails(n):
     yield 'a part of the record', b'\0' + half, False
     yield 'other bytes in its place', b'\0' + b'\xff' * len(whole), False
     yield 'open gates in its place', b'\0' + b'\1' * len(whole), False
-    yield 'the record behind a closed gate', b'\0' + whole + b'\0', False
-    yield 'behind a torn gate', b'\7' + whole + b'\0', False
-    yield 'the record behind an open gate', b'\1' + whole + b'\0', True
-    yield 'and other bytes behind it', b'\1' + whole + b'\0' + b'\1' * 40, True
+    yield 'the record after a closed gate', b'\0' + whole + b'\0', False
+    yield 'after a torn gate', b'\7' + whole + b'\0', False
+    yield 'the record after an open gate', b'\1' + whole + b'\0', True
+    yield 'and other bytes after it', b'\1' + whole + b'\0' + b'\1' * 40, True
     yield 'an open gate and nothing', b'\1', False
     yield 'an open gate before a part', b'\1' + half, False
     yield 'an open gate before a whole record and no byte', b'\1' + whole, False

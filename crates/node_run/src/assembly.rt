@@ -15,8 +15,9 @@ use crate::lines::{block_line, no_block_line, pool_line};
 use crate::output::Answer;
 use crate::store::status_of_reading;
 use mol_schema::CellbaseWitnessView;
-use node_core::{Assembled, Line, Node};
+use node_core::{Assembled, Node};
 use outside::{Disk, NoMemory};
+use pool_defs::Line;
 use report_defs::Status;
 use std::alloc::{AllocError, Global};
 

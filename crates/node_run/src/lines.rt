@@ -10,7 +10,7 @@ ghost use Rattle.node_run.specs.Queries.{row_line};
 
 use cell_model::CellMeta;
 use epochs::Epoch;
-use node_core::Line;
+use pool_defs::Line;
 use program_run::Execution;
 use report_defs::{Counts, End};
 use std::alloc::{AllocError, Global};
