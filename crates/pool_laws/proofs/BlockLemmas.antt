@@ -27,6 +27,7 @@ use Rattle.reward_defs.specs.Payment.{Owed, NoOutput, Pays, Unpayable, occupied_
 use Rattle.reward_defs.specs.Field.{next_dao}
 use Rattle.gen_laws.proofs.SizeLemmas.{Fits, hash-fits, low-bytes, append-bytes}
 use Rattle.pool_defs.specs.Start.{owed_outputs, cellbase_input, cellbase, zero_bytes, hash_of_parent, next_timestamp, header_after, dao_bytes, committed}
+use Rattle.pool_laws.proofs.ByteLemmas.{witness-bytes}
 use Rattle.pool_laws.proofs.NumberLemmas.{timestamp-fits, epoch-fits}
 
 -- ---- Parts of a table
@@ -144,12 +145,12 @@ raw-fits spec on w high short =
     (and_from _ _ (outputs-fit o (owed-after-fits spec on) (part-short (parts fields) 4 (encoded (dynvec cell_output) (owed_outputs o)) refl short))
     (and_from _ _ (contents-fit o (part-short (parts fields) 5 (encoded (dynvec bytes) (map (λ output. []) (owed_outputs o))) refl short)) refl))))))
 
-pub cellbase-fits : (spec : Specification) (on : List Block) (w : CellbaseWitness) (item : List ℕ) → length on < 2 ^ 64 → IsTrue (are_bytes item)
-    → decoded cellbase_witness item ≡ Some w → length (encoded transaction (cellbase spec on w)) < 2 ^ 32 → IsTrue (transaction.encoding (cellbase spec on w)).fits
+pub cellbase-fits : (spec : Specification) (on : List Block) (w : CellbaseWitness) → length on < 2 ^ 64 → IsTrue (cellbase_witness.encoding w).fits
+    → length (encoded transaction (cellbase spec on w)) < 2 ^ 32 → IsTrue (transaction.encoding (cellbase spec on w)).fits
 unfolding transaction cellbase
-cellbase-fits spec on w item high are is short =
+cellbase-fits spec on w high fits short =
     let content : List ℕ = encoded cellbase_witness w in
-    let content_are : IsTrue (are_bytes content) = subst (λ (l : List ℕ). IsTrue (are_bytes l)) (IsA-decoded cellbase_witness item w is).encoding are in
+    let content_are = witness-bytes w fits in
     let fields : List Encoding = raw_transaction.encoding (cellbase spec on w).raw ∷ (dynvec bytes).encoding (content ∷ []) ∷ [] in
     let witnesses_short = part-short (parts fields) 1 (encoded (dynvec bytes) (content ∷ [])) refl short in
     short-table fields short

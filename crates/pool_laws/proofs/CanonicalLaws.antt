@@ -97,7 +97,7 @@ unbroken-canonical chain witness items is = decoded-is block block-check (encode
     fits : IsTrue (block.encoding made).fits
     fits = block-fits made (cellbase chain.spec on witness) shape.later
         (header-fits chain.spec on all.block holds.header is.in_range.compact_target is.in_range.epoch_length high median) holds.uncles shape.transactions_are
-        (λ first_short. cellbase-fits chain.spec on witness is.bytes (omega (arith, high)) is.are_bytes_of is.witness_is first_short) shape.later_fit shape.ids_fit short
+        (λ first_short. cellbase-fits chain.spec on witness (omega (arith, high)) is.witness_fits first_short) shape.later_fit shape.ids_fit short
 
 pub unbroken-joined : UnbrokenIsJoined
 unbroken-joined chain witness items b is same =

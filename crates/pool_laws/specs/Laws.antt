@@ -1,6 +1,6 @@
 -- When a block that is assembled is canonical, and so joins (docs/RULES.md, "A block that is assembled").
 use Rattle.std.specs.Prelude.{◌≡◌, ℕ, ◌<◌, ◌^◌, List, length, Some, None, IsTrue}
-use Rattle.codec_defs.specs.Shape.{are_bytes, encoded, decoded}
+use Rattle.codec_defs.specs.Shape.{encoded, decoded}
 use Rattle.codec_defs.specs.Schema as shapes
 use Rattle.codec_defs.specs.Schema.{Block, CellbaseWitness}
 use Rattle.time_defs.specs.Specification.{keeps_s2}
@@ -17,14 +17,12 @@ pub record IsInRange (chain : Chain) : Type 0 where
   pub max_block_bytes : chain.spec.max_block_bytes < 2 ^ 32
   pub timestamps : (place : ℕ) (b : Block) → block_at chain.blocks place ≡ Some b → b.header.timestamp < 2 ^ 64
 
--- What is assembled over a chain with room, with a witness that bytes hold, breaks no rule.
+-- What is assembled over a chain with room, with a witness that has an encoding, breaks no rule.
 pub record IsUnbroken (chain : Chain) (witness : CellbaseWitness) (items : List (List ℕ)) : Type 0 where
   pub founded : IsFounded chain.blocks
   pub in_range : IsInRange chain
   pub room : length chain.blocks < kept_limit
-  pub bytes : List ℕ
-  pub are_bytes_of : IsTrue (are_bytes bytes)
-  pub witness_is : decoded shapes.cellbase_witness bytes ≡ Some witness
+  pub witness_fits : IsTrue (shapes.cellbase_witness.encoding witness).fits
   pub unbroken : (assembled chain witness items).broken ≡ None
 
 -- Law: then its bytes are a canonical `Block`.
