@@ -1,0 +1,5 @@
+pub mod NumberLemmas
+pub mod ByteLemmas
+pub mod ItemLemmas
+pub mod BlockLemmas
+pub mod CanonicalLaws

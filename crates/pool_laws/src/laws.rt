@@ -1,0 +1,9 @@
+// When a block that is assembled is canonical.
+ghost use Rattle.pool_laws.specs.Laws.{UnbrokenIsCanonical, UnbrokenIsJoined};
+
+/// States that a block which is assembled and breaks no rule is canonical, and that it joins, where the numbers of the chain
+/// are as bytes hold them. It does nothing.
+pub fn canonical_laws()
+    ensures unbroken_is_canonical { UnbrokenIsCanonical }
+    ensures unbroken_is_joined { UnbrokenIsJoined }
+{}
