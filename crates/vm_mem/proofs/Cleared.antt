@@ -5,8 +5,8 @@ use Rattle.std.proofs.Math.ListN.{drop_of_length-le}
 use Rattle.std.proofs.lemmas.Bool.Decides.{nat_tests}
 use Rattle.std.proofs.lemmas.List.{append-nil, drop-replicate, length-replicate, map-set, take-replicate}
 use Rattle.vm_defs.specs.Memory.{page_size, memory_size, overwritten}
-use Rattle.vm_mem.specs.Pages.{IsMarked, IsPage, whole, is_allocated, Pages, pages_of, written}
-use Rattle.vm_mem.proofs.Edited.{AreSound, length-overwritten, same-pages, through-same, whole-full, whole-zeros}
+use Rattle.vm_mem.specs.Pages.{IsMarked, whole, is_allocated, Pages, pages_of, written}
+use Rattle.vm_mem.proofs.Edited.{AreSound, length-overwritten, same-pages, through-same, whole-zeros}
 use Rattle.vm_defs.proofs.Overwritten.{overwritten-more}
 use Rattle.vm_mem.proofs.Paging.{write-concat}
 use Rattle.vm_mem.proofs.Placed.{below-wholes, page-at, page-below, place-is, wholes}
@@ -41,11 +41,7 @@ clear-more old now new at cleared size before after =
     (length-replicate {A = ℕ} cleared 0) (more ∙ ap (overwritten old.bytes at) (replicate-add {X = ℕ} cleared size 0)) in
     rw (after, before) (ap (λ b. record old { bytes = b }) joined)
 
--- a page that is dirty, and one that is not
-pub clear-dirty : (page new : List ℕ) (at count : ℕ) → length page ≡ page_size → at + count ≤ page_size
-    → new ≡ overwritten page at (replicate count 0) → whole new ≡ overwritten (whole page) at (replicate count 0)
-clear-dirty page new at count full h edit = rw (whole-full new (length-cleared page new at count full h edit), whole-full page full) edit
-
+-- a page that is not dirty
 pub clear-clean : (page : List ℕ) (at count : ℕ) → whole page ≡ replicate page_size 0 → at + count ≤ page_size
     → whole page ≡ overwritten (whole page) at (replicate count 0)
 clear-clean page at count zeros h = rw zeros (sym (zeros-over-zeros page_size at count h))
@@ -59,9 +55,6 @@ clear-marked page new at count false full h edit part =
     let start : at ≡ 0 = omega (arith, all, h) in
     let past : length page ≤ 0 + length (replicate {A = ℕ} page_size 0) = rw (length-replicate {A = ℕ} page_size 0, full) (omega arith) in
     whole-zeros new (edit ∙ rw (start, all, drop_of_length-le page {i = 0 + length (replicate {A = ℕ} page_size 0)} past) (append-nil (replicate page_size 0)))
-
-pub sized-is-page : (page new : List ℕ) → IsPage page → length new ≡ length page → IsPage new
-sized-is-page page new is same = rw same is
 
 -- a page among the others
 pub clear-pages : {X : Type 0} (f : X → List ℕ) (pages : List X) (page new : X) (at : ℕ) (bytes : List ℕ) (paged : Pages) → AreSound f pages

@@ -1,10 +1,9 @@
 -- A page that is made, or written, among the pages of memory.
 use Rattle.std.proofs.Common.{◌≡◌, ℕ, ◌+◌, ◌/◌, ◌%◌, ◌<◌, ◌≤◌, Bool, true, false, ◌==◌, List, [], ◌++◌, length, take, drop, set, replicate, get_or, map, ◌⊎◌, refl, sym, ◌∙◌, ap, subst, arith, inl, inr, length-set}
-use Rattle.std.proofs.Math.Bool.{not}
 use Rattle.std.specs.List.{concat, All}
 use Rattle.std.proofs.lemmas.List.{get_or-map, length-map, map-set, set-get_or, get_or-set_same, get_or-set_other, length-append, length-take-le, length-drop}
 use Rattle.std.proofs.lemmas.List.Elements.{All-set}
-use Rattle.std.proofs.lemmas.Bool.{false≢true, cases_eq}
+use Rattle.std.proofs.lemmas.Bool.{cases_eq}
 use Rattle.vm_defs.specs.Memory.{page_size, page_count, memory_size, overwritten}
 use Rattle.vm_mem.specs.Pages.{IsPage, IsAllocated, IsMarked, whole, is_allocated, Pages, pages_of, written}
 use Rattle.vm_mem.proofs.Paging.{write-concat}
@@ -40,15 +39,6 @@ pub marked : {X : Type 0} (f : X → List ℕ) (d : X → Bool) (pages : List X)
     → IsMarked (d new) (f new) → All (λ page. IsMarked (d page) (f page)) (set pages i new)
 marked f d pages new i all is = All-set (λ page. IsMarked (d page) (f page)) pages i new is all
 
-pub zeros-are-marked : (dirty : Bool) (page : List ℕ) → dirty ≡ false → page ≡ replicate page_size 0 → IsMarked dirty page
-zeros-are-marked dirty page clean is = rw clean (whole-zeros page is)
-
-pub full-is-marked : (dirty : Bool) (page : List ℕ) → dirty ≡ true → length page ≡ page_size → IsMarked dirty page
-full-is-marked dirty page is full = rw is full
-
-pub zeros-are-page : (page : List ℕ) → page ≡ replicate page_size 0 → IsPage page
-zeros-are-page page is = inr (rw is refl)
-
 -- a page is allocated
 pub make-bytes : {X : Type 0} (f : X → List ℕ) (pages : List X) (page new : X) (i : ℕ) → page ≡ get_or pages i page → i < length pages
     → true ≡ (length (f page) == 0) → f new ≡ replicate page_size 0
@@ -61,25 +51,6 @@ pub make-made : {X : Type 0} (f : X → List ℕ) (pages : List X) (new : X) (i 
 make-made f pages new i zeros =
     let allocated : is_allocated (f new) ≡ true = rw zeros refl in
     rw (map-set f pages i new, map-set is_allocated (map f pages) i (f new), allocated) refl
-
--- and a page that was allocated stays as it is
-is_made-full : (page : List ℕ) → false ≡ (length page == 0) → is_allocated page ≡ true
-is_made-full page h = grind arith
-
-is_made-empty : (page : List ℕ) → true ≡ (length page == 0) → is_allocated page ≡ false
-is_made-empty page h = grind arith
-
-pub full-is-made : {X : Type 0} (f : X → List ℕ) (pages : List X) (page : X) (i : ℕ) → page ≡ get_or pages i page → i < length pages
-    → false ≡ (length (f page) == 0) → IsAllocated (map is_allocated (map f pages)) i
-full-is-made f pages page i is h full = through f is_allocated pages page i false is h ∙ is_made-full (f page) full
-
-pub made-is : {X : Type 0} (f : X → List ℕ) (pages : List X) (page : X) (i : ℕ) (empty : Bool) → page ≡ get_or pages i page → i < length pages
-    → empty ≡ (length (f page) == 0) → not empty ≡ get_or (map is_allocated (map f pages)) i false
-made-is f pages page i empty is h =
-    elim empty as (λ e. e ≡ (length (f page) == 0) → not e ≡ get_or (map is_allocated (map f pages)) i false) [
-      | true ↦ λ none. sym (through f is_allocated pages page i false is h ∙ is_made-empty (f page) none)
-      | false ↦ λ some. sym (through f is_allocated pages page i false is h ∙ is_made-full (f page) some)
-    ]
 
 pub make-is-made : {X : Type 0} (f : X → List ℕ) (pages : List X) (new : X) (i : ℕ) → i < length pages → f new ≡ replicate page_size 0
     → IsAllocated (map is_allocated (map f (set pages i new))) i
@@ -103,26 +74,6 @@ make-only f pages new i zeros other allocated =
       | inr apart ↦ inl (sym (ap (λ m. get_or m other false) (make-made f pages new i zeros)
           ∙ get_or-set_other (map is_allocated (map f pages)) i other true false apart) ∙ allocated)
     ]
-
-pub empty-not-made : {X : Type 0} (f : X → List ℕ) (pages : List X) (page : X) (i : ℕ) → page ≡ get_or pages i page → i < length pages
-    → true ≡ (length (f page) == 0) → IsAllocated (map is_allocated (map f pages)) i → ⊥
-empty-not-made f pages page i is h empty allocated =
-    false≢true (sym (is_made-empty (f page) empty) ∙ sym (through f is_allocated pages page i false is h) ∙ allocated)
-
-pub made-full : {X : Type 0} (f : X → List ℕ) (pages : List X) (page : X) (i : ℕ) → AreSound f pages → page ≡ get_or pages i page → i < length pages
-    → IsAllocated (map is_allocated (map f pages)) i → length (f page) ≡ page_size
-made-full f pages page i all is h allocated =
-    let it : is_allocated (f page) ≡ true = sym (through f is_allocated pages page i false is h) ∙ allocated in
-    let sized : IsPage (f (get_or pages i page)) = all.1 i page h in
-    let sized' : IsPage (f page) = subst (λ p. IsPage (f p)) (sym is) sized in
-    elim sized' [ inl none ↦ absurd (false≢true (sym (rw none refl) ∙ it)) | inr full ↦ full ]
-
-pub page-full : {X : Type 0} (f : X → List ℕ) (pages : List X) (page : X) (at : ℕ) (paged : Pages) → AreSound f pages
-    → page ≡ get_or pages (at / page_size) page → at < memory_size → pages_of (map f pages) ≡ paged → IsAllocated paged.allocated (at / page_size)
-    → length (f page) ≡ page_size
-page-full f pages page at paged all is h view allocated =
-    let allocated' = subst (λ p. IsAllocated p.allocated (at / page_size)) (sym view) allocated in
-    made-full f pages page (at / page_size) all is (page-below at (length pages) all.0 h) allocated'
 
 -- a page is written
 pub length-overwritten : (page : List ℕ) (o : ℕ) (bytes : List ℕ) → o + length bytes ≤ length page → length (overwritten page o bytes) ≡ length page

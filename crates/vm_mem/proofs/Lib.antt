@@ -11,3 +11,5 @@ pub mod Short
 pub mod Slotted
 pub mod StoreLaws
 pub mod LowBytes
+pub mod Ranges
+pub mod Starts

@@ -1,10 +1,8 @@
 -- Pages that were never stored to.
-use Rattle.std.proofs.Common.{◌≡◌, ℕ, zero, suc, ◌+◌, ◌*◌, ◌<◌, ◌≤◌, Bool, false, List, [], ◌∷◌, ◌++◌, length, replicate, get_or, map, refl, sym, ◌∙◌, ap, arith, inl}
+use Rattle.std.proofs.Common.{◌≡◌, ℕ, zero, suc, ◌+◌, ◌*◌, ◌≤◌, false, List, [], ◌++◌, replicate, map, refl, arith}
 use Rattle.std.specs.List.{concat}
-use Rattle.std.proofs.lemmas.List.{length-map, length-replicate, get_or-map, get_or-replicate, map-append}
 use Rattle.vm_defs.specs.Memory.{page_size, page_count, memory_size}
-use Rattle.vm_mem.specs.Pages.{IsMarked, whole, is_allocated}
-use Rattle.vm_mem.proofs.Edited.{AreSound}
+use Rattle.vm_mem.specs.Pages.{whole, is_allocated}
 use Rattle.vm_mem.proofs.Wholes.{whole-empty}
 
 pub replicate-add : {X : Type 0} (m n : ℕ) (x : X) → replicate m x ++ replicate n x ≡ replicate (m + n) x
@@ -13,27 +11,8 @@ replicate-add (suc m) n x =
     let e : suc m + n ≡ suc (m + n) = omega arith in
     rw (e, ← replicate-add m n x) refl
 
-pub one-more : {X : Type 0} (f : X → List ℕ) (pages : List X) (page : X) (n : ℕ) → map f pages ≡ replicate n [] → f page ≡ []
-    → map f (pages ++ page ∷ []) ≡ replicate (n + 1) []
-one-more f pages page n is empty =
-    rw (map-append f pages (page ∷ []), is, empty) (replicate-add n 1 [])
-
-all-empty : {X : Type 0} (f : X → List ℕ) (pages : List X) (n k : ℕ) (d : X) → map f pages ≡ replicate n [] → k < length pages → f (get_or pages k d) ≡ []
-all-empty f pages n k d is h =
-    let size : length pages ≡ n = sym (length-map pages f) ∙ ap length is ∙ length-replicate n [] in
-    sym (get_or-map f pages k d [] h) ∙ ap (λ xs. get_or xs k []) is ∙ get_or-replicate n k [] [] (rw (← size) h)
-
-pub new-sound : {X : Type 0} (f : X → List ℕ) (pages : List X) → map f pages ≡ replicate page_count [] → AreSound f pages
-new-sound f pages is = (
-  sym (length-map pages f) ∙ ap length is ∙ length-replicate page_count [],
-  λ k d h. inl (ap length (all-empty f pages page_count k d is h)),
-)
-
 whole-nil : whole [] ≡ replicate page_size 0
 whole-nil = whole-empty [] refl
-
-pub nothing-is-marked : (dirty : Bool) (page : List ℕ) → dirty ≡ false → page ≡ [] → IsMarked dirty page
-nothing-is-marked dirty page clean none = rw (clean, none) whole-nil
 
 zero-pages : (w : List ℕ → List ℕ) (n k : ℕ) → w [] ≡ replicate n 0 → concat (map w (replicate k [])) ≡ replicate (n * k) 0
 zero-pages w n zero is = let e : n * zero ≡ zero = omega arith in rw e refl

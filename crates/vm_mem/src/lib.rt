@@ -9,10 +9,10 @@
 //! the start, is left to the layers above.
 #![tactic(auto)]
 
+mod buffer;
 mod kept;
 mod laws;
 mod memory;
-mod page;
 mod paged;
 mod pages;
 mod slot;

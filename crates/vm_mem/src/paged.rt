@@ -18,7 +18,6 @@ const PAGE: u64 = vm_defs::PAGE_SIZE;
 /// 4,194,304 bytes in 1,024 pages, each of data or of code.
 #[derive(Drop)]
 pub(crate) struct Paged {
-    alloc: Global,
     pages: Pages,
     kinds: Vec<PageKind>,
 }
@@ -44,11 +43,7 @@ impl Paged {
     {
         let pages = Pages::new(alloc)?;
         let kinds = vec![in alloc; PageKind::Data; PAGE_COUNT]?;
-        Ok(Paged {
-            alloc,
-            pages,
-            kinds,
-        })
+        Ok(Paged { pages, kinds })
     }
 
     /// The number at an address, of the lowest byte first. A page of code may be read.
@@ -108,7 +103,7 @@ impl Paged {
         if self.has_code(at, bytes.len()) {
             return Err(MemStop::Fault(MemFault::WriteCode));
         }
-        if self.pages.allocate(self.alloc, at, bytes.len()).is_err() {
+        if self.pages.allocate(at, bytes.len()).is_err() {
             return Err(MemStop::NoMemory);
         }
         self.pages.write(at, bytes);

@@ -3,8 +3,7 @@ ghost use Rattle.std.specs.Prelude.{◌≡◌, ℕ, ◌+◌, ◌*◌, ◌/◌, �
 ghost use Rattle.vm_defs.specs.Memory.{number_of, memory_size, page_size, page_count};
 ghost use Rattle.vm_mem.specs.Pages.{AreAllocated, IsAllocated, IsUnder, written};
 
-use super::page;
-use super::page::Page;
+use super::buffer;
 use outside::NoMemory;
 use std::alloc::Global;
 use std::marker::Model;
@@ -16,21 +15,23 @@ pub(crate) const PAGE_COUNT: usize = vm_defs::PAGE_COUNT as usize;
 /// All bytes of memory, and which pages are allocated.
 #[derive(Drop)]
 pub(crate) struct Pages {
-    pages: Vec<Page>,
+    // The zeros of each page that is not allocated, and after them the bytes of those that are, in the order in which they were.
+    bytes: Vec<u8>,
+    // Where the bytes of each page begin: at 0 if it is not allocated.
+    starts: Vec<usize>,
+    // Whether a page's bytes may be other than zero.
+    dirty: Vec<bool>,
 }
 
 impl Model for Pages {
-    ghost use Rattle.std.specs.Prelude.{◌≡◌, length, map};
-    ghost use Rattle.std.specs.List.{All};
-    ghost use Rattle.vm_defs.specs.Memory.{page_count};
+    ghost use Rattle.std.specs.Prelude.{map};
     ghost use Rattle.vm_mem.specs.Pages as spec;
 
     ghost Value = { spec.Pages };
 
-    ghost view = { λ p. spec.pages_of (map (λ page. page.bytes.items) p.pages.items) };
+    ghost view = { λ p. spec.pages_of (map (spec.page_at p.bytes.items) p.starts.items) };
 
-    ghost invariant = { λ p. ((length p.pages.items ≡ page_count) × All (λ page. spec.IsPage page.bytes.items) p.pages.items)
-        × All (λ page. spec.IsMarked page.is_dirty page.bytes.items) p.pages.items };
+    ghost invariant = { λ p. spec.ArePlaced p.bytes.items p.starts.items p.dirty.items };
 }
 
 impl Pages {
@@ -40,11 +41,14 @@ impl Pages {
         ensures bytes { IfOk result (λ pages. pages.bytes ≡ replicate memory_size 0) }
         ensures allocated { IfOk result (λ pages. pages.allocated ≡ replicate page_count false) }
     {
-        let mut pages = Vec::with_capacity(alloc, PAGE_COUNT)?;
-        for _ in 0..PAGE_COUNT {
-            pages.push(Page::new(alloc))?;
-        }
-        Ok(Pages { pages })
+        let bytes = vec![in alloc; 0u8; PAGE_SIZE]?;
+        let starts = vec![in alloc; 0usize; PAGE_COUNT]?;
+        let dirty = vec![in alloc; false; PAGE_COUNT]?;
+        Ok(Pages {
+            bytes,
+            starts,
+            dirty,
+        })
     }
 
     #[tactic(auto, unfolding(vm_defs::specs::Memory::memory_size, vm_defs::specs::Memory::page_count))]
@@ -53,7 +57,7 @@ impl Pages {
         requires { at + 1 ≤ memory_size }
         ensures { result ≡ number_of (slice_range self.now.bytes at (at + 1)) }
     {
-        page::read_u8(&self.pages[at / PAGE_SIZE].bytes, at % PAGE_SIZE)
+        buffer::read_u8(&self.bytes, self.starts[at / PAGE_SIZE] + at % PAGE_SIZE)
     }
 
     #[tactic(auto, unfolding(vm_defs::specs::Memory::memory_size, vm_defs::specs::Memory::page_count))]
@@ -65,7 +69,7 @@ impl Pages {
         if at % PAGE_SIZE > PAGE_SIZE - 2 {
             return self.read_u16_over_pages(at);
         }
-        page::read_u16(&self.pages[at / PAGE_SIZE].bytes, at % PAGE_SIZE)
+        buffer::read_u16(&self.bytes, self.starts[at / PAGE_SIZE] + at % PAGE_SIZE)
     }
 
     // A number over two pages is rare, and stays out of the code that reads one.
@@ -89,7 +93,7 @@ impl Pages {
         if at % PAGE_SIZE > PAGE_SIZE - 4 {
             return self.read_u32_over_pages(at);
         }
-        page::read_u32(&self.pages[at / PAGE_SIZE].bytes, at % PAGE_SIZE)
+        buffer::read_u32(&self.bytes, self.starts[at / PAGE_SIZE] + at % PAGE_SIZE)
     }
 
     // As for two bytes.
@@ -113,7 +117,7 @@ impl Pages {
         if at % PAGE_SIZE > PAGE_SIZE - 8 {
             return self.read_u64_over_pages(at);
         }
-        page::read_u64(&self.pages[at / PAGE_SIZE].bytes, at % PAGE_SIZE)
+        buffer::read_u64(&self.bytes, self.starts[at / PAGE_SIZE] + at % PAGE_SIZE)
     }
 
     // As for two bytes.
@@ -134,13 +138,13 @@ impl Pages {
         requires { page < page_count }
         ensures { result ≡ slice_index_or self.now.allocated page false }
     {
-        !self.pages[page].bytes.is_empty()
+        self.starts[page] != 0
     }
 
     // Allocates one page, if it is not.
     #[tactic(auto, unfolding(vm_defs::specs::Memory::memory_size, vm_defs::specs::Memory::page_count))]
     #[inline]
-    fn allocate_page(&mut self, alloc: Global, page: usize) -> Result<(), NoMemory>
+    fn allocate_page(&mut self, page: usize) -> Result<(), NoMemory>
         requires { page < page_count }
         ensures bytes { self.new.bytes ≡ self.old.bytes }
         ensures allocated { OnOk result (IsAllocated self.new.allocated page) }
@@ -148,8 +152,10 @@ impl Pages {
         ensures pages_added { (other : ℕ) → IsAllocated self.new.allocated other → IsAllocated self.old.allocated other ⊎ (other ≡ page) }
         ensures needs_no_memory { IsAllocated self.old.allocated page → IsOk result }
     {
-        if self.pages[page].bytes.is_empty() {
-            self.pages[page] = Page::zeros(alloc)?;
+        if self.starts[page] == 0 {
+            let start = self.bytes.len();
+            self.bytes.resize(start + PAGE_SIZE, 0)?;
+            self.starts[page] = start;
         }
         Ok(())
     }
@@ -157,12 +163,7 @@ impl Pages {
     /// Allocates the pages of a range of bytes that are not.
     #[tactic(auto, unfolding(vm_defs::specs::Memory::memory_size, vm_defs::specs::Memory::page_count))]
     #[inline]
-    pub(crate) fn allocate(
-        &mut self,
-        alloc: Global,
-        at: usize,
-        count: usize,
-    ) -> Result<(), NoMemory>
+    pub(crate) fn allocate(&mut self, at: usize, count: usize) -> Result<(), NoMemory>
         requires { at + count ≤ memory_size }
         ensures bytes { self.new.bytes ≡ self.old.bytes }
         ensures allocated { OnOk result (AreAllocated self.new.allocated at count) }
@@ -176,7 +177,7 @@ impl Pages {
         let first = at / PAGE_SIZE;
         let last = (at + count - 1) / PAGE_SIZE;
         for page in first..last + 1 {
-            self.allocate_page(alloc, page)?;
+            self.allocate_page(page)?;
         }
         Ok(())
     }
@@ -190,7 +191,10 @@ impl Pages {
         requires within { at % page_size + length bytes.now ≤ page_size }
         ensures { self.new ≡ written self.old at bytes.now }
     {
-        self.pages[at / PAGE_SIZE].write(at % PAGE_SIZE, bytes);
+        let page = at / PAGE_SIZE;
+        let place = self.starts[page] + at % PAGE_SIZE;
+        buffer::overwrite(&mut self.bytes, place, bytes);
+        self.dirty[page] = true;
     }
 
     /// Writes bytes to pages that are allocated.
@@ -210,7 +214,7 @@ impl Pages {
         }
     }
 
-    // Makes bytes within one page zero.
+    // Makes bytes within one page zero. A page that is not dirty has no other, and one is clean after it was cleared whole.
     #[tactic(auto, unfolding(vm_defs::specs::Memory::memory_size, vm_defs::specs::Memory::page_count))]
     #[inline]
     fn clear_page(&mut self, at: usize, count: usize)
@@ -218,7 +222,12 @@ impl Pages {
         requires within { at % page_size + count ≤ page_size }
         ensures { self.new ≡ written self.old at (replicate count 0) }
     {
-        self.pages[at / PAGE_SIZE].clear(at % PAGE_SIZE, count);
+        let page = at / PAGE_SIZE;
+        if self.dirty[page] {
+            let place = self.starts[page] + at % PAGE_SIZE;
+            buffer::overwrite_with_zeros(&mut self.bytes, place, count);
+            self.dirty[page] = count < PAGE_SIZE;
+        }
     }
 
     /// Makes bytes zero, and takes no memory. The cost is that of the dirty pages, and one look at each other page.

@@ -1,9 +1,9 @@
-use Rattle.std.proofs.Common.{sym, rules}
+use Rattle.std.proofs.Common.{rules}
 use Rattle.vm_defs.specs.Memory.{memory_size}
-use Rattle.vm_mem.proofs.Placed.{number-page}
+use Rattle.vm_mem.proofs.Starts.{number-at}
 use Rattle.vm_mem.proofs.pages.Pages.read_u16.Goals as goal
 
 pub returns : goal.returns
 unfolding memory_size
-returns c = rw (← c.self.view_is, c.read_u16.ensures, c.deref.ensures.value)
-    (sym (number-page (λ page. page.bytes.items) c.self.inside.pages.items c.index.result.now c.args.at 2 c.self.invariant.0 c.index.ensures (search rules) (search rules)))
+returns c = rw (c.read_u16.ensures, c.deref.ensures.value)
+    (number-at c.self.inside.bytes.items c.self.inside.starts.items c.self.inside.dirty.items c.args.at c.index.result.now 2 c.args.self.now c.self.invariant c.index.ensures (search rules) (search rules) c.self.view_is)
