@@ -1,0 +1,90 @@
+-- What is assembled after the tip.
+use Rattle.std.proofs.Common.{◌≡◌, ℕ, ◌<◌, Bool, true, false, cond, List, [], length, Option, Some, None, refl, sym, ap, ◌∙◌, subst, arith}
+use Rattle.std.specs.Prelude.{IsTrue, is_some, ◌==◌}
+use Rattle.std.specs.List.{list_any}
+use Rattle.codec_defs.specs.Shape.{IsA, encoded}
+use Rattle.codec_defs.specs.Schema as schema
+use Rattle.codec_defs.specs.Schema.{Block, CellbaseWitness}
+use Rattle.codec_defs.proofs.RowLaws.{block-check}
+use Rattle.codec_defs.proofs.ShapeLaws.{decoded-is}
+use Rattle.time_defs.specs.Specification.{Specification}
+use Rattle.chain_defs.specs.Kept.{block_hash, place_of, kept_limit}
+use Rattle.chain_defs.specs.Branch.{branch}
+use Rattle.chain_defs.specs.Tip.{tip_place, best_branch}
+use Rattle.chain_tree.specs.declared.entry.Entry.{Entry}
+use Rattle.chain_tree.specs.Blocks.{IndexesBlocks}
+use Rattle.chain_tree.proofs.BlockLemmas.{len-same}
+use Rattle.block_defs.specs.Rules.{first_broken}
+use Rattle.verdict_defs.specs.Chain.{Chain, verdict_over}
+use Rattle.verdict_defs.specs.declared.verdict.Verdict.TheVariants.{Joined}
+use Rattle.pool_defs.specs.Start.{sealed}
+use Rattle.pool_defs.specs.Assembly as pool
+use Rattle.pool_defs.specs.Laws.{IsFounded, breakable}
+use Rattle.pool_defs.specs.declared.line.Line.{Line}
+use Rattle.pool_defs.proofs.JoiningLaws.{breaks-few, unbroken-joins}
+use Rattle.tx_pool.specs.Assembling.{IsAssembled, IsMade, chain_on}
+use Rattle.tx_pool.specs.declared.assembling.Assembled.{Assembled}
+
+-- what kept blocks are founded on that a tree indexes
+pub founded : (kept : List Block) (entries : List Entry) (parent : ℕ) → IndexesBlocks kept entries → parent < length entries → IsFounded kept
+founded kept entries parent indexes within =
+    let long = len-same kept entries indexes in
+    record { is_kept = indexes.is_kept; some = omega (arith, long, within); genesis = indexes.genesis }
+
+-- over kept blocks, after a branch of them
+abbrev assembled_on : Specification → List Block → List Block → CellbaseWitness → List (List ℕ) → pool.Assembled
+assembled_on spec kept on witness items = record {
+  lines = (pool.assembly spec on witness items).lines;
+  block = sealed spec on (pool.assembly spec on witness items).block;
+  broken = cond (is_some (place_of kept (block_hash (sealed spec on (pool.assembly spec on witness items).block)))) (Some 2)
+      (first_broken spec on (sealed spec on (pool.assembly spec on witness items).block));
+}
+
+best-is : (kept : List Block) (parent : ℕ) → tip_place kept ≡ Some parent → best_branch kept ≡ branch kept parent
+best-is kept parent top = ap (λ (place : Option ℕ). elim place [ None ↦ [] | Some it ↦ branch kept it ]) top
+
+pub assembled-is : (spec : Specification) (kept : List Block) (parent : ℕ) (witness : CellbaseWitness) (items : List (List ℕ)) → tip_place kept ≡ Some parent
+    → pool.assembled (chain_on spec kept) witness items ≡ assembled_on spec kept (branch kept parent) witness items
+unfolding pool.assembled
+assembled-is spec kept parent witness items top = ap (λ (on : List Block). assembled_on spec kept on witness items) (best-is kept parent top)
+
+-- ---- An answer
+
+module _ (spec : Specification) (kept : List Block) (parent : ℕ) (witness : CellbaseWitness) (items : List (List ℕ)) (top : tip_place kept ≡ Some parent)
+    (answer : Assembled)
+    (made : IsMade spec (branch kept parent) (pool.assembly spec (branch kept parent) witness items) answer.lines.items answer.block.items)
+    (broken : (b : Block) → IsA schema.block answer.block.items b
+    → answer.broken ≡ cond (is_some (place_of kept (block_hash b))) (Some 2) (first_broken spec (branch kept parent) b)) where
+  all : pool.Assembled
+  all = pool.assembled (chain_on spec kept) witness items
+
+  is : all ≡ assembled_on spec kept (branch kept parent) witness items
+  is = assembled-is spec kept parent witness items top
+
+  block-is : all.block ≡ sealed spec (branch kept parent) (pool.assembly spec (branch kept parent) witness items).block
+  block-is = ap (λ (it : pool.Assembled). it.block) is
+
+  broken-is : answer.broken ≡ all.broken
+  broken-is =
+      broken (sealed spec (branch kept parent) (pool.assembly spec (branch kept parent) witness items).block) made.block_is
+      ∙ sym (ap (λ (it : pool.Assembled). it.broken) is)
+
+  pub answer-is : IsAssembled all answer
+  answer-is = record {
+    lines_are = made.lines_are ∙ sym (ap (λ (it : pool.Assembled). it.lines) is);
+    block_is = made.block_is.encoding ∙ ap (encoded schema.block) (sym block-is);
+    broken_is = broken-is;
+  }
+
+  pub answer-joins : (b : Block) → b ≡ all.block → IsFounded kept → length kept < kept_limit → answer.broken ≡ None
+      → verdict_over (chain_on spec kept) answer.block.items ≡ Joined b.header.number (block_hash b)
+  answer-joins b same begins room unbroken =
+      let bytes_are : answer.block.items ≡ encoded schema.block b = answer-is.block_is ∙ ap (encoded schema.block) (sym same) in
+      let its : IsA schema.block answer.block.items b =
+      subst (λ (it : Block). IsA schema.block answer.block.items it) (sym (same ∙ block-is)) made.block_is in
+      let own : IsA schema.block (encoded schema.block b) b = record { fits = its.fits; encoding = refl } in
+      ap (verdict_over (chain_on spec kept)) bytes_are
+      ∙ unbroken-joins (chain_on spec kept) witness items b begins (sym same) (sym broken-is ∙ unbroken) (decoded-is schema.block block-check (encoded schema.block b) b own) room
+
+  pub answer-breaks : (rule : ℕ) → IsFounded kept → answer.broken ≡ Some rule → IsTrue (list_any (λ other. other == rule) breakable)
+  answer-breaks rule begins broke = breaks-few (chain_on spec kept) witness items rule begins (sym broken-is ∙ broke)

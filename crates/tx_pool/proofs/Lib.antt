@@ -1,0 +1,4 @@
+pub mod GrownLemmas
+pub mod DraftLemmas
+pub mod SightLemmas
+pub mod AssemblingLemmas

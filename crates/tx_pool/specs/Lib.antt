@@ -1,0 +1,3 @@
+pub mod Assembling
+pub mod Draft
+pub mod Sealing
