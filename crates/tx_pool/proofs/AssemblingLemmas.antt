@@ -19,11 +19,24 @@ use Rattle.verdict_defs.specs.Chain.{Chain, verdict_over}
 use Rattle.verdict_defs.specs.declared.verdict.Verdict.TheVariants.{Joined}
 use Rattle.pool_defs.specs.Start.{sealed}
 use Rattle.pool_defs.specs.Assembly as pool
+use Rattle.pool_defs.specs.Assembly.{assembled}
 use Rattle.pool_defs.specs.Laws.{IsFounded, breakable}
 use Rattle.pool_defs.specs.declared.line.Line.{Line}
 use Rattle.pool_defs.proofs.JoiningLaws.{breaks-few, unbroken-joins}
 use Rattle.tx_pool.specs.Assembling.{IsAssembled, IsMade, chain_on}
 use Rattle.tx_pool.specs.declared.assembling.Assembled.{Assembled}
+
+-- whether a block is kept, by its hash
+pub known-as : (kept : List Block) (b : Block) (hash : List ℕ) (found : Option ℕ) (test : Bool) → found ≡ place_of kept hash → hash ≡ block_hash b → is_some found ≡ test
+    → is_some (place_of kept (block_hash b)) ≡ test
+known-as kept b hash found test is same answered = ap (λ (h : List ℕ). is_some (place_of kept h)) (sym same) ∙ ap is_some (sym is) ∙ answered
+
+-- J2 is broken by it, or what comes after that
+pub breaks-2 : (known : Bool) (later : Option ℕ) → known ≡ true → Some 2 ≡ cond known (Some 2) later
+breaks-2 known later is = sym (ap (λ (test : Bool). cond test (Some 2) later) is)
+
+pub after-2 : (known : Bool) (later answer : Option ℕ) → known ≡ false → answer ≡ later → answer ≡ cond known (Some 2) later
+after-2 known later answer is same = same ∙ sym (ap (λ (test : Bool). cond test (Some 2) later) is)
 
 -- what kept blocks are founded on that a tree indexes
 pub founded : (kept : List Block) (entries : List Entry) (parent : ℕ) → IndexesBlocks kept entries → parent < length entries → IsFounded kept
@@ -45,7 +58,7 @@ best-is kept parent top = ap (λ (place : Option ℕ). elim place [ None ↦ [] 
 
 pub assembled-is : (spec : Specification) (kept : List Block) (parent : ℕ) (witness : CellbaseWitness) (items : List (List ℕ)) → tip_place kept ≡ Some parent
     → pool.assembled (chain_on spec kept) witness items ≡ assembled_on spec kept (branch kept parent) witness items
-unfolding pool.assembled
+unfolding assembled
 assembled-is spec kept parent witness items top = ap (λ (on : List Block). assembled_on spec kept on witness items) (best-is kept parent top)
 
 -- ---- An answer

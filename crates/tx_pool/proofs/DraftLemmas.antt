@@ -1,12 +1,14 @@
 -- What the block so far stands for after each step.
-use Rattle.std.proofs.Common.{◌≡◌, ℕ, ◌+◌, ◌-◌, ◌^◌, ◌<◌, ◌≤◌, ℤ, pos, ◌+ℤ◌, Bool, true, false, cond, not, ◌&&◌, ◌||◌, List, [], ◌∷◌, ◌++◌, length, map, replicate, eq-eqb, ◌==◌, Option, Some, None, refl, sym, ap, ◌∙◌, subst, arith}
-use Rattle.std.specs.Prelude.{IsTrue, nat_le}
+use Rattle.std.proofs.Common.{◌≡◌, ℕ, ◌+◌, ◌-◌, ◌^◌, ◌<◌, ◌≤◌, ℤ, pos, ◌+ℤ◌, Bool, true, false, cond, not, ◌&&◌, ◌||◌, List, [], ◌∷◌, ◌++◌, length, map, take, replicate, eq-eqb, ◌==◌, Option, Some, None, refl, sym, ap, ◌∙◌, subst, arith}
+use Rattle.std.specs.Prelude.{IsTrue, nat_le, slice_get}
 use Rattle.std.specs.List.{AllByRecursion}
 use Rattle.std.specs.Str.{bytes_eq}
-use Rattle.std.proofs.lemmas.List.{length_push}
+use Rattle.std.proofs.lemmas.List.{length_push, take_all}
 use Rattle.codec_defs.specs.Shape.{encoded, decoded}
 use Rattle.codec_defs.specs.Schema.{OutPoint, Transaction, Block, CellbaseWitness, transaction}
 use Rattle.fold_defs.specs.First.{first_failing}
+use Rattle.fold_defs.specs.Fold.{keep}
+use Rattle.fold_defs.proofs.FoldLemmas.{keep-push}
 use Rattle.time_defs.specs.Specification.{Specification}
 use Rattle.chain_defs.specs.Branch.{branch}
 use Rattle.chain_defs.specs.Hashes.{transaction_hash, proposal_id, are_distinct}
@@ -16,6 +18,7 @@ use Rattle.cell_defs.specs.Events.{events_of}
 use Rattle.family_defs.specs.Cellbase.{null_index, is_cellbase, begins_with_cellbase, has_cellbase}
 use Rattle.rule_defs.specs.Body.{fits_length, has_proposals}
 use Rattle.tx_defs.specs.Capacity as capacity
+use Rattle.tx_rules.proofs.AllThere.{take-push}
 use Rattle.block_defs.specs.Transactions.{is_proposed, transaction_rules}
 use Rattle.block_judge.specs.Appending.{SeesSoFar}
 use Rattle.block_judge.specs.Progress.{AreMoved, CanMove}
@@ -24,8 +27,9 @@ use Rattle.block_judge.specs.declared.transactions.PassedTransaction.{PassedTran
 use Rattle.block_judge.proofs.MovedLemmas.{can-move-none}
 use Rattle.pool_defs.specs.Size.{size_with}
 use Rattle.pool_defs.specs.Start as start
+use Rattle.pool_defs.specs.Start.{cellbase}
 use Rattle.pool_defs.specs.Assembly as pool
-use Rattle.pool_defs.specs.Assembly.{Assembly}
+use Rattle.pool_defs.specs.Assembly.{Assembly, take_item}
 use Rattle.pool_defs.specs.declared.line.Line.{Line}
 use Rattle.pool_defs.specs.declared.line.Line.TheVariants.{Commit, Propose, Refused, Later}
 use Rattle.pool_defs.proofs.GrowthLemmas.{size-transaction, size-id, counted-size, cellbase-grows, proposals-grow, distinct-push}
@@ -183,7 +187,7 @@ no-output : (index : ℕ) → (bytes_eq (replicate 32 0) (replicate 32 0) && (in
 no-output index = eq-eqb index index refl
 
 start-is-cellbase : (spec : Specification) (on : List Block) (witness : CellbaseWitness) → is_cellbase (start.cellbase spec on witness) ≡ true
-unfolding start.cellbase
+unfolding cellbase
 start-is-cellbase spec on witness = no-output null_index
 
 pub started-so-far : (stored : List Stored) (on : ContextValue) (witness : CellbaseWitness) (e : ℕ) (t : Transaction) (draft put : DraftValue)
@@ -342,3 +346,24 @@ module _ (stored : List Stored) (on : ContextValue) (so_far : Assembly) (draft :
       (cond (not (is_proposed on.spec on_branch t)) (pool.propose on.spec so_far t)
       (pool.judge on.spec on_branch so_far t (first_failing (transaction_rules (pool.next_site on.spec on_branch so_far.block) so_far.left t)))))
       (not-not (is_cellbase t || draft.has_hash (transaction_hash t)))
+
+-- ---- Items
+
+pub take-none : (spec : Specification) (on : List Block) (so_far : Assembly) (item : List ℕ) → None ≡ decoded transaction item
+    → pool.take_item spec on so_far item ≡ pool.with_line so_far (Refused 1)
+unfolding take_item
+take-none spec on so_far item is = ap (pool.take_decoded spec on so_far) (sym is)
+
+pub take-some : (spec : Specification) (on : List Block) (so_far : Assembly) (item : List ℕ) (t : Transaction) → Some t ≡ decoded transaction item
+    → pool.take_item spec on so_far item ≡ pool.take_transaction spec on so_far t
+unfolding take_item
+take-some spec on so_far item t is = ap (pool.take_decoded spec on so_far) (sym is)
+
+pub taken-more : (spec : Specification) (on : List Block) (so_far : Assembly) (items : List (List ℕ)) (i : ℕ) (item : List ℕ) → slice_get items i ≡ Some item
+    → keep (pool.take_item spec on) so_far (take (i + 1) items) ≡ pool.take_item spec on (keep (pool.take_item spec on) so_far (take i items)) item
+taken-more spec on so_far items i item there =
+    ap (keep (pool.take_item spec on) so_far) (take-push items i item there) ∙ keep-push (pool.take_item spec on) so_far (take i items) item
+
+pub taken-all : (spec : Specification) (on : List Block) (so_far : Assembly) (items : List (List ℕ)) (i : ℕ) → length items ≤ i
+    → keep (pool.take_item spec on) so_far items ≡ keep (pool.take_item spec on) so_far (take i items)
+taken-all spec on so_far items i past = ap (keep (pool.take_item spec on) so_far) (sym (take_all i items past))

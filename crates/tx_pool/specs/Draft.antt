@@ -16,6 +16,7 @@ use Rattle.tx_defs.specs.Capacity as capacity
 use Rattle.reward_defs.specs.Field.{freed_by}
 use Rattle.script_defs.specs.Scene.{scene_of}
 use Rattle.script_defs.specs.Rules.{cycles_of}
+use Rattle.block_judge.specs.BlockCells.{rows_in}
 use Rattle.block_judge.specs.Appending.{SeesSoFar}
 use Rattle.block_judge.specs.Progress.{AreMoved, CanMove}
 use Rattle.block_judge.specs.Standing.{ContextValue}
@@ -40,9 +41,10 @@ pub record DraftValue : Type 0 where
   pub freed : ℕ
   pub lines : List Line
 
-abbrev pub draft_of : {C : Type 0} → Draft C → DraftValue
-draft_of draft = record {
-  rows = draft.cells;
+-- by what the branch's cells have as rows
+abbrev pub draft_of : {C : Type 0} → (C → OutPoint → Option Row) → Draft C → DraftValue
+draft_of rows draft = record {
+  rows = rows_in rows draft.cells;
   transactions = draft.transactions.items;
   has_hash = contains bytes_eq draft.hashes;
   proposals = draft.proposals.items;

@@ -40,6 +40,14 @@ pub struct Assembled {
     pub broken: Option<u8>,
 }
 
+/// The hash of a block.
+#[tactic(auto, unfolding(chain_defs::specs::Kept::header_hash))]
+fn hash_of(block: &BlockView<'_>) -> [u8; 32]
+    ensures { result ≡ block_hash block.now }
+{
+    ckbhash(block.header().bytes())
+}
+
 /// The first rule that a block on the context's parent breaks, J2 first.
 fn broken_by<C: Cells, B: Blocks>(
     alloc: Global,
@@ -58,8 +66,7 @@ fn broken_by<C: Cells, B: Blocks>(
     ensures undamaged { (stored : List Stored) → B.told blocks.old ≡ Some stored → StandsForAll stored (seen C.rows context.now)
         → (damage : Damage) → result ≡ Err (Damaged damage) → ⊥ }
 {
-    let hash = ckbhash(block.header().bytes());
-    if context.tree.find(&hash).is_some() {
+    if context.tree.find(&hash_of(block)).is_some() {
         return Ok(Some(2));
     }
     let at_sight = Context {
@@ -82,12 +89,12 @@ fn broken_by<C: Cells, B: Blocks>(
 }
 
 /// What becomes of each item, and the bytes of the block.
-fn make_block<'a, C: Cells, B: Blocks>(
+fn make_block<C: Cells, B: Blocks>(
     alloc: Global,
-    context: &Context<'a, C>,
+    context: &Context<'_, C>,
     blocks: &mut B,
     witness: &CellbaseWitnessView<'_>,
-    items: &'a [Vec<u8>],
+    items: &[Vec<u8>],
 ) -> Result<(Vec<Line>, Vec<u8>), ReadStop>
     requires parent { context.now.parent < length context.now.tree.now.entries }
     requires few { length context.now.tree.now.entries < 2 ^ 24 }
@@ -159,12 +166,12 @@ fn make_block<'a, C: Cells, B: Blocks>(
 /// Assembles a block after the context's parent, of up to 1,000 items in their order, each the bytes of a transaction, with
 /// this witness of its cellbase: what becomes of each item, the block, and the first rule that it breaks. The witness and
 /// each item have at most 1,048,576 bytes. Damaged as `judge` is.
-pub fn assemble<'a, C: Cells, B: Blocks>(
+pub fn assemble<C: Cells, B: Blocks>(
     alloc: Global,
-    context: &Context<'a, C>,
+    context: &Context<'_, C>,
     blocks: &mut B,
     witness: &CellbaseWitnessView<'_>,
-    items: &'a [Vec<u8>],
+    items: &[Vec<u8>],
 ) -> Result<Assembled, ReadStop>
     requires parent { context.now.parent < length context.now.tree.now.entries }
     requires few { length context.now.tree.now.entries < 2 ^ 24 }

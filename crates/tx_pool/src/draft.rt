@@ -37,8 +37,8 @@ const EMPTY_LENGTH: u64 = 240;
 /// The block so far: its transactions, the cellbase first, and its proposal ids, with how many bytes it has; what its
 /// transactions leave: the cells, the cycles, and what they move; and what became of each item.
 #[derive(Drop)]
-pub(crate) struct Draft<'a, C: Cells> {
-    cells: BlockCells<'a, C>,
+pub(crate) struct Draft<'c, 'a, C: Cells> {
+    cells: BlockCells<'c, C>,
     pub(crate) transactions: Vec<TxView<'a>>,
     hashes: HashSet<[u8; 32]>,
     pub(crate) proposals: Vec<[u8; 10]>,
@@ -50,23 +50,24 @@ pub(crate) struct Draft<'a, C: Cells> {
     pub(crate) lines: Vec<Line>,
 }
 
-impl<'a, C: Cells> Draft<'a, C> {
+impl<'c, 'a, C: Cells> Draft<'c, 'a, C> {
     /// The block with its cellbase alone.
     pub(crate) fn start(
         alloc: Global,
-        context: &Context<'a, C>,
+        context: &Context<'c, C>,
         cellbase: &'a [u8],
-    ) -> Result<Draft<'a, C>, NoMemory>
+    ) -> Result<Draft<'c, 'a, C>, NoMemory>
         requires parent { context.now.parent < length context.now.tree.now.entries }
         requires canonical { (t : schema.Transaction) × IsA schema.transaction cellbase.now t }
         requires size { length cellbase.now < 2 ^ 30 }
-        ensures fits { IfOk result (λ draft. Fits (draft_of draft)) }
+        ensures fits { IfOk result (λ draft. Fits (draft_of C.rows draft)) }
         ensures lines { IfOk result (λ draft. draft.lines.items ≡ []) }
         ensures started { (stored : List Stored) (witness : schema.CellbaseWitness) → StandsFor stored (seen C.rows context.now)
             → IsA schema.transaction cellbase.now (start.cellbase context.now.spec.now (branch (blocks_of stored) context.now.parent) witness)
             → IfOk result (λ draft. IsSoFar stored (seen C.rows context.now)
-            (pool.start context.now.spec.now (branch (blocks_of stored) context.now.parent) witness) (draft_of draft)) }
+            (pool.start context.now.spec.now (branch (blocks_of stored) context.now.parent) witness) (draft_of C.rows draft)) }
     {
+        let spec = context.spec;
         let mut draft = Draft {
             cells: BlockCells::of(alloc, context.cells),
             transactions: Vec::new(alloc),
@@ -74,7 +75,7 @@ impl<'a, C: Cells> Draft<'a, C> {
             proposals: Vec::new(alloc),
             ids: HashSet::new(alloc),
             length: EMPTY_LENGTH,
-            left: context.spec.max_cycles,
+            left: spec.max_cycles,
             interest: 0,
             freed: 0,
             lines: Vec::new(alloc),
@@ -96,7 +97,7 @@ impl<'a, C: Cells> Draft<'a, C> {
         requires few { length self.old.transactions.items < 2 ^ 30 }
         requires size { length (encoded schema.transaction tx.now) < 2 ^ 30 }
         requires short { self.old.length < 2 ^ 32 }
-        ensures put { OnOk result (IsPut e tx.now (draft_of self.old) (draft_of self.new)) }
+        ensures put { OnOk result (IsPut e tx.now (draft_of C.rows self.old) (draft_of C.rows self.new)) }
     {
         let place = self.transactions.len() as u32;
         self.cells.take(tx, hash, place, e)?;
@@ -108,17 +109,18 @@ impl<'a, C: Cells> Draft<'a, C> {
     }
 
     /// Puts an id among those of the block, where J9 and J10 are kept with it.
-    fn propose(&mut self, context: &Context<'a, C>, id: &[u8; 10]) -> Result<Line, NoMemory>
-        requires fits { Fits (draft_of self.old) }
-        ensures fits { IfOk result (λ line. Fits (with_line (draft_of self.new) line)) }
+    fn propose(&mut self, context: &Context<'c, C>, id: &[u8; 10]) -> Result<Line, NoMemory>
+        requires fits { Fits (draft_of C.rows self.old) }
+        ensures fits { IfOk result (λ line. Fits (with_line (draft_of C.rows self.new) line)) }
         ensures lines { IfOk result (λ _. self.new.lines.items ≡ self.old.lines.items) }
-        ensures proposed { (stored : List Stored) (so_far : pool.Assembly) → IsSoFar stored (seen C.rows context.now) so_far (draft_of self.old)
+        ensures proposed { (stored : List Stored) (so_far : pool.Assembly) → IsSoFar stored (seen C.rows context.now) so_far (draft_of C.rows self.old)
             → (t : schema.Transaction) → id.now ≡ hashes.proposal_id t
-            → IfOk result (λ line. IsSoFar stored (seen C.rows context.now) (pool.propose context.now.spec.now so_far t) (with_line (draft_of self.new) line)) }
+            → IfOk result (λ line. IsSoFar stored (seen C.rows context.now) (pool.propose context.now.spec.now so_far t) (with_line (draft_of C.rows self.new) line)) }
     {
+        let spec = context.spec;
         let count = self.proposals.len() as u64 + 1;
-        if self.length + 10 > u64::from(context.spec.max_block_bytes)
-            || count > u64::from(context.spec.max_proposals)
+        if self.length + 10 > u64::from(spec.max_block_bytes)
+            || count > u64::from(spec.max_proposals)
             || self.ids.contains(id)
         {
             return Ok(Line::Later);
@@ -132,27 +134,28 @@ impl<'a, C: Cells> Draft<'a, C> {
     /// Puts a transaction that breaks no rule into the block, where J9 is kept with it.
     fn commit(
         &mut self,
-        context: &Context<'a, C>,
+        context: &Context<'c, C>,
         tx: &TxView<'a>,
         hash: &[u8; 32],
         passed: &PassedTransaction,
     ) -> Result<Line, NoMemory>
-        requires fits { Fits (draft_of self.old) }
+        requires fits { Fits (draft_of C.rows self.old) }
         requires room { length self.old.lines.items < most_items }
         requires size { length (encoded schema.transaction tx.now) ≤ most_bytes }
         requires hash { hash.now ≡ hashes.transaction_hash tx.now }
         requires cycles { passed.now.cycles ≤ self.old.left }
         requires moves { CanMove 1 passed.now.interest passed.now.freed }
-        ensures fits { IfOk result (λ line. Fits (with_line (draft_of self.new) line)) }
+        ensures fits { IfOk result (λ line. Fits (with_line (draft_of C.rows self.new) line)) }
         ensures lines { IfOk result (λ _. self.new.lines.items ≡ self.old.lines.items) }
-        ensures committed { (stored : List Stored) (so_far : pool.Assembly) → IsSoFar stored (seen C.rows context.now) so_far (draft_of self.old)
+        ensures committed { (stored : List Stored) (so_far : pool.Assembly) → IsSoFar stored (seen C.rows context.now) so_far (draft_of C.rows self.old)
             → IsTrue (has_cellbase (pool.with_transaction so_far.block tx.now))
             → ComesTo (pool.next_site context.now.spec.now (branch (blocks_of stored) context.now.parent) so_far.block) so_far.left tx.now passed.now
             → IfOk result (λ line. IsSoFar stored (seen C.rows context.now)
-            (pool.commit context.now.spec.now (branch (blocks_of stored) context.now.parent) so_far tx.now) (with_line (draft_of self.new) line)) }
+            (pool.commit context.now.spec.now (branch (blocks_of stored) context.now.parent) so_far tx.now) (with_line (draft_of C.rows self.new) line)) }
     {
+        let spec = context.spec;
         let size = tx.bytes().len() as u64;
-        if self.length + 4 + size > u64::from(context.spec.max_block_bytes) {
+        if self.length + 4 + size > u64::from(spec.max_block_bytes) {
             return Ok(Line::Later);
         }
         self.put(tx, hash, context.tree.len())?;
@@ -166,7 +169,7 @@ impl<'a, C: Cells> Draft<'a, C> {
     fn judge<B: Blocks>(
         &mut self,
         alloc: Global,
-        context: &Context<'a, C>,
+        context: &Context<'c, C>,
         blocks: &mut B,
         tx: &TxView<'a>,
         hash: &[u8; 32],
@@ -176,22 +179,22 @@ impl<'a, C: Cells> Draft<'a, C> {
         requires few { length context.now.tree.now.entries < 2 ^ 24 }
         requires rated { AreRated context.now.tree.now.entries }
         requires counts { B.count blocks.old ≡ length context.now.tree.now.entries }
-        requires fits { Fits (draft_of self.old) }
+        requires fits { Fits (draft_of C.rows self.old) }
         requires room { length self.old.lines.items < most_items }
         requires size { length (encoded schema.transaction tx.now) ≤ most_bytes }
         ensures read { HasRead B.told B.count B.loans_of B.faults B.damages blocks.old blocks.new (stop_of result) }
-        ensures fits { IfOk result (λ line. Fits (with_line (draft_of self.new) line)) }
+        ensures fits { IfOk result (λ line. Fits (with_line (draft_of C.rows self.new) line)) }
         ensures lines { IfOk result (λ _. self.new.lines.items ≡ self.old.lines.items) }
         ensures judged { (stored : List Stored) (so_far : pool.Assembly) → B.told blocks.old ≡ Some stored
-            → IsSoFar stored (seen C.rows context.now) so_far (draft_of self.old)
+            → IsSoFar stored (seen C.rows context.now) so_far (draft_of C.rows self.old)
             → IsTrue (has_cellbase (pool.with_transaction so_far.block tx.now))
             → IsTrue (is_proposed context.now.spec.now (branch (blocks_of stored) context.now.parent) tx.now)
             → IfOk result (λ line. IsSoFar stored (seen C.rows context.now)
             (pool.judge context.now.spec.now (branch (blocks_of stored) context.now.parent) so_far tx.now
             (first_failing (transaction_rules (pool.next_site context.now.spec.now (branch (blocks_of stored) context.now.parent) so_far.block) so_far.left tx.now)))
-            (with_line (draft_of self.new) line)) }
+            (with_line (draft_of C.rows self.new) line)) }
         ensures undamaged { (stored : List Stored) (so_far : pool.Assembly) → B.told blocks.old ≡ Some stored
-            → IsSoFar stored (seen C.rows context.now) so_far (draft_of self.old) → (damage : Damage) → result ≡ Err (Damaged damage) → ⊥ }
+            → IsSoFar stored (seen C.rows context.now) so_far (draft_of C.rows self.old) → (damage : Damage) → result ≡ Err (Damaged damage) → ⊥ }
     {
         let passed = match judge_appended(
             alloc,
@@ -217,7 +220,7 @@ impl<'a, C: Cells> Draft<'a, C> {
     fn take_transaction<B: Blocks>(
         &mut self,
         alloc: Global,
-        context: &Context<'a, C>,
+        context: &Context<'c, C>,
         blocks: &mut B,
         proposed: &Proposed,
         tx: &TxView<'a>,
@@ -226,19 +229,19 @@ impl<'a, C: Cells> Draft<'a, C> {
         requires few { length context.now.tree.now.entries < 2 ^ 24 }
         requires rated { AreRated context.now.tree.now.entries }
         requires counts { B.count blocks.old ≡ length context.now.tree.now.entries }
-        requires fits { Fits (draft_of self.old) }
+        requires fits { Fits (draft_of C.rows self.old) }
         requires room { length self.old.lines.items < most_items }
         requires size { length (encoded schema.transaction tx.now) ≤ most_bytes }
         ensures read { HasRead B.told B.count B.loans_of B.faults B.damages blocks.old blocks.new (stop_of result) }
-        ensures fits { IfOk result (λ line. Fits (with_line (draft_of self.new) line)) }
+        ensures fits { IfOk result (λ line. Fits (with_line (draft_of C.rows self.new) line)) }
         ensures lines { IfOk result (λ _. self.new.lines.items ≡ self.old.lines.items) }
         ensures taken { (stored : List Stored) (so_far : pool.Assembly) → B.told blocks.old ≡ Some stored
             → AreProposed context.now.spec.now (branch (blocks_of stored) context.now.parent) proposed.now
-            → IsSoFar stored (seen C.rows context.now) so_far (draft_of self.old)
+            → IsSoFar stored (seen C.rows context.now) so_far (draft_of C.rows self.old)
             → IfOk result (λ line. IsSoFar stored (seen C.rows context.now)
-            (pool.take_transaction context.now.spec.now (branch (blocks_of stored) context.now.parent) so_far tx.now) (with_line (draft_of self.new) line)) }
+            (pool.take_transaction context.now.spec.now (branch (blocks_of stored) context.now.parent) so_far tx.now) (with_line (draft_of C.rows self.new) line)) }
         ensures undamaged { (stored : List Stored) (so_far : pool.Assembly) → B.told blocks.old ≡ Some stored
-            → IsSoFar stored (seen C.rows context.now) so_far (draft_of self.old) → (damage : Damage) → result ≡ Err (Damaged damage) → ⊥ }
+            → IsSoFar stored (seen C.rows context.now) so_far (draft_of C.rows self.old) → (damage : Damage) → result ≡ Err (Damaged damage) → ⊥ }
     {
         let hash = tx_hash(tx);
         if is_cellbase(tx) || self.hashes.contains(&hash) {
@@ -258,7 +261,7 @@ impl<'a, C: Cells> Draft<'a, C> {
     fn take_item<B: Blocks>(
         &mut self,
         alloc: Global,
-        context: &Context<'a, C>,
+        context: &Context<'c, C>,
         blocks: &mut B,
         proposed: &Proposed,
         item: &'a [u8],
@@ -267,19 +270,19 @@ impl<'a, C: Cells> Draft<'a, C> {
         requires few { length context.now.tree.now.entries < 2 ^ 24 }
         requires rated { AreRated context.now.tree.now.entries }
         requires counts { B.count blocks.old ≡ length context.now.tree.now.entries }
-        requires fits { Fits (draft_of self.old) }
+        requires fits { Fits (draft_of C.rows self.old) }
         requires room { length self.old.lines.items < most_items }
         requires size { length item.now ≤ most_bytes }
         ensures read { HasRead B.told B.count B.loans_of B.faults B.damages blocks.old blocks.new (stop_of result) }
-        ensures fits { OnOk result (Fits (draft_of self.new)) }
+        ensures fits { OnOk result (Fits (draft_of C.rows self.new)) }
         ensures lines { OnOk result (length self.new.lines.items ≡ length self.old.lines.items + 1) }
         ensures taken { (stored : List Stored) (so_far : pool.Assembly) → B.told blocks.old ≡ Some stored
             → AreProposed context.now.spec.now (branch (blocks_of stored) context.now.parent) proposed.now
-            → IsSoFar stored (seen C.rows context.now) so_far (draft_of self.old)
+            → IsSoFar stored (seen C.rows context.now) so_far (draft_of C.rows self.old)
             → OnOk result (IsSoFar stored (seen C.rows context.now)
-            (pool.take_item context.now.spec.now (branch (blocks_of stored) context.now.parent) so_far item.now) (draft_of self.new)) }
+            (pool.take_item context.now.spec.now (branch (blocks_of stored) context.now.parent) so_far item.now) (draft_of C.rows self.new)) }
         ensures undamaged { (stored : List Stored) (so_far : pool.Assembly) → B.told blocks.old ≡ Some stored
-            → IsSoFar stored (seen C.rows context.now) so_far (draft_of self.old) → (damage : Damage) → result ≡ Err (Damaged damage) → ⊥ }
+            → IsSoFar stored (seen C.rows context.now) so_far (draft_of C.rows self.old) → (damage : Damage) → result ≡ Err (Damaged damage) → ⊥ }
     {
         let line = match TxView::read(item) {
             None => Line::Refused(1),
@@ -298,7 +301,7 @@ impl<'a, C: Cells> Draft<'a, C> {
     pub(crate) fn take_items<B: Blocks>(
         &mut self,
         alloc: Global,
-        context: &Context<'a, C>,
+        context: &Context<'c, C>,
         blocks: &mut B,
         proposed: &Proposed,
         items: &'a [Vec<u8>],
@@ -307,20 +310,20 @@ impl<'a, C: Cells> Draft<'a, C> {
         requires few { length context.now.tree.now.entries < 2 ^ 24 }
         requires rated { AreRated context.now.tree.now.entries }
         requires counts { B.count blocks.old ≡ length context.now.tree.now.entries }
-        requires fits { Fits (draft_of self.old) }
+        requires fits { Fits (draft_of C.rows self.old) }
         requires none { self.old.lines.items ≡ [] }
         requires items { length items.now ≤ most_items }
         requires sizes { All (λ item. length item.items ≤ most_bytes) items.now }
         ensures read { HasRead B.told B.count B.loans_of B.faults B.damages blocks.old blocks.new (stop_of result) }
-        ensures fits { OnOk result (Fits (draft_of self.new)) }
+        ensures fits { OnOk result (Fits (draft_of C.rows self.new)) }
         ensures taken { (stored : List Stored) (so_far : pool.Assembly) → B.told blocks.old ≡ Some stored
             → AreProposed context.now.spec.now (branch (blocks_of stored) context.now.parent) proposed.now
-            → IsSoFar stored (seen C.rows context.now) so_far (draft_of self.old)
+            → IsSoFar stored (seen C.rows context.now) so_far (draft_of C.rows self.old)
             → OnOk result (IsSoFar stored (seen C.rows context.now)
-            (keep (pool.take_item context.now.spec.now (branch (blocks_of stored) context.now.parent)) so_far (map (λ item. item.items) items.now)) (draft_of self.new)) }
+            (keep (pool.take_item context.now.spec.now (branch (blocks_of stored) context.now.parent)) so_far (map (λ item. item.items) items.now)) (draft_of C.rows self.new)) }
         ensures undamaged { (stored : List Stored) (so_far : pool.Assembly) → B.told blocks.old ≡ Some stored
             → AreProposed context.now.spec.now (branch (blocks_of stored) context.now.parent) proposed.now
-            → IsSoFar stored (seen C.rows context.now) so_far (draft_of self.old) → (damage : Damage) → result ≡ Err (Damaged damage) → ⊥ }
+            → IsSoFar stored (seen C.rows context.now) so_far (draft_of C.rows self.old) → (damage : Damage) → result ≡ Err (Damaged damage) → ⊥ }
     {
         'items: for i in 0..items.len() {
             match self.take_item(alloc, context, blocks, proposed, &items[i]) {
