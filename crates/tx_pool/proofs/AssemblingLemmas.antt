@@ -68,7 +68,7 @@ module _ (spec : Specification) (kept : List Block) (parent : ℕ) (witness : Ce
     (made : IsMade spec (branch kept parent) (pool.assembly spec (branch kept parent) witness items) answer.lines.items answer.block.items)
     (broken : (b : Block) → IsA schema.block answer.block.items b
     → answer.broken ≡ cond (is_some (place_of kept (block_hash b))) (Some 2) (first_broken spec (branch kept parent) b)) where
-  all : pool.Assembled
+  abbrev pub all : pool.Assembled
   all = pool.assembled (chain_on spec kept) witness items
 
   is : all ≡ assembled_on spec kept (branch kept parent) witness items

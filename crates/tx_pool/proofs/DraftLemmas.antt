@@ -1,10 +1,11 @@
 -- What the block so far stands for after each step.
-use Rattle.std.proofs.Common.{◌≡◌, ℕ, ◌+◌, ◌-◌, ◌^◌, ◌<◌, ◌≤◌, ℤ, pos, ◌+ℤ◌, Bool, true, false, cond, not, ◌&&◌, ◌||◌, List, [], ◌∷◌, ◌++◌, length, map, take, replicate, eq-eqb, ◌==◌, Option, Some, None, refl, sym, ap, ◌∙◌, subst, arith}
+use Rattle.std.proofs.Common.{◌≡◌, ℕ, ◌+◌, ◌-◌, ◌^◌, ◌<◌, ◌≤◌, ℤ, pos, ◌+ℤ◌, Bool, true, false, cond, not, ◌&&◌, ◌||◌, List, [], ◌∷◌, ◌++◌, length, map, take, replicate, eq-eqb, ◌==◌, ◌⊎◌, inl, inr, Option, Some, None, refl, sym, ap, ◌∙◌, subst, arith}
 use Rattle.std.specs.Prelude.{IsTrue, nat_le, slice_get}
-use Rattle.std.specs.List.{AllByRecursion}
+use Rattle.std.specs.List.{AllByRecursion, list_any}
 use Rattle.std.specs.Str.{bytes_eq}
+use Rattle.std.proofs.lemmas.Bool.{le-leb, lt-leb}
 use Rattle.std.proofs.lemmas.List.{length_push, take_all}
-use Rattle.codec_defs.specs.Shape.{encoded, decoded}
+use Rattle.codec_defs.specs.Shape.{IsA, encoded, decoded}
 use Rattle.codec_defs.specs.Schema.{OutPoint, Transaction, Block, CellbaseWitness, transaction}
 use Rattle.fold_defs.specs.First.{first_failing}
 use Rattle.fold_defs.specs.Fold.{keep}
@@ -17,11 +18,16 @@ use Rattle.cell_defs.specs.Row.{Row, row_after}
 use Rattle.cell_defs.specs.Events.{events_of}
 use Rattle.family_defs.specs.Cellbase.{null_index, is_cellbase, begins_with_cellbase, has_cellbase}
 use Rattle.rule_defs.specs.Body.{fits_length, has_proposals}
+use Rattle.tx_defs.specs.Site.{Site}
 use Rattle.tx_defs.specs.Capacity as capacity
+use Rattle.reward_defs.specs.Field.{freed_by}
+use Rattle.script_defs.specs.Scene.{scene_of}
+use Rattle.script_defs.specs.Rules.{cycles_of}
 use Rattle.tx_rules.proofs.AllThere.{take-push}
 use Rattle.block_defs.specs.Transactions.{is_proposed, transaction_rules}
+use Rattle.block_judge.specs.Appending as appending
 use Rattle.block_judge.specs.Appending.{SeesSoFar}
-use Rattle.block_judge.specs.Progress.{AreMoved, CanMove}
+use Rattle.block_judge.specs.Progress.{AreMoved, AreProposed, CanMove}
 use Rattle.block_judge.specs.Standing.{ContextValue, StandsFor}
 use Rattle.block_judge.specs.declared.transactions.PassedTransaction.{PassedTransaction}
 use Rattle.block_judge.proofs.MovedLemmas.{can-move-none}
@@ -33,12 +39,13 @@ use Rattle.pool_defs.specs.Assembly.{Assembly, take_item}
 use Rattle.pool_defs.specs.declared.line.Line.{Line}
 use Rattle.pool_defs.specs.declared.line.Line.TheVariants.{Commit, Propose, Refused, Later}
 use Rattle.pool_defs.proofs.GrowthLemmas.{size-transaction, size-id, counted-size, cellbase-grows, proposals-grow, distinct-push}
-use Rattle.tx_pool.specs.Draft.{DraftValue, Fits, IsPut, ComesTo, IsSoFar, has, with_line}
+use Rattle.tx_pool.specs.Assembling.{most_items, most_bytes}
+use Rattle.tx_pool.specs.Draft.{DraftValue, Fits, IsEmpty, IsPut, ComesTo, IsSoFar, has, with_line}
 use Rattle.tx_pool.proofs.GrownLemmas.{each-push, has-push, has-hash-push, moved-push, moved-same, moved-nothing, sees-push, sees-none}
 
 -- ---- What each draft keeps
 
-can-move-as : (count other : ℕ) (interest next : ℤ) (freed more : ℕ) → other ≡ count → next ≡ interest → more ≡ freed → CanMove count interest freed
+pub can-move-as : (count other : ℕ) (interest next : ℤ) (freed more : ℕ) → other ≡ count → next ≡ interest → more ≡ freed → CanMove count interest freed
     → CanMove other next more
 can-move-as count other interest next freed more counted withdraws frees can =
     subst (λ (n : ℕ). CanMove n next more) (sym counted)
@@ -99,31 +106,18 @@ fits-committed draft put after e t line most cycles fits is_put same within smal
       moves = can-move-as (length draft.transactions + 1) (length after.transactions) after.interest after.interest after.freed after.freed same_txs refl refl moves;
     }
 
--- A draft of no block: there is no transaction in it yet.
-pub record IsEmpty (spec : Specification) (base : OutPoint → Option Row) (draft : DraftValue) : Type 0 where
-  pub rows : (o : OutPoint) → draft.rows o ≡ base o
-  pub transactions : draft.transactions ≡ []
-  pub hashes : (hash : List ℕ) → draft.has_hash hash ≡ false
-  pub proposals : draft.proposals ≡ []
-  pub ids : (id : List ℕ) → draft.has_id id ≡ false
-  pub length_is : draft.length ≡ 240
-  pub left : draft.left ≡ spec.max_cycles
-  pub interest : draft.interest ≡ pos 0
-  pub freed : draft.freed ≡ 0
-  pub lines : draft.lines ≡ []
-
 empty-size : size_with [] [] ≡ 240
 unfolding size_with
 empty-size = refl
 
 pub fits-started : (spec : Specification) (base : OutPoint → Option Row) (draft put : DraftValue) (e : ℕ) (t : Transaction) → IsEmpty spec base draft → IsPut e t draft put
-    → length (encoded transaction t) < 2 ^ 30 → spec.max_cycles ≤ 2 ^ 40 → Fits put
+    → length (encoded transaction t) < 2 ^ 30 → draft.left ≤ 2 ^ 40 → Fits put
 fits-started spec base draft put e t empty is_put size few =
     let txs : put.transactions ≡ t ∷ [] = is_put.transactions ∙ ap (λ (them : List Transaction). them ++ t ∷ []) empty.transactions in
     let alone : length put.transactions ≡ 1 = ap length txs in
     let length_of = is_put.length_is in
     let begun = empty.length_is in
-    let left_of = is_put.left ∙ empty.left in record {
+    let left_of = is_put.left in record {
       some = omega (arith, alone);
       few = omega (arith, alone);
       length_is = is_put.length_is ∙ ap (λ (n : ℕ). n + (4 + length (encoded transaction t))) (empty.length_is ∙ sym empty-size)
@@ -144,6 +138,16 @@ same-cellbase b other same =
 one-alone : (b : Bool) → b ≡ (b || false)
 one-alone true = refl
 one-alone false = refl
+
+none : (b : Bool) → (b && false) ≡ false
+none true = refl
+none false = refl
+
+pub or-cond : (known more : Bool) → cond more true known ≡ (known || more)
+or-cond true true = refl
+or-cond true false = refl
+or-cond false true = refl
+or-cond false false = refl
 
 not-not : (b : Bool) → not (not b) ≡ b
 not-not true = refl
@@ -216,7 +220,7 @@ started-so-far stored on witness e t draft put placed last stands empty is_put s
 -- ---- Each step
 
 module _ (stored : List Stored) (on : ContextValue) (so_far : Assembly) (draft : DraftValue) (is : IsSoFar stored on so_far draft) (fits : Fits draft) where
-  on_branch : List Block
+  abbrev on_branch : List Block
   on_branch = branch (blocks_of stored) on.parent
 
   size-is : size_with so_far.block.transactions so_far.block.proposals ≡ draft.length
@@ -257,6 +261,35 @@ module _ (stored : List Stored) (on : ContextValue) (so_far : Assembly) (draft :
       ∙ ap (λ (test : Bool). cond (test && has_proposals on.spec (pool.with_proposal so_far.block id)) (pool.proposed so_far id) (pool.with_line so_far Later)) (id-fits id ten)
       ∙ ap (λ (test : Bool). cond (nat_le (draft.length + 10) on.spec.max_block_bytes && test) (pool.proposed so_far id) (pool.with_line so_far Later)) (ids-fit id)
 
+  -- the tests in the order of the code
+  pub propose-later : (t : Transaction) (id : List ℕ) → id ≡ proposal_id t → length id ≡ 10
+      → (on.spec.max_block_bytes < draft.length + 10) ⊎ ((on.spec.max_proposals < length draft.proposals + 1) ⊎ (draft.has_id id ≡ true))
+      → IsSoFar stored on (pool.propose on.spec so_far t) (with_line draft Later)
+  propose-later t id same ten why = so-far-answered stored on so_far _ draft Later
+      (propose-is t id same ten ∙ ap (λ (test : Bool). cond test (pool.proposed so_far id) (pool.with_line so_far Later)) (tests why)) is
+    where
+      first : Bool
+      first = nat_le (draft.length + 10) on.spec.max_block_bytes
+
+      second : Bool
+      second = nat_le (length draft.proposals + 1) on.spec.max_proposals
+
+      tests : (on.spec.max_block_bytes < draft.length + 10) ⊎ ((on.spec.max_proposals < length draft.proposals + 1) ⊎ (draft.has_id id ≡ true))
+          → (first && (second && not (draft.has_id id))) ≡ false
+      tests (inl past) = ap (λ (b : Bool). b && (second && not (draft.has_id id))) (lt-leb (draft.length + 10) on.spec.max_block_bytes past)
+      tests (inr (inl many)) = ap (λ (b : Bool). first && (b && not (draft.has_id id))) (lt-leb (length draft.proposals + 1) on.spec.max_proposals many) ∙ none first
+      tests (inr (inr among)) = ap (λ (b : Bool). first && (second && not b)) among ∙ ap (λ (b : Bool). first && b) (none second) ∙ none first
+
+  pub propose-fits : (t : Transaction) (id : List ℕ) → id ≡ proposal_id t → length id ≡ 10 → draft.length + 10 ≤ on.spec.max_block_bytes
+      → length draft.proposals + 1 ≤ on.spec.max_proposals → draft.has_id id ≡ false → pool.propose on.spec so_far t ≡ pool.proposed so_far id
+  propose-fits t id same ten within few new =
+      propose-is t id same ten
+      ∙ ap (λ (test : Bool). cond (test && (nat_le (length draft.proposals + 1) on.spec.max_proposals && not (draft.has_id id))) (pool.proposed so_far id) (pool.with_line so_far Later))
+      (le-leb (draft.length + 10) on.spec.max_block_bytes within)
+      ∙ ap (λ (test : Bool). cond (test && not (draft.has_id id)) (pool.proposed so_far id) (pool.with_line so_far Later))
+      (le-leb (length draft.proposals + 1) on.spec.max_proposals few)
+      ∙ ap (λ (test : Bool). cond (not test) (pool.proposed so_far id) (pool.with_line so_far Later)) new
+
   pub proposed-so-far : (id : List ℕ) (after : DraftValue) → length id ≡ 10 → draft.has_id id ≡ false → after.rows ≡ draft.rows → after.transactions ≡ draft.transactions
       → ((hash : List ℕ) → after.has_hash hash ≡ draft.has_hash hash) → after.proposals ≡ draft.proposals ++ id ∷ []
       → ((other : List ℕ) → after.has_id other ≡ (draft.has_id other || bytes_eq id other)) → after.left ≡ draft.left → after.interest ≡ draft.interest
@@ -293,6 +326,17 @@ module _ (stored : List Stored) (on : ContextValue) (so_far : Assembly) (draft :
       (counted-size on.spec on_branch (pool.with_transaction so_far.block t) is.fills.header_is is.fills.no_uncles is.ids_fit
       ∙ size-transaction so_far.block.transactions t so_far.block.proposals
       ∙ ap (λ (n : ℕ). n + (4 + length (encoded transaction t))) size-is)
+
+  pub commit-later : (t : Transaction) → on.spec.max_block_bytes < draft.length + (4 + length (encoded transaction t))
+      → IsSoFar stored on (pool.commit on.spec on_branch so_far t) (with_line draft Later)
+  commit-later t past = so-far-answered stored on so_far _ draft Later
+      (commit-is t ∙ ap (λ (test : Bool). cond test (pool.committed_at (pool.next_site on.spec on_branch so_far.block) so_far t) (pool.with_line so_far Later))
+      (lt-leb (draft.length + (4 + length (encoded transaction t))) on.spec.max_block_bytes past)) is
+
+  pub commit-fits : (t : Transaction) → draft.length + (4 + length (encoded transaction t)) ≤ on.spec.max_block_bytes
+      → pool.commit on.spec on_branch so_far t ≡ pool.committed_at (pool.next_site on.spec on_branch so_far.block) so_far t
+  commit-fits t within = commit-is t ∙ ap (λ (test : Bool). cond test (pool.committed_at (pool.next_site on.spec on_branch so_far.block) so_far t) (pool.with_line so_far Later))
+      (le-leb (draft.length + (4 + length (encoded transaction t))) on.spec.max_block_bytes within)
 
   pub committed-so-far : (t : Transaction) (e : ℕ) (put after : DraftValue) (passed : PassedTransaction) → on.parent < length on.entries → e ≡ length on.entries
       → IsPut e t draft put → IsTrue (has_cellbase (pool.with_transaction so_far.block t))
@@ -346,6 +390,109 @@ module _ (stored : List Stored) (on : ContextValue) (so_far : Assembly) (draft :
       (cond (not (is_proposed on.spec on_branch t)) (pool.propose on.spec so_far t)
       (pool.judge on.spec on_branch so_far t (first_failing (transaction_rules (pool.next_site on.spec on_branch so_far.block) so_far.left t)))))
       (not-not (is_cellbase t || draft.has_hash (transaction_hash t)))
+
+-- by what is judged over the transactions of the draft
+module _ (stored : List Stored) (on : ContextValue) (so_far : Assembly) (draft : DraftValue) (is : IsSoFar stored on so_far draft) (t : Transaction) where
+  abbrev branch_on : List Block
+  branch_on = branch (blocks_of stored) on.parent
+
+  pub sees-as : SeesSoFar stored on draft.transactions draft.rows
+  sees-as = subst (λ (txs : List Transaction). SeesSoFar stored on txs draft.rows) (sym is.fills.transactions_are) is.sees
+
+  site-as : appending.next_site on.spec branch_on draft.transactions ≡ pool.next_site on.spec branch_on so_far.block
+  site-as = ap (appending.next_site on.spec branch_on) is.fills.transactions_are
+
+  pub judged-as : (answer : Option ℕ) → first_failing (transaction_rules (appending.next_site on.spec branch_on draft.transactions) draft.left t) ≡ answer
+      → first_failing (transaction_rules (pool.next_site on.spec branch_on so_far.block) so_far.left t) ≡ answer
+  judged-as answer judged =
+      ap (λ (site : Site). first_failing (transaction_rules site so_far.left t)) (sym site-as)
+      ∙ ap (λ (left : ℕ). first_failing (transaction_rules (appending.next_site on.spec branch_on draft.transactions) left t)) (sym is.left_is)
+      ∙ judged
+
+  pub refused-so-far : (rule number : ℕ) → number ≡ rule
+      → first_failing (transaction_rules (appending.next_site on.spec branch_on draft.transactions) draft.left t) ≡ Some rule
+      → IsSoFar stored on (pool.judge on.spec branch_on so_far t (first_failing (transaction_rules (pool.next_site on.spec branch_on so_far.block) so_far.left t)))
+      (with_line draft (Refused number))
+  refused-so-far rule number numbered broken = so-far-answered stored on so_far _ draft (Refused number)
+      (ap (pool.judge on.spec branch_on so_far t) (judged-as (Some rule) broken) ∙ ap (λ (n : ℕ). pool.with_line so_far (Refused n)) (sym numbered)) is
+
+  pub judged-commits : first_failing (transaction_rules (appending.next_site on.spec branch_on draft.transactions) draft.left t) ≡ None
+      → pool.judge on.spec branch_on so_far t (first_failing (transaction_rules (pool.next_site on.spec branch_on so_far.block) so_far.left t))
+      ≡ pool.commit on.spec branch_on so_far t
+  judged-commits unbroken = ap (pool.judge on.spec branch_on so_far t) (judged-as None unbroken)
+
+  pub comes-as : (passed : PassedTransaction) → passed.fee ≡ capacity.fee (appending.next_site on.spec branch_on draft.transactions) t
+      → passed.cycles ≡ cycles_of (scene_of (appending.next_site on.spec branch_on draft.transactions) t) draft.left
+      → passed.interest ≡ capacity.interest (appending.next_site on.spec branch_on draft.transactions) t
+      → passed.freed ≡ freed_by (appending.next_site on.spec branch_on draft.transactions) t
+      → ComesTo (pool.next_site on.spec branch_on so_far.block) so_far.left t passed
+  comes-as passed pays takes withdraws frees = record {
+    fee_is = pays ∙ ap (λ (site : Site). capacity.fee site t) site-as;
+    cycles_are = takes ∙ ap (λ (site : Site). cycles_of (scene_of site t) draft.left) site-as
+        ∙ ap (λ (left : ℕ). cycles_of (scene_of (pool.next_site on.spec branch_on so_far.block) t) left) is.left_is;
+    interest_is = withdraws ∙ ap (λ (site : Site). capacity.interest site t) site-as;
+    freed_is = frees ∙ ap (λ (site : Site). freed_by site t) site-as;
+  }
+
+  pub asked-as : (ids : List (List ℕ)) (id : List ℕ) (answer : Bool) → AreProposed on.spec branch_on ids → id ≡ proposal_id t → answer ≡ list_any (bytes_eq id) ids
+      → is_proposed on.spec branch_on t ≡ answer
+  asked-as ids id answer proposed same asked =
+      sym (proposed (proposal_id t)) ∙ ap (λ (it : List ℕ). list_any (bytes_eq it) ids) (sym same) ∙ sym asked
+
+-- a test by the hash that is had
+pub same-test : (t : Transaction) (known : List ℕ → Bool) (hash : List ℕ) (test : Bool) → hash ≡ transaction_hash t → (is_cellbase t || known hash) ≡ test
+    → (is_cellbase t || known (transaction_hash t)) ≡ test
+same-test t known hash test same answered = ap (λ (it : List ℕ). is_cellbase t || known it) (sym same) ∙ answered
+
+-- by the tests in the order of the code
+module _ (stored : List Stored) (on : ContextValue) (so_far : Assembly) (draft : DraftValue) (is : IsSoFar stored on so_far draft) (fits : Fits draft) (t : Transaction) where
+  abbrev after_branch : List Block
+  after_branch = branch (blocks_of stored) on.parent
+
+  pub repeated-so-far : (is_cellbase t || draft.has_hash (transaction_hash t)) ≡ true
+      → IsSoFar stored on (pool.take_transaction on.spec after_branch so_far t) (with_line draft (Refused 16))
+  repeated-so-far repeats = so-far-answered stored on so_far _ draft (Refused 16)
+      (take-is stored on so_far draft is fits t ∙ ap (λ (test : Bool). cond test (pool.with_line so_far (Refused 16))
+      (cond (not (is_proposed on.spec after_branch t)) (pool.propose on.spec so_far t)
+      (pool.judge on.spec after_branch so_far t (first_failing (transaction_rules (pool.next_site on.spec after_branch so_far.block) so_far.left t))))) repeats) is
+
+  past-16 : (is_cellbase t || draft.has_hash (transaction_hash t)) ≡ false → (proposed : Bool) → is_proposed on.spec after_branch t ≡ proposed
+      → pool.take_transaction on.spec after_branch so_far t ≡ cond (not proposed) (pool.propose on.spec so_far t)
+      (pool.judge on.spec after_branch so_far t (first_failing (transaction_rules (pool.next_site on.spec after_branch so_far.block) so_far.left t)))
+  past-16 new proposed asked =
+      take-is stored on so_far draft is fits t ∙ ap (λ (test : Bool). cond test (pool.with_line so_far (Refused 16))
+      (cond (not (is_proposed on.spec after_branch t)) (pool.propose on.spec so_far t)
+      (pool.judge on.spec after_branch so_far t (first_failing (transaction_rules (pool.next_site on.spec after_branch so_far.block) so_far.left t))))) new
+      ∙ ap (λ (test : Bool). cond (not test) (pool.propose on.spec so_far t)
+      (pool.judge on.spec after_branch so_far t (first_failing (transaction_rules (pool.next_site on.spec after_branch so_far.block) so_far.left t)))) asked
+
+  pub take-proposes : (is_cellbase t || draft.has_hash (transaction_hash t)) ≡ false → is_proposed on.spec after_branch t ≡ false
+      → pool.take_transaction on.spec after_branch so_far t ≡ pool.propose on.spec so_far t
+  take-proposes new asked = past-16 new false asked
+
+  pub take-judges : (is_cellbase t || draft.has_hash (transaction_hash t)) ≡ false → is_proposed on.spec after_branch t ≡ true
+      → pool.take_transaction on.spec after_branch so_far t
+      ≡ pool.judge on.spec after_branch so_far t (first_failing (transaction_rules (pool.next_site on.spec after_branch so_far.block) so_far.left t))
+  take-judges new asked = past-16 new true asked
+
+  pub begins-still : (is_cellbase t || draft.has_hash (transaction_hash t)) ≡ false → IsTrue (has_cellbase (pool.with_transaction so_far.block t))
+  begins-still new = cellbase-is stored on so_far draft is fits t ∙ ap not new
+
+-- ---- Sizes and counts
+
+pub few-items : (n : ℕ) → n < most_items → n < 1000
+unfolding most_items
+few-items n few = few
+
+pub small-item : (n : ℕ) → n ≤ most_bytes → n ≤ 2 ^ 20
+unfolding most_bytes
+small-item n small = small
+
+-- what bytes encode has as many as these
+pub canonical-size : (bytes : List ℕ) (t : Transaction) → ((v : Transaction) × IsA transaction bytes v) → ((v : Transaction) → IsA transaction bytes v → t ≡ v)
+    → length (encoded transaction t) ≡ length bytes
+canonical-size bytes t its exact =
+    ap (λ (v : Transaction). length (encoded transaction v)) (exact its.0 its.1) ∙ sym (ap length its.1.encoding)
 
 -- ---- Items
 

@@ -109,10 +109,10 @@ freed-push spec branch b place (first ∷ later) t =
 
 -- a transaction more at the end
 module _ (spec : Specification) (on : List Block) (b : Block) (t : Transaction) (some : 0 < length b.transactions) where
-  other : Block
+  abbrev other : Block
   other = with_transaction b t
 
-  rest : List Transaction
+  abbrev rest : List Transaction
   rest = drop 1 b.transactions
 
   agree : AgreeUpTo (1 + length rest) b other
@@ -189,13 +189,17 @@ sees-push stored on so_far t e before after placed last sees put = record { stan
     some : 0 < height
     some = branch-some (blocks_of stored) on.parent (omega (arith, placed, long))
 
+    at_end : (events_from 0 so_far height ++ events_of t height (0 + length so_far)) ≡ (events_from 0 so_far height ++ events_of t height (length so_far))
+    at_end = let same : 0 + length so_far ≡ length so_far = omega arith in
+        ap (λ (n : ℕ). events_from 0 so_far height ++ events_of t height n) same
+
     rows : (o : OutPoint) → after o ≡ row_after (length on.entries) (events_from 0 (so_far ++ t ∷ []) height) on.rows o
     rows o =
         put height o some
         ∙ ap (λ (n : ℕ). row_after n (events_of t height (length so_far)) before o) last
         ∙ row_after-same (length on.entries) (events_of t height (length so_far)) before (row_after (length on.entries) (events_from 0 so_far height) on.rows) o (sees.rows_are o)
         ∙ sym (row_after-append (length on.entries) (events_from 0 so_far height) (events_of t height (length so_far)) on.rows o)
-        ∙ ap (λ (all : List Event). row_after (length on.entries) all on.rows o) (sym (events-push 0 so_far t height))
+        ∙ ap (λ (all : List Event). row_after (length on.entries) all on.rows o) (sym (events-push 0 so_far t height ∙ at_end))
 
 -- before any transaction
 pub sees-none : (stored : List Stored) (on : ContextValue) (rows : OutPoint → Option Row) → StandsFor stored on → ((o : OutPoint) → rows o ≡ on.rows o)

@@ -1,10 +1,11 @@
 -- The block so far, as the code has it, and what that stands for.
-use Rattle.std.specs.Prelude.{◌≡◌, ℕ, ◌+◌, ◌^◌, ◌<◌, ◌≤◌, ℤ, Bool, true, ◌||◌, List, [], ◌∷◌, ◌++◌, map, length, Option, IsTrue}
+use Rattle.std.specs.Prelude.{◌≡◌, ℕ, ◌+◌, ◌^◌, ◌<◌, ◌≤◌, ℤ, pos, Bool, true, false, ◌||◌, List, [], ◌∷◌, ◌++◌, map, length, Option, IsTrue}
 use Rattle.std.specs.List.{list_any, AllByRecursion}
 use Rattle.std.specs.Str.{bytes_eq}
 use Rattle.std.specs.HashSet.{contains}
 use Rattle.codec_defs.specs.Shape.{encoded}
 use Rattle.codec_defs.specs.Schema.{OutPoint, Transaction, Block, transaction}
+use Rattle.time_defs.specs.Specification.{Specification}
 use Rattle.chain_defs.specs.Branch.{branch}
 use Rattle.chain_defs.specs.Hashes.{transaction_hash, are_distinct}
 use Rattle.chain_tree.specs.Told.{Stored, blocks_of}
@@ -72,6 +73,19 @@ pub record Fits (draft : DraftValue) : Type 0 where
   pub moves : CanMove (length draft.transactions) draft.interest draft.freed
 
 -- ---- One transaction more
+
+-- A draft with nothing in it yet, over the rows of a branch.
+pub record IsEmpty (spec : Specification) (base : OutPoint → Option Row) (draft : DraftValue) : Type 0 where
+  pub rows : (o : OutPoint) → draft.rows o ≡ base o
+  pub transactions : draft.transactions ≡ []
+  pub hashes : (hash : List ℕ) → draft.has_hash hash ≡ false
+  pub proposals : draft.proposals ≡ []
+  pub ids : (id : List ℕ) → draft.has_id id ≡ false
+  pub length_is : draft.length ≡ 240
+  pub left : draft.left ≡ spec.max_cycles
+  pub interest : draft.interest ≡ pos 0
+  pub freed : draft.freed ≡ 0
+  pub lines : draft.lines ≡ []
 
 -- A transaction was put at the end of one draft, which is another then: its rows have the place `e`.
 pub record IsPut (e : ℕ) (t : Transaction) (before after : DraftValue) : Type 0 where

@@ -1,6 +1,8 @@
 // The block so far, and what one item more comes to.
-ghost use Rattle.std.specs.Prelude.{◌≡◌, ◌+◌, ◌<◌, ◌≤◌, ◌^◌, ◌++◌, ◌∷◌, [], ℕ, true, List, None, Some, Err, IfOk, OnOk, IsTrue, length, map, take};
+ghost use Rattle.std.specs.Prelude.{◌≡◌, ◌+◌, ◌<◌, ◌≤◌, ◌^◌, ◌||◌, ◌++◌, ◌∷◌, [], ℕ, true, List, None, Some, Err, IfOk, OnOk, IsTrue, length, map, take};
 ghost use Rattle.std.specs.List.{All};
+ghost use Rattle.std.specs.Str.{bytes_eq};
+ghost use Rattle.std.specs.HashSet.{contains};
 ghost use Rattle.fold_defs.specs.First.{first_failing};
 ghost use Rattle.fold_defs.specs.Fold.{keep};
 ghost use Rattle.outside.specs.declared.disk.Damage.{Damage};
@@ -12,6 +14,7 @@ ghost use Rattle.chain_defs.specs.Hashes as hashes;
 ghost use Rattle.chain_tree.specs.Blocks.{AreRated};
 ghost use Rattle.chain_tree.specs.Told.{Stored, blocks_of};
 ghost use Rattle.chain_tree.specs.Reading.{HasRead, stop_of};
+ghost use Rattle.family_defs.specs.Cellbase as rules;
 ghost use Rattle.family_defs.specs.Cellbase.{has_cellbase};
 ghost use Rattle.block_defs.specs.Transactions.{is_proposed, transaction_rules};
 ghost use Rattle.block_judge.specs.Progress.{AreProposed, CanMove};
@@ -19,7 +22,7 @@ ghost use Rattle.block_judge.specs.Standing.{StandsFor, seen};
 ghost use Rattle.pool_defs.specs.Start as start;
 ghost use Rattle.pool_defs.specs.Assembly as pool;
 ghost use Rattle.tx_pool.specs.Assembling.{most_items, most_bytes};
-ghost use Rattle.tx_pool.specs.Draft.{ComesTo, Fits, IsPut, IsSoFar, draft_of, with_line};
+ghost use Rattle.tx_pool.specs.Draft.{ComesTo, Fits, IsEmpty, IsPut, IsSoFar, draft_of, with_line};
 
 use block_judge::{BlockCells, Context, JudgeStop, PassedTransaction, is_cellbase, judge_appended};
 use cell_model::{Cells, proposal_id, tx_hash};
@@ -51,6 +54,26 @@ pub(crate) struct Draft<'c, 'a, C: Cells> {
 }
 
 impl<'c, 'a, C: Cells> Draft<'c, 'a, C> {
+    /// A draft with nothing in it yet.
+    fn empty(alloc: Global, context: &Context<'c, C>) -> Draft<'c, 'a, C>
+        ensures empty { IsEmpty context.now.spec.now (C.rows context.now.cells.now) (draft_of C.rows result) }
+        ensures few { result.left ≤ 2 ^ 40 }
+    {
+        let spec = context.spec;
+        Draft {
+            cells: BlockCells::of(alloc, context.cells),
+            transactions: Vec::new(alloc),
+            hashes: HashSet::new(alloc),
+            proposals: Vec::new(alloc),
+            ids: HashSet::new(alloc),
+            length: EMPTY_LENGTH,
+            left: spec.max_cycles,
+            interest: 0,
+            freed: 0,
+            lines: Vec::new(alloc),
+        }
+    }
+
     /// The block with its cellbase alone.
     pub(crate) fn start(
         alloc: Global,
@@ -67,22 +90,11 @@ impl<'c, 'a, C: Cells> Draft<'c, 'a, C> {
             → IfOk result (λ draft. IsSoFar stored (seen C.rows context.now)
             (pool.start context.now.spec.now (branch (blocks_of stored) context.now.parent) witness) (draft_of C.rows draft)) }
     {
-        let spec = context.spec;
-        let mut draft = Draft {
-            cells: BlockCells::of(alloc, context.cells),
-            transactions: Vec::new(alloc),
-            hashes: HashSet::new(alloc),
-            proposals: Vec::new(alloc),
-            ids: HashSet::new(alloc),
-            length: EMPTY_LENGTH,
-            left: spec.max_cycles,
-            interest: 0,
-            freed: 0,
-            lines: Vec::new(alloc),
-        };
+        let mut draft = Draft::empty(alloc, context);
         let tx = TxView::from_encoding(cellbase);
         let hash = tx_hash(&tx);
-        match draft.put(&tx, &hash, context.tree.len()) {
+        let e = context.tree.len();
+        match draft.put(&tx, &hash, e) {
             Ok(()) => Ok(draft),
             Err(stop) => {
                 drop(draft);
@@ -139,6 +151,7 @@ impl<'c, 'a, C: Cells> Draft<'c, 'a, C> {
         hash: &[u8; 32],
         passed: &PassedTransaction,
     ) -> Result<Line, NoMemory>
+        requires parent { context.now.parent < length context.now.tree.now.entries }
         requires fits { Fits (draft_of C.rows self.old) }
         requires room { length self.old.lines.items < most_items }
         requires size { length (encoded schema.transaction tx.now) ≤ most_bytes }
@@ -158,7 +171,8 @@ impl<'c, 'a, C: Cells> Draft<'c, 'a, C> {
         if self.length + 4 + size > u64::from(spec.max_block_bytes) {
             return Ok(Line::Later);
         }
-        self.put(tx, hash, context.tree.len())?;
+        let e = context.tree.len();
+        self.put(tx, hash, e)?;
         self.left -= passed.cycles;
         self.interest += passed.interest;
         self.freed += passed.freed;
@@ -216,6 +230,13 @@ impl<'c, 'a, C: Cells> Draft<'c, 'a, C> {
         }
     }
 
+    /// Whether the block with a transaction breaks J16: it is a cellbase, or stands in the block already.
+    fn breaks_j16(&self, tx: &TxView<'a>, hash: &[u8; 32]) -> bool
+        ensures { result ≡ (rules.is_cellbase tx.now || contains bytes_eq self.now.hashes hash.now) }
+    {
+        is_cellbase(tx) || self.hashes.contains(hash)
+    }
+
     /// Takes a transaction.
     fn take_transaction<B: Blocks>(
         &mut self,
@@ -244,11 +265,12 @@ impl<'c, 'a, C: Cells> Draft<'c, 'a, C> {
             → IsSoFar stored (seen C.rows context.now) so_far (draft_of C.rows self.old) → (damage : Damage) → result ≡ Err (Damaged damage) → ⊥ }
     {
         let hash = tx_hash(tx);
-        if is_cellbase(tx) || self.hashes.contains(&hash) {
+        if self.breaks_j16(tx, &hash) {
             return Ok(Line::Refused(16));
         }
         let id = proposal_id(&hash);
-        if !proposed.contains(&id) {
+        let is_proposed = proposed.contains(&id);
+        if !is_proposed {
             return match self.propose(context, &id) {
                 Ok(line) => Ok(line),
                 Err(_) => Err(ReadStop::NoMemory),
@@ -257,7 +279,40 @@ impl<'c, 'a, C: Cells> Draft<'c, 'a, C> {
         self.judge(alloc, context, blocks, tx, &hash)
     }
 
-    /// Takes an item: the bytes of a transaction.
+    /// Takes an item, the bytes of a transaction, but for its line.
+    fn take_bytes<B: Blocks>(
+        &mut self,
+        alloc: Global,
+        context: &Context<'c, C>,
+        blocks: &mut B,
+        proposed: &Proposed,
+        item: &'a [u8],
+    ) -> Result<Line, ReadStop>
+        requires parent { context.now.parent < length context.now.tree.now.entries }
+        requires few { length context.now.tree.now.entries < 2 ^ 24 }
+        requires rated { AreRated context.now.tree.now.entries }
+        requires counts { B.count blocks.old ≡ length context.now.tree.now.entries }
+        requires fits { Fits (draft_of C.rows self.old) }
+        requires room { length self.old.lines.items < most_items }
+        requires size { length item.now ≤ most_bytes }
+        ensures read { HasRead B.told B.count B.loans_of B.faults B.damages blocks.old blocks.new (stop_of result) }
+        ensures fits { IfOk result (λ line. Fits (with_line (draft_of C.rows self.new) line)) }
+        ensures lines { IfOk result (λ _. self.new.lines.items ≡ self.old.lines.items) }
+        ensures taken { (stored : List Stored) (so_far : pool.Assembly) → B.told blocks.old ≡ Some stored
+            → AreProposed context.now.spec.now (branch (blocks_of stored) context.now.parent) proposed.now
+            → IsSoFar stored (seen C.rows context.now) so_far (draft_of C.rows self.old)
+            → IfOk result (λ line. IsSoFar stored (seen C.rows context.now)
+            (pool.take_item context.now.spec.now (branch (blocks_of stored) context.now.parent) so_far item.now) (with_line (draft_of C.rows self.new) line)) }
+        ensures undamaged { (stored : List Stored) (so_far : pool.Assembly) → B.told blocks.old ≡ Some stored
+            → IsSoFar stored (seen C.rows context.now) so_far (draft_of C.rows self.old) → (damage : Damage) → result ≡ Err (Damaged damage) → ⊥ }
+    {
+        match TxView::read(item) {
+            None => Ok(Line::Refused(1)),
+            Some(tx) => self.take_transaction(alloc, context, blocks, proposed, &tx),
+        }
+    }
+
+    /// Takes an item, the bytes of a transaction.
     fn take_item<B: Blocks>(
         &mut self,
         alloc: Global,
@@ -284,12 +339,9 @@ impl<'c, 'a, C: Cells> Draft<'c, 'a, C> {
         ensures undamaged { (stored : List Stored) (so_far : pool.Assembly) → B.told blocks.old ≡ Some stored
             → IsSoFar stored (seen C.rows context.now) so_far (draft_of C.rows self.old) → (damage : Damage) → result ≡ Err (Damaged damage) → ⊥ }
     {
-        let line = match TxView::read(item) {
-            None => Line::Refused(1),
-            Some(tx) => match self.take_transaction(alloc, context, blocks, proposed, &tx) {
-                Ok(line) => line,
-                Err(stop) => return Err(stop),
-            },
+        let line = match self.take_bytes(alloc, context, blocks, proposed, item) {
+            Ok(line) => line,
+            Err(stop) => return Err(stop),
         };
         match self.lines.push(line) {
             Ok(()) => Ok(()),
