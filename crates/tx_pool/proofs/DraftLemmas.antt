@@ -1,10 +1,10 @@
 -- What the block so far stands for after each step.
-use Rattle.std.proofs.Common.{◌≡◌, ℕ, ◌+◌, ◌-◌, ◌^◌, ◌<◌, ◌≤◌, ℤ, pos, ◌+ℤ◌, Bool, true, false, cond, not, ◌&&◌, ◌||◌, List, [], ◌∷◌, ◌++◌, length, map, take, replicate, eq-eqb, ◌==◌, ◌⊎◌, inl, inr, Option, Some, None, refl, sym, ap, ◌∙◌, subst, arith}
-use Rattle.std.specs.Prelude.{IsTrue, nat_le, slice_get}
+use Rattle.std.proofs.Common.{◌≡◌, ℕ, ◌+◌, ◌-◌, ◌^◌, ◌<◌, ◌≤◌, ℤ, ◌+ℤ◌, Bool, true, false, cond, not, ◌&&◌, ◌||◌, List, [], ◌∷◌, ◌++◌, length, map, take, replicate, eq-eqb, ◌==◌, ◌⊎◌, inl, inr, get_or, Vec, Global, Option, Some, None, refl, sym, ap, ◌∙◌, subst, arith}
+use Rattle.std.specs.Prelude.{IsTrue, nat_le}
 use Rattle.std.specs.List.{AllByRecursion, list_any}
 use Rattle.std.specs.Str.{bytes_eq}
 use Rattle.std.proofs.lemmas.Bool.{le-leb, lt-leb}
-use Rattle.std.proofs.lemmas.List.{length_push, take_all}
+use Rattle.std.proofs.lemmas.List.{length_push, map-append, take_all, take_more}
 use Rattle.codec_defs.specs.Shape.{IsA, encoded, decoded}
 use Rattle.codec_defs.specs.Schema.{OutPoint, Transaction, Block, CellbaseWitness, transaction}
 use Rattle.fold_defs.specs.First.{first_failing}
@@ -23,7 +23,6 @@ use Rattle.tx_defs.specs.Capacity as capacity
 use Rattle.reward_defs.specs.Field.{freed_by}
 use Rattle.script_defs.specs.Scene.{scene_of}
 use Rattle.script_defs.specs.Rules.{cycles_of}
-use Rattle.tx_rules.proofs.AllThere.{take-push}
 use Rattle.block_defs.specs.Transactions.{is_proposed, transaction_rules}
 use Rattle.block_judge.specs.Appending as appending
 use Rattle.block_judge.specs.Appending.{SeesSoFar}
@@ -392,39 +391,40 @@ module _ (stored : List Stored) (on : ContextValue) (so_far : Assembly) (draft :
       (not-not (is_cellbase t || draft.has_hash (transaction_hash t)))
 
 -- by what is judged over the transactions of the draft
-module _ (stored : List Stored) (on : ContextValue) (so_far : Assembly) (draft : DraftValue) (is : IsSoFar stored on so_far draft) (t : Transaction) where
+module _ (stored : List Stored) (on : ContextValue) (so_far : Assembly) (draft : DraftValue) (is : IsSoFar stored on so_far draft) (t : Transaction)
+    (txs : List Transaction) (same : txs ≡ draft.transactions) where
   abbrev branch_on : List Block
   branch_on = branch (blocks_of stored) on.parent
 
-  pub sees-as : SeesSoFar stored on draft.transactions draft.rows
-  sees-as = subst (λ (txs : List Transaction). SeesSoFar stored on txs draft.rows) (sym is.fills.transactions_are) is.sees
+  pub sees-as : SeesSoFar stored on txs draft.rows
+  sees-as = subst (λ (these : List Transaction). SeesSoFar stored on these draft.rows) (sym (same ∙ is.fills.transactions_are)) is.sees
 
-  site-as : appending.next_site on.spec branch_on draft.transactions ≡ pool.next_site on.spec branch_on so_far.block
-  site-as = ap (appending.next_site on.spec branch_on) is.fills.transactions_are
+  site-as : appending.next_site on.spec branch_on txs ≡ pool.next_site on.spec branch_on so_far.block
+  site-as = ap (appending.next_site on.spec branch_on) (same ∙ is.fills.transactions_are)
 
-  pub judged-as : (answer : Option ℕ) → first_failing (transaction_rules (appending.next_site on.spec branch_on draft.transactions) draft.left t) ≡ answer
+  pub judged-as : (answer : Option ℕ) → first_failing (transaction_rules (appending.next_site on.spec branch_on txs) draft.left t) ≡ answer
       → first_failing (transaction_rules (pool.next_site on.spec branch_on so_far.block) so_far.left t) ≡ answer
   judged-as answer judged =
       ap (λ (site : Site). first_failing (transaction_rules site so_far.left t)) (sym site-as)
-      ∙ ap (λ (left : ℕ). first_failing (transaction_rules (appending.next_site on.spec branch_on draft.transactions) left t)) (sym is.left_is)
+      ∙ ap (λ (left : ℕ). first_failing (transaction_rules (appending.next_site on.spec branch_on txs) left t)) (sym is.left_is)
       ∙ judged
 
   pub refused-so-far : (rule number : ℕ) → number ≡ rule
-      → first_failing (transaction_rules (appending.next_site on.spec branch_on draft.transactions) draft.left t) ≡ Some rule
+      → first_failing (transaction_rules (appending.next_site on.spec branch_on txs) draft.left t) ≡ Some rule
       → IsSoFar stored on (pool.judge on.spec branch_on so_far t (first_failing (transaction_rules (pool.next_site on.spec branch_on so_far.block) so_far.left t)))
       (with_line draft (Refused number))
   refused-so-far rule number numbered broken = so-far-answered stored on so_far _ draft (Refused number)
       (ap (pool.judge on.spec branch_on so_far t) (judged-as (Some rule) broken) ∙ ap (λ (n : ℕ). pool.with_line so_far (Refused n)) (sym numbered)) is
 
-  pub judged-commits : first_failing (transaction_rules (appending.next_site on.spec branch_on draft.transactions) draft.left t) ≡ None
+  pub judged-commits : first_failing (transaction_rules (appending.next_site on.spec branch_on txs) draft.left t) ≡ None
       → pool.judge on.spec branch_on so_far t (first_failing (transaction_rules (pool.next_site on.spec branch_on so_far.block) so_far.left t))
       ≡ pool.commit on.spec branch_on so_far t
   judged-commits unbroken = ap (pool.judge on.spec branch_on so_far t) (judged-as None unbroken)
 
-  pub comes-as : (passed : PassedTransaction) → passed.fee ≡ capacity.fee (appending.next_site on.spec branch_on draft.transactions) t
-      → passed.cycles ≡ cycles_of (scene_of (appending.next_site on.spec branch_on draft.transactions) t) draft.left
-      → passed.interest ≡ capacity.interest (appending.next_site on.spec branch_on draft.transactions) t
-      → passed.freed ≡ freed_by (appending.next_site on.spec branch_on draft.transactions) t
+  pub comes-as : (passed : PassedTransaction) → passed.fee ≡ capacity.fee (appending.next_site on.spec branch_on txs) t
+      → passed.cycles ≡ cycles_of (scene_of (appending.next_site on.spec branch_on txs) t) draft.left
+      → passed.interest ≡ capacity.interest (appending.next_site on.spec branch_on txs) t
+      → passed.freed ≡ freed_by (appending.next_site on.spec branch_on txs) t
       → ComesTo (pool.next_site on.spec branch_on so_far.block) so_far.left t passed
   comes-as passed pays takes withdraws frees = record {
     fee_is = pays ∙ ap (λ (site : Site). capacity.fee site t) site-as;
@@ -434,10 +434,11 @@ module _ (stored : List Stored) (on : ContextValue) (so_far : Assembly) (draft :
     freed_is = frees ∙ ap (λ (site : Site). freed_by site t) site-as;
   }
 
-  pub asked-as : (ids : List (List ℕ)) (id : List ℕ) (answer : Bool) → AreProposed on.spec branch_on ids → id ≡ proposal_id t → answer ≡ list_any (bytes_eq id) ids
-      → is_proposed on.spec branch_on t ≡ answer
-  asked-as ids id answer proposed same asked =
-      sym (proposed (proposal_id t)) ∙ ap (λ (it : List ℕ). list_any (bytes_eq it) ids) (sym same) ∙ sym asked
+-- J19 by the ids that are proposed
+pub asked-as : (spec : Specification) (on : List Block) (t : Transaction) (ids : List (List ℕ)) (id : List ℕ) (answer : Bool) → AreProposed spec on ids → id ≡ proposal_id t
+    → answer ≡ list_any (bytes_eq id) ids → is_proposed spec on t ≡ answer
+asked-as spec on t ids id answer proposed named asked =
+    sym (proposed (proposal_id t)) ∙ ap (λ (it : List ℕ). list_any (bytes_eq it) ids) (sym named) ∙ sym asked
 
 -- a test by the hash that is had
 pub same-test : (t : Transaction) (known : List ℕ → Bool) (hash : List ℕ) (test : Bool) → hash ≡ transaction_hash t → (is_cellbase t || known hash) ≡ test
@@ -506,11 +507,23 @@ pub take-some : (spec : Specification) (on : List Block) (so_far : Assembly) (it
 unfolding take_item
 take-some spec on so_far item t is = ap (pool.take_decoded spec on so_far) (sym is)
 
-pub taken-more : (spec : Specification) (on : List Block) (so_far : Assembly) (items : List (List ℕ)) (i : ℕ) (item : List ℕ) → slice_get items i ≡ Some item
-    → keep (pool.take_item spec on) so_far (take (i + 1) items) ≡ pool.take_item spec on (keep (pool.take_item spec on) so_far (take i items)) item
-taken-more spec on so_far items i item there =
-    ap (keep (pool.take_item spec on) so_far) (take-push items i item there) ∙ keep-push (pool.take_item spec on) so_far (take i items) item
+abbrev bytes_of : List (Vec ℕ Global) → List (List ℕ)
+bytes_of items = map (λ (item : Vec ℕ Global). item.items) items
 
-pub taken-all : (spec : Specification) (on : List Block) (so_far : Assembly) (items : List (List ℕ)) (i : ℕ) → length items ≤ i
-    → keep (pool.take_item spec on) so_far items ≡ keep (pool.take_item spec on) so_far (take i items)
-taken-all spec on so_far items i past = ap (keep (pool.take_item spec on) so_far) (sym (take_all i items past))
+one-more : (items : List (Vec ℕ Global)) (i : ℕ) (found : Vec ℕ Global) (item : List ℕ) → i < length items → found ≡ get_or items i found → item ≡ found.items
+    → bytes_of (take (i + 1) items) ≡ bytes_of (take i items) ++ item ∷ []
+one-more items i found item within there is =
+    ap bytes_of (take_more items i found within) ∙ map-append (λ (it : Vec ℕ Global). it.items) (take i items) (get_or items i found ∷ [])
+    ∙ ap (λ (bytes : List ℕ). bytes_of (take i items) ++ bytes ∷ []) (ap (λ (it : Vec ℕ Global). it.items) (sym there) ∙ sym is)
+
+pub taken-more : (spec : Specification) (on : List Block) (so_far : Assembly) (items : List (Vec ℕ Global)) (i : ℕ) (found : Vec ℕ Global) (item : List ℕ)
+    → i < length items → found ≡ get_or items i found → item ≡ found.items
+    → keep (pool.take_item spec on) so_far (map (λ (it : Vec ℕ Global). it.items) (take (i + 1) items))
+    ≡ pool.take_item spec on (keep (pool.take_item spec on) so_far (map (λ (it : Vec ℕ Global). it.items) (take i items))) item
+taken-more spec on so_far items i found item within there is =
+    ap (keep (pool.take_item spec on) so_far) (one-more items i found item within there is) ∙ keep-push (pool.take_item spec on) so_far (bytes_of (take i items)) item
+
+pub taken-all : (spec : Specification) (on : List Block) (so_far : Assembly) (items : List (Vec ℕ Global)) (i : ℕ) → length items ≤ i
+    → keep (pool.take_item spec on) so_far (map (λ (it : Vec ℕ Global). it.items) items)
+    ≡ keep (pool.take_item spec on) so_far (map (λ (it : Vec ℕ Global). it.items) (take i items))
+taken-all spec on so_far items i past = ap (λ (these : List (Vec ℕ Global)). keep (pool.take_item spec on) so_far (bytes_of these)) (sym (take_all i items past))

@@ -4,7 +4,7 @@ use Rattle.std.specs.List.{list_any, AllByRecursion}
 use Rattle.std.specs.Str.{bytes_eq}
 use Rattle.std.specs.HashSet.{contains}
 use Rattle.codec_defs.specs.Shape.{encoded}
-use Rattle.codec_defs.specs.Schema.{OutPoint, Transaction, Block, transaction}
+use Rattle.codec_defs.specs.Schema.{OutPoint, Transaction, transaction}
 use Rattle.time_defs.specs.Specification.{Specification}
 use Rattle.chain_defs.specs.Branch.{branch}
 use Rattle.chain_defs.specs.Hashes.{transaction_hash, are_distinct}

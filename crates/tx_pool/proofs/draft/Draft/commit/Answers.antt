@@ -1,7 +1,5 @@
-use Rattle.std.proofs.Common.{◌≡◌, ◌+◌, ◌^◌, ◌<◌, ◌≤◌, ℕ, length, refl, sym, ap, ◌∙◌, arith, rules}
+use Rattle.std.proofs.Common.{◌≡◌, length, refl, ap, arith}
 use Rattle.std.proofs.lemmas.Int.{ints}
-use Rattle.codec_defs.specs.Shape.{encoded}
-use Rattle.codec_defs.specs.Schema as schema
 use Rattle.time_defs.specs.Specification.{Specification}
 use Rattle.block_judge.specs.Standing.{seen}
 use Rattle.block_judge.proofs.MovedLemmas.{interest-sum, can-move-more}
@@ -14,7 +12,7 @@ returns-then-self-size-clause-committed g c stored so_far is begins comes =
     let most : c.spec.inside.max_block_bytes ≡ c.args.context.now.spec.now.max_block_bytes = ap (λ (s : Specification). s.max_block_bytes) c.spec.view_is in
     let size = ap length c.bytes.ensures.encoding in
     commit-later stored (seen g.C.Cells.rows c.args.context.now) so_far (draft_of g.C.Cells.rows c.args.self.now) is c.requires.fits c.args.tx.now
-    (omega (arith, c.if-self-size.true, most, c.from.ensures, c.len.ensures, size))
+    (omega (arith, c.if-self-size.true, most, c.from.ensures, size))
 
 pub put-requires-clause-few : goal.put-requires-clause-few
 put-requires-clause-few g c =
@@ -50,7 +48,7 @@ returns-clause-fits g c =
     let sum = interest-sum (length c.args.self.now.transactions.items) c.put.new.self.interest c.args.passed.now.interest c.put.new.self.freed c.args.passed.now.freed
     (omega (arith, few, more)) can c.requires.moves in
     fits-committed (draft_of g.C.Cells.rows c.args.self.now) (draft_of g.C.Cells.rows c.put.new.self) _ _ c.args.tx.now _ c.spec.inside.max_block_bytes c.args.passed.now.cycles
-    c.requires.fits put refl (omega (arith, c.if-self-size.false, c.from.ensures, c.len.ensures, size)) (omega arith)
+    c.requires.fits put refl (omega (arith, c.if-self-size.false, c.from.ensures, size)) (omega arith)
     (can-move-more (length c.args.self.now.transactions.items) c.put.new.self.interest c.args.passed.now.interest _ c.put.new.self.freed c.args.passed.now.freed _
     can c.requires.moves sum refl)
 
@@ -66,6 +64,6 @@ returns-clause-committed g c stored so_far is begins comes =
     (omega (arith, few, more)) can c.requires.moves in
     so-far-as stored (seen g.C.Cells.rows c.args.context.now) _ _ _
     (commit-fits stored (seen g.C.Cells.rows c.args.context.now) so_far (draft_of g.C.Cells.rows c.args.self.now) is c.requires.fits c.args.tx.now
-    (omega (arith, c.if-self-size.false, most, c.from.ensures, c.len.ensures, size)))
+    (omega (arith, c.if-self-size.false, most, c.from.ensures, size)))
     (committed-so-far stored (seen g.C.Cells.rows c.args.context.now) so_far (draft_of g.C.Cells.rows c.args.self.now) is c.requires.fits c.args.tx.now c.len-e.result
     (draft_of g.C.Cells.rows c.put.new.self) _ c.args.passed.now c.requires.parent c.len-e.ensures.len put begins comes refl sum)

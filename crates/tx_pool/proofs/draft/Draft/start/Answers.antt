@@ -1,7 +1,5 @@
-use Rattle.std.proofs.Common.{◌≡◌, ◌<◌, ℕ, length, refl, sym, ap, ◌∙◌, arith}
-use Rattle.time_defs.specs.Specification.{Specification}
+use Rattle.std.proofs.Common.{arith}
 use Rattle.block_judge.specs.Standing.{seen}
-use Rattle.block_judge.proofs.NextLemmas.{few-cycles}
 use Rattle.tx_pool.specs.Draft.{draft_of}
 use Rattle.tx_pool.proofs.DraftLemmas.{canonical-size, fits-started, started-so-far}
 use Rattle.tx_pool.proofs.draft.Draft.start.Goals as goal

@@ -1,12 +1,10 @@
-use Rattle.std.proofs.Common.{◌≡◌, ◌+◌, ℕ, List, map, length, refl, sym, ap, ◌∙◌, subst, arith}
-use Rattle.std.proofs.lemmas.List.{length-map}
+use Rattle.std.proofs.Common.{length, ap, ◌∙◌, arith}
 use Rattle.outside.proofs.Endings.{no_answer}
 use Rattle.chain_defs.specs.Branch.{branch}
 use Rattle.chain_tree.specs.Told.{blocks_of}
 use Rattle.chain_tree.proofs.ReadLemmas.{unread, read_on}
 use Rattle.block_judge.proofs.Exits.{as_step}
 use Rattle.block_judge.specs.Standing.{seen}
-use Rattle.tx_pool.specs.Draft.{draft_of}
 use Rattle.tx_pool.proofs.DraftLemmas.{so-far-as, taken-more, taken-all}
 use Rattle.tx_pool.proofs.draft.Draft.take_items.Goals as goal
 
@@ -25,7 +23,11 @@ items-preserved g c = record {
   fits = c.in-Ok.ensures.fits;
   count = let more = c.in-Ok.ensures.lines in let count = c.items.invariant.count in omega (arith, more, count);
   within = let more = c.items-test.true in omega (arith, more);
-  taken = λ stored so_far tells proposed is. ?;
+  taken = λ stored so_far tells proposed is.
+      so-far-as stored (seen g.C.Cells.rows c.args.context.now) _ _ _
+      (taken-more c.args.context.now.spec.now (branch (blocks_of stored) c.args.context.now.parent) so_far c.args.items.now c.items.i c.index-items-i.result _
+      (omega (arith, c.items-test.true)) c.index-items-i.is c.deref.ensures.value)
+      (c.in-Ok.ensures.taken stored _ (c.items.invariant.read.told ∙ tells) proposed (c.items.invariant.taken stored so_far tells proposed is));
 }
 
 pub returns-in-Err : goal.returns-in-Err
@@ -43,9 +45,8 @@ returns g c = record {
   fits = c.items.invariant.fits;
   taken = λ stored so_far tells proposed is.
       let past = c.items-test.false in
-      let long = length-map (λ item. item.items) c.args.items.now in
       so-far-as stored (seen g.C.Cells.rows c.args.context.now) _ _ _
-      (taken-all c.args.context.now.spec.now (branch (blocks_of stored) c.args.context.now.parent) so_far (map (λ item. item.items) c.args.items.now) c.items.i (omega (arith, past, long)))
+      (taken-all c.args.context.now.spec.now (branch (blocks_of stored) c.args.context.now.parent) so_far c.args.items.now c.items.i (omega (arith, past)))
       (c.items.invariant.taken stored so_far tells proposed is);
   undamaged = λ stored so_far tells proposed is damage same. absurd (no_answer _ _ same);
 }

@@ -20,6 +20,6 @@ invariant-items g l = record {
       → AreProposed l.context.spec.now (branch (blocks_of stored) l.context.parent) l.proposed
       → IsSoFar stored (seen g.C.Cells.rows l.context) so_far (draft_of g.C.Cells.rows l.fn.self)
       → IsSoFar stored (seen g.C.Cells.rows l.context)
-      (keep (pool.take_item l.context.spec.now (branch (blocks_of stored) l.context.parent)) so_far (take l.i (map (λ item. item.items) l.items)))
+      (keep (pool.take_item l.context.spec.now (branch (blocks_of stored) l.context.parent)) so_far (map (λ item. item.items) (take l.i l.items)))
       (draft_of g.C.Cells.rows l.self);
 }
