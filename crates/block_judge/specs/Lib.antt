@@ -2,5 +2,6 @@ pub mod Standing
 pub mod Stops
 pub mod ByRows
 pub mod Changes
+pub mod BlockCells
 pub mod Progress
 pub mod Appending

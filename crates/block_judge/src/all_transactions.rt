@@ -22,6 +22,7 @@ ghost use Rattle.reward_defs.specs.Field.{freed_by, freed_from, interest_from};
 ghost use Rattle.rule_names.specs.Number.{rule_number};
 ghost use Rattle.rule_names.specs.declared.rule.Rule.{Rule};
 ghost use Rattle.block_judge.specs.declared.stop.JudgeStop.TheVariants.{Broken, Read};
+ghost use Rattle.block_judge.specs.BlockCells.{rows_in};
 ghost use Rattle.block_judge.specs.Progress.{AreProposed, CanMove};
 ghost use Rattle.block_judge.specs.Standing.{IsTriedOnTransaction, StandsFor, seen};
 ghost use Rattle.block_judge.specs.Stops.{read_stop_of};
@@ -94,7 +95,7 @@ impl<'a, C: Cells> Progress<'a, C> {
         ensures interest { IfOk result (λ progress. progress.interest ≡ pos 0) }
         ensures freed { IfOk result (λ progress. progress.freed ≡ 0) }
         ensures rows { IfOk result (λ progress. (height : ℕ) (o : OutPoint) → 0 < height
-            → progress.cells o ≡ row_after (length at.now.entries) (events_of cellbase.now height 0) (C.rows cells.now) o) }
+            → rows_in C.rows progress.cells o ≡ row_after (length at.now.entries) (events_of cellbase.now height 0) (C.rows cells.now) o) }
     {
         let spec = at.spec;
         let mut cells = BlockCells::of(alloc, cells);
@@ -133,7 +134,7 @@ impl<'a, C: Cells> Progress<'a, C> {
         ensures fees { OnOk result (self.new.ext.fees ≡ self.old.ext.fees ++ passed.now.fee ∷ []) }
         ensures spent { OnOk result (self.new.ext.spent ≡ self.old.ext.spent ++ filter (λ it. nat_lt it.1.block e) (map row_in passed.now.inputs.items)) }
         ensures rows { OnOk result ((height : ℕ) (o : OutPoint) → 0 < height
-            → self.new.cells o ≡ row_after e (events_of tx.now height place) self.old.cells o) }
+            → rows_in C.rows self.new.cells o ≡ row_after e (events_of tx.now height place) (rows_in C.rows self.old.cells) o) }
     {
         self.cells.take(tx, hash, place, e)?;
         push_ext(&mut self.ext, passed, e)?;
@@ -166,32 +167,32 @@ impl<'a, C: Cells> Progress<'a, C> {
         ensures moved { OnOk result (CanMove (place + 1) self.new.interest self.new.freed) }
         ensures fees { OnOk result (length self.new.ext.fees ≡ length self.old.ext.fees + 1) }
         ensures rows { OnOk result ((height : ℕ) (o : OutPoint) → 0 < height
-            → self.new.cells o ≡ row_after (length at.now.entries) (events_of tx.now height place) self.old.cells o) }
+            → rows_in C.rows self.new.cells o ≡ row_after (length at.now.entries) (events_of tx.now height place) (rows_in C.rows self.old.cells) o) }
 
         // At the site that its cells make.
         ensures broken { (stored : List Stored) (site : Site) → B.told blocks.old ≡ Some stored
-            → IsSiteOf stored at.now self.old.cells site → AreProposed site.spec site.branch proposed.now
+            → IsSiteOf stored at.now (rows_in C.rows self.old.cells) site → AreProposed site.spec site.branch proposed.now
             → (rule : Rule) → result ≡ Err (Broken rule) → first_failing (transaction_rules site self.old.left tx.now) ≡ Some (rule_number rule) }
         ensures unbroken { (stored : List Stored) (site : Site) → B.told blocks.old ≡ Some stored
-            → IsSiteOf stored at.now self.old.cells site → AreProposed site.spec site.branch proposed.now
+            → IsSiteOf stored at.now (rows_in C.rows self.old.cells) site → AreProposed site.spec site.branch proposed.now
             → OnOk result (first_failing (transaction_rules site self.old.left tx.now) ≡ None) }
         ensures cycles { (stored : List Stored) (site : Site) → B.told blocks.old ≡ Some stored
-            → IsSiteOf stored at.now self.old.cells site
+            → IsSiteOf stored at.now (rows_in C.rows self.old.cells) site
             → OnOk result (self.new.left ≡ left_after site self.old.left tx.now) }
         ensures fee { (stored : List Stored) (site : Site) → B.told blocks.old ≡ Some stored
-            → IsSiteOf stored at.now self.old.cells site
+            → IsSiteOf stored at.now (rows_in C.rows self.old.cells) site
             → OnOk result (self.new.ext.fees ≡ self.old.ext.fees ++ capacity.fee site tx.now ∷ []) }
         ensures spends { (stored : List Stored) (site : Site) → B.told blocks.old ≡ Some stored
-            → IsSiteOf stored at.now self.old.cells site
+            → IsSiteOf stored at.now (rows_in C.rows self.old.cells) site
             → OnOk result (self.new.ext.spent ≡ self.old.ext.spent ++ rows_spent (blocks_of stored) at.now.parent site tx.now) }
         ensures interest { (stored : List Stored) (site : Site) → B.told blocks.old ≡ Some stored
-            → IsSiteOf stored at.now self.old.cells site
+            → IsSiteOf stored at.now (rows_in C.rows self.old.cells) site
             → OnOk result (self.new.interest ≡ self.old.interest +ℤ capacity.interest site tx.now) }
         ensures freed { (stored : List Stored) (site : Site) → B.told blocks.old ≡ Some stored
-            → IsSiteOf stored at.now self.old.cells site
+            → IsSiteOf stored at.now (rows_in C.rows self.old.cells) site
             → OnOk result (self.new.freed ≡ self.old.freed + freed_by site tx.now) }
         ensures undamaged { (stored : List Stored) (site : Site) → B.told blocks.old ≡ Some stored
-            → IsSiteOf stored at.now self.old.cells site
+            → IsSiteOf stored at.now (rows_in C.rows self.old.cells) site
             → (damage : Damage) → result ≡ Err (Read (Damaged damage)) → ⊥ }
     {
         let is_proposed = proposed.contains(&proposal_id(hash));

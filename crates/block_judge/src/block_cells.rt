@@ -4,37 +4,26 @@ ghost use Rattle.codec_defs.specs.Schema as schema;
 ghost use Rattle.cell_defs.specs.Events.{events_of};
 ghost use Rattle.cell_defs.specs.Row.{row_after};
 ghost use Rattle.chain_defs.specs.Hashes.{transaction_hash};
+ghost use Rattle.block_judge.specs.BlockCells.{rows_in};
 
 use crate::changes::Changes;
 use cell_model::{CellMeta, Cells, OutPoint};
 use mol_schema::TxView;
 use outside::NoMemory;
 use std::alloc::Global;
-use std::marker::Model;
 
-/// The cells of a branch, and beside them what the transactions of a block made and spent so far. Clauses see their rows:
-/// those of the branch with what was changed.
+/// The cells of a branch, and beside them what the transactions of a block made and spent so far. Their rows are
+/// `rows_in` of the definitions: those of the branch with what was changed.
 #[derive(Drop)]
 pub struct BlockCells<'a, C: Cells> {
     base: &'a C,
     changed: Changes,
 }
 
-impl<'a, C: Cells> Model for BlockCells<'a, C> {
-    ghost use Rattle.std.specs.Prelude.{Option};
-    ghost use Rattle.codec_defs.specs.Schema as schema;
-    ghost use Rattle.cell_defs.specs.Row.{Row};
-    ghost use Rattle.block_judge.specs.Changes.{with_changes};
-
-    ghost Value = { schema.OutPoint → Option Row };
-
-    ghost view = { λ cells. with_changes cells.changed (C.rows cells.base.now) };
-}
-
 impl<'a, C: Cells> BlockCells<'a, C> {
     /// Those of the branch.
     pub fn of(alloc: Global, base: &'a C) -> BlockCells<'a, C>
-        ensures rows { (o : schema.OutPoint) → result o ≡ C.rows base.now o }
+        ensures rows { (o : schema.OutPoint) → rows_in C.rows result o ≡ C.rows base.now o }
     {
         BlockCells {
             base,
@@ -53,7 +42,7 @@ impl<'a, C: Cells> BlockCells<'a, C> {
     ) -> Result<(), NoMemory>
         requires hash { hash.now ≡ transaction_hash tx.now }
         ensures rows { OnOk result ((height : ℕ) (o : schema.OutPoint) → 0 < height
-            → self.new o ≡ row_after e (events_of tx.now height place) self.old o) }
+            → rows_in C.rows self.new o ≡ row_after e (events_of tx.now height place) (rows_in C.rows self.old) o) }
     {
         let is_cellbase = place == 0;
         if !is_cellbase {
@@ -64,7 +53,7 @@ impl<'a, C: Cells> BlockCells<'a, C> {
 }
 
 impl<'a, C: Cells> Cells for BlockCells<'a, C> {
-    ghost rows = { λ cells. cells };
+    ghost rows = { rows_in C.rows };
 
     fn get(&self, o: &OutPoint) -> Option<CellMeta> {
         match self.changed.get(o) {

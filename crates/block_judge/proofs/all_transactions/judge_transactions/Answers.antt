@@ -7,6 +7,7 @@ use Rattle.chain_tree.specs.Told.{Stored, blocks_of}
 use Rattle.tx_defs.specs.Site.{Site, site_at}
 use Rattle.tx_rules.specs.At.{AtValue}
 use Rattle.rule_names.specs.Number.{rule_number}
+use Rattle.block_judge.specs.BlockCells.{rows_in}
 use Rattle.block_judge.specs.Standing.{Stands}
 use Rattle.block_judge.proofs.MovedLemmas.{can-move-none, moved-none, moved-more, moved-all}
 use Rattle.chain_tree.proofs.ReadLemmas.{unread, read_on, read_short}
@@ -91,14 +92,14 @@ later-preserved g c = record {
   moves = c.in-Ok-judge_next.ensures.moved;
   fees = omega (arith, c.in-Ok-judge_next.ensures.fees, c.later.invariant.fees);
   rows = rows-after_more _ c.args.block.now c.later.place c.transactions_item-tx.result (g.C.Cells.rows c.args.context.now.cells.now)
-      c.later.progress.cells _
+      (rows_in g.C.Cells.rows c.later.progress.cells) _
       c.later.invariant.rows c.transactions_item-tx.ensures (λ height o above. c.in-Ok-judge_next.ensures.rows height o above);
   judged = λ stored tells stands.
-      let at : AtValue = record { spec = c.args.context.now.spec.now; entries = c.args.context.now.tree.now.entries; parent = c.args.context.now.parent; block = Some c.from_encoding.result } in
+      let at : AtValue = record { spec = c.args.context.now.spec.now; entries = c.args.context.now.tree.now.entries; parent = c.args.context.now.parent; block = Some c.of_block.result } in
       let site : Site = site_at c.args.context.now.spec.now (branch (blocks_of stored) c.args.context.now.parent) c.args.block.now c.later.place in
       let is = site-in_block stored at c.args.block.now c.later.place (g.C.Cells.rows c.args.context.now.cells.now)
-      c.later.progress.cells
-      (ap Some (c.from_encoding.ensures c.args.block.now c.bytes.ensures)) c.requires.parent stands c.later.invariant.rows in
+      (rows_in g.C.Cells.rows c.later.progress.cells)
+      (ap Some (c.of_block.ensures ∙ c.from_encoding.ensures c.args.block.now c.bytes.ensures)) c.requires.parent stands c.later.invariant.rows in
       let proposed = proposed-here c.args.context.now.spec.now (branch (blocks_of stored) c.args.context.now.parent) c.in-Ok.proposed c.height.result
       (c.in-Ok.ensures.proposed stored tells stands.indexed) (c.height.ensures.height stored _ site is) in
       judged-more c.args.context.now.spec.now (blocks_of stored) c.args.context.now.parent c.args.block.now c.later.place c.later.progress.left c.judge_next.new.self.left
@@ -108,11 +109,11 @@ later-preserved g c = record {
       (c.in-Ok-judge_next.ensures.fee stored site (c.later.invariant.read.told ∙ tells) is)
       (c.in-Ok-judge_next.ensures.spends stored site (c.later.invariant.read.told ∙ tells) is);
   moved = λ stored tells stands.
-      let at : AtValue = record { spec = c.args.context.now.spec.now; entries = c.args.context.now.tree.now.entries; parent = c.args.context.now.parent; block = Some c.from_encoding.result } in
+      let at : AtValue = record { spec = c.args.context.now.spec.now; entries = c.args.context.now.tree.now.entries; parent = c.args.context.now.parent; block = Some c.of_block.result } in
       let site : Site = site_at c.args.context.now.spec.now (branch (blocks_of stored) c.args.context.now.parent) c.args.block.now c.later.place in
       let is = site-in_block stored at c.args.block.now c.later.place (g.C.Cells.rows c.args.context.now.cells.now)
-      c.later.progress.cells
-      (ap Some (c.from_encoding.ensures c.args.block.now c.bytes.ensures)) c.requires.parent stands c.later.invariant.rows in
+      (rows_in g.C.Cells.rows c.later.progress.cells)
+      (ap Some (c.of_block.ensures ∙ c.from_encoding.ensures c.args.block.now c.bytes.ensures)) c.requires.parent stands c.later.invariant.rows in
       moved-more c.args.context.now.spec.now (branch (blocks_of stored) c.args.context.now.parent) c.args.block.now c.later.place c.transactions_item-tx.result
       c.later.progress.interest c.judge_next.new.self.interest c.later.progress.freed c.judge_next.new.self.freed (c.later.invariant.moved stored tells stands)
       c.transactions_item-tx.ensures (c.in-Ok-judge_next.ensures.interest stored site (c.later.invariant.read.told ∙ tells) is)
@@ -121,15 +122,15 @@ later-preserved g c = record {
 
 pub returns-in-Err-judge_next : goal.returns-in-Err-judge_next
 returns-in-Err-judge_next g c =
-    let at : AtValue = record { spec = c.args.context.now.spec.now; entries = c.args.context.now.tree.now.entries; parent = c.args.context.now.parent; block = Some c.from_encoding.result } in record {
+    let at : AtValue = record { spec = c.args.context.now.spec.now; entries = c.args.context.now.tree.now.entries; parent = c.args.context.now.parent; block = Some c.of_block.result } in record {
       read = read_on c.later.invariant.read c.in-Err-judge_next.ensures.read;
       rule = λ rule same. c.in-Err-judge_next.ensures.rule rule (as_step same);
       fees = tt;
       broken = λ stored tells stands rule same.
           let site : Site = site_at c.args.context.now.spec.now (branch (blocks_of stored) c.args.context.now.parent) c.args.block.now c.later.place in
           let is = site-in_block stored at c.args.block.now c.later.place (g.C.Cells.rows c.args.context.now.cells.now)
-          c.later.progress.cells
-          (ap Some (c.from_encoding.ensures c.args.block.now c.bytes.ensures)) c.requires.parent stands c.later.invariant.rows in
+          (rows_in g.C.Cells.rows c.later.progress.cells)
+          (ap Some (c.of_block.ensures ∙ c.from_encoding.ensures c.args.block.now c.bytes.ensures)) c.requires.parent stands c.later.invariant.rows in
           let proposed = proposed-here c.args.context.now.spec.now (branch (blocks_of stored) c.args.context.now.parent) c.in-Ok.proposed c.height.result
           (c.in-Ok.ensures.proposed stored tells stands.indexed) (c.height.ensures.height stored _ site is) in
           judged-breaks c.args.context.now.spec.now (blocks_of stored) c.args.context.now.parent c.args.block.now c.later.place c.later.progress.left c.later.progress.ext
@@ -142,8 +143,8 @@ returns-in-Err-judge_next g c =
       undamaged = λ stored tells stands damage same.
           let site : Site = site_at c.args.context.now.spec.now (branch (blocks_of stored) c.args.context.now.parent) c.args.block.now c.later.place in
           let is = site-in_block stored at c.args.block.now c.later.place (g.C.Cells.rows c.args.context.now.cells.now)
-          c.later.progress.cells
-          (ap Some (c.from_encoding.ensures c.args.block.now c.bytes.ensures)) c.requires.parent stands c.later.invariant.rows in
+          (rows_in g.C.Cells.rows c.later.progress.cells)
+          (ap Some (c.of_block.ensures ∙ c.from_encoding.ensures c.args.block.now c.bytes.ensures)) c.requires.parent stands c.later.invariant.rows in
           c.in-Err-judge_next.ensures.undamaged stored site (c.later.invariant.read.told ∙ tells) is damage (as_step same);
     }
 

@@ -3,6 +3,7 @@ use Rattle.chain_defs.specs.Branch.{branch}
 use Rattle.chain_tree.specs.Told.{Stored, blocks_of}
 use Rattle.chain_tree.specs.Reading.{HasRead}
 use Rattle.block_judge.specs.Progress.{CanMove}
+use Rattle.block_judge.specs.BlockCells.{rows_in}
 use Rattle.block_judge.specs.Standing.{Stands}
 use Rattle.block_judge.proofs.SiteLemmas.{AreRowsAfter}
 use Rattle.block_judge.proofs.MovedLemmas.{IsMovedTo}
@@ -18,7 +19,7 @@ invariant-later g l = record {
   moves : CanMove l.place l.progress.interest l.progress.freed;
   within : l.place ≤ length l.block.transactions;
   fees : length l.progress.ext.fees + 1 ≡ l.place;
-  rows : AreRowsAfter (length l.context.tree.now.entries) l.block l.place (g.C.Cells.rows l.context.cells.now) l.progress.cells;
+  rows : AreRowsAfter (length l.context.tree.now.entries) l.block l.place (g.C.Cells.rows l.context.cells.now) (rows_in g.C.Cells.rows l.progress.cells);
   judged : (stored : List Stored) → g.B.Blocks.told l.fn.blocks ≡ Some stored → Stands stored l.context.tree.now.entries l.context.parent (g.C.Cells.rows l.context.cells.now)
       → IsJudgedTo l.context.spec.now (blocks_of stored) l.context.parent l.block l.place l.progress.left l.progress.ext;
   moved : (stored : List Stored) → g.B.Blocks.told l.fn.blocks ≡ Some stored → Stands stored l.context.tree.now.entries l.context.parent (g.C.Cells.rows l.context.cells.now)
