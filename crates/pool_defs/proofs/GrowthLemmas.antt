@@ -1,18 +1,18 @@
 -- What J9, J10 and J16 ask of a block with one transaction or one proposal id more.
-use Rattle.std.proofs.Common.{◌≡◌, ℕ, ◌+◌, ◌-◌, ◌*◌, ◌<◌, Bool, true, false, List, [], ◌∷◌, ◌++◌, length, map, replicate, Option, Some, None, refl, sym, ap, ◌∙◌, true≢false, arith}
+use Rattle.std.proofs.Common.{◌≡◌, ℕ, ◌+◌, ◌-◌, ◌*◌, ◌<◌, Bool, true, false, List, [], ◌∷◌, ◌++◌, length, map, Option, Some, None, refl, sym, ap, ◌∙◌, true≢false, arith}
 use Rattle.std.specs.Prelude.{◌&&◌, ◌||◌, not, nat_le, sum_by}
 use Rattle.std.specs.Str.{bytes_eq}
 use Rattle.std.specs.Int.{w128, to_le_bytes}
 use Rattle.std.specs.List.{concat, list_any, AllByRecursion}
 use Rattle.std.proofs.lemmas.Bool.{false_from_ne_true}
 use Rattle.std.proofs.lemmas.Slice.Eq.{bytes_eq-Decides}
-use Rattle.std.proofs.lemmas.List.{length-append, length-map, length_push}
+use Rattle.std.proofs.lemmas.List.{length-append, length_push}
 use Rattle.std.proofs.lemmas.List.Folds.{list_any-append}
 use Rattle.std.proofs.lemmas.List.Sums.{sum_by-cons, sum_by_push}
 use Rattle.codec_defs.specs.Molecule as molecule
 use Rattle.codec_defs.specs.Shape.{encoded, parts, dynvec, fixvec}
 use Rattle.codec_defs.specs.Schema.{Transaction, transaction, Header, header, UncleBlock, uncle_block, Block, block, proposal_short_id}
-use Rattle.codec_defs.proofs.MoleculeLaws.{length-dynvec, length-fixvec, length-concat}
+use Rattle.codec_defs.proofs.MoleculeLaws.{length-dynvec, length-fixvec}
 use Rattle.fit_laws.proofs.HashLemmas.{hashes-have-32}
 use Rattle.time_defs.specs.Specification.{Specification}
 use Rattle.chain_defs.specs.Kept.{header_hash}
@@ -60,7 +60,7 @@ pub length-block : (b : Block) → b.uncles ≡ [] → length (encoded header b.
     → length (encoded block b) ≡ size_with b.transactions b.proposals
 unfolding block molecule.full_size molecule.header_size size_with
 length-block b none head each =
-    let uncles : length (encoded (dynvec uncle_block) b.uncles) ≡ 4 = ap (λ (list : List UncleBlock). length (encoded (dynvec uncle_block) list)) none ∙ refl in
+    let uncles : length (encoded (dynvec uncle_block) b.uncles) ≡ 4 = ap (λ (list : List UncleBlock). length (encoded (dynvec uncle_block) list)) none ∙ length-dynvec [] in
     let txs = length-transactions b.transactions in
     let ids = length-ids b.proposals each in
     let last = length-append (encoded (fixvec 10 proposal_short_id) b.proposals) [] in
@@ -77,15 +77,15 @@ parent-hash-32 (Some b) = hashes-have-32 _
 
 header-length : (spec : Specification) (on : List Block) → length (encoded header (header_after spec on)) ≡ 208
 unfolding header header_after zero_bytes
-header-length spec on = 
+header-length spec on =
     omega (arith, length-append (hash_of_parent (parent_of on)) (zero_bytes ++ (zero_bytes ++ (zero_bytes ++ (zero_bytes ++ (to_le_bytes w128 0 ++ []))))), parent-hash-32 (parent_of on))
 
 -- J9 counts all bytes of a block with no uncles.
 pub counted-size : (spec : Specification) (on : List Block) (b : Block) → b.header ≡ header_after spec on → b.uncles ≡ []
     → AllByRecursion (λ id. length id ≡ 10) b.proposals → counted_length b ≡ size_with b.transactions b.proposals
 counted-size spec on b head none each =
-    ap (λ (list : List UncleBlock). length (encoded block b) - 10 * sum_by (λ uncle. length uncle.proposals) list) none
-    ∙ length-block b none (ap (λ (h : Header). length (encoded header h)) head ∙ header-length spec on) each
+    let size = length-block b none (ap (λ (h : Header). length (encoded header h)) head ∙ header-length spec on) each in
+    ap (λ (list : List UncleBlock). length (encoded block b) - 10 * sum_by (λ uncle. length uncle.proposals) list) none ∙ omega (arith, size)
 
 -- ---- Lists with no value twice
 

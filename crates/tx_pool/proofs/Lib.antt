@@ -1,3 +1,5 @@
+pub mod CellbaseLemmas
+pub mod SealingLemmas
 pub mod GrownLemmas
 pub mod DraftLemmas
 pub mod SightLemmas
