@@ -210,16 +210,9 @@ impl<'c, 'a, C: Cells> Draft<'c, 'a, C> {
         ensures undamaged { (stored : List Stored) (so_far : pool.Assembly) → B.told blocks.old ≡ Some stored
             → IsSoFar stored (seen C.rows context.now) so_far (draft_of C.rows self.old) → (damage : Damage) → result ≡ Err (Damaged damage) → ⊥ }
     {
-        let at = Context {
-            spec: context.spec,
-            tree: context.tree,
-            uncles: context.uncles,
-            cells: context.cells,
-            parent: context.parent,
-        };
         let passed = match judge_appended(
             alloc,
-            &at,
+            context,
             &self.transactions,
             &self.cells,
             blocks,
