@@ -84,7 +84,7 @@ impl<'a, C: Cells> Progress<'a, C> {
         alloc: Global,
         cellbase: &TxView<'_>,
         hash: &[u8; 32],
-        at: &TxAt<'_>,
+        at: &TxAt<'_, '_, '_>,
         cells: &'a C,
     ) -> Result<Progress<'a, C>, NoMemory>
         requires hash { hash.now ≡ transaction_hash cellbase.now }
@@ -150,7 +150,7 @@ impl<'a, C: Cells> Progress<'a, C> {
         alloc: Global,
         tx: &TxView<'_>,
         hash: &[u8; 32],
-        at: &TxAt<'_>,
+        at: &TxAt<'_, '_, '_>,
         proposed: &Proposed,
         blocks: &mut B,
         place: u32,

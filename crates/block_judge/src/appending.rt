@@ -35,10 +35,10 @@ use tx_rules::{Own, TxAt};
 /// Judges a transaction, which comes with its hash, as the next one of a block on the context's parent that has these so far,
 /// the cellbase first, within so many cycles: by J18 and J20 to J30. The cells are those that it sees, as [`BlockCells`](crate::BlockCells) has them.
 /// Damaged as `judge` is.
-pub fn judge_appended<'a, C: Cells, S: Cells, B: Blocks>(
+pub fn judge_appended<C: Cells, S: Cells, B: Blocks>(
     alloc: Global,
-    context: &Context<'a, C>,
-    so_far: &'a [TxView<'a>],
+    context: &Context<'_, C>,
+    so_far: &[TxView<'_>],
     cells: &S,
     blocks: &mut B,
     tx: &TxView<'_>,

@@ -52,7 +52,7 @@ fn stopped(stop: ScriptStop) -> JudgeStop
 /// Runs the scripts of a transaction that was resolved, within so many cycles, and answers those that they take.
 pub(crate) fn run_scripts<B: Blocks>(
     alloc: Global,
-    at: &TxAt<'_>,
+    at: &TxAt<'_, '_, '_>,
     resolved: &ResolvedTx<'_>,
     blocks: &mut B,
     left: u64,

@@ -72,7 +72,7 @@ pub(crate) fn judge_transaction<C: Cells, B: Blocks>(
     alloc: Global,
     tx: &TxView<'_>,
     hash: [u8; 32],
-    at: &TxAt<'_>,
+    at: &TxAt<'_, '_, '_>,
     proposed: bool,
     cells: &C,
     blocks: &mut B,

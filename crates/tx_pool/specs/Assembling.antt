@@ -1,12 +1,14 @@
 -- What is assembled, as the code answers it.
 use Rattle.std.specs.Prelude.{◌≡◌, ℕ, ◌≤◌, ◌^◌, List, length}
 use Rattle.std.specs.List.{All}
-use Rattle.codec_defs.specs.Shape.{encoded}
+use Rattle.codec_defs.specs.Shape.{IsA, encoded}
 use Rattle.codec_defs.specs.Schema as schema
 use Rattle.codec_defs.specs.Schema.{Block}
 use Rattle.time_defs.specs.Specification.{Specification}
 use Rattle.verdict_defs.specs.Chain.{Chain}
+use Rattle.pool_defs.specs.Start.{sealed}
 use Rattle.pool_defs.specs.Assembly as pool
+use Rattle.pool_defs.specs.declared.line.Line.{Line}
 use Rattle.tx_pool.specs.declared.assembling.Assembled.{Assembled}
 
 -- an answer is what is assembled
@@ -14,6 +16,11 @@ pub record IsAssembled (all : pool.Assembled) (made : Assembled) : Type 0 where
   pub lines_are : made.lines.items ≡ all.lines
   pub block_is : made.block.items ≡ encoded schema.block all.block
   pub broken_is : made.broken ≡ all.broken
+
+-- Lines and the bytes of a block are what the items came to after a branch.
+pub record IsMade (spec : Specification) (on : List Block) (all : pool.Assembly) (lines : List Line) (bytes : List ℕ) : Type 0 where
+  pub lines_are : lines ≡ all.lines
+  pub block_is : IsA schema.block bytes (sealed spec on all.block)
 
 abbrev pub chain_on : Specification → List Block → Chain
 chain_on spec blocks = record { spec = spec; blocks = blocks }

@@ -1,1 +1,3 @@
 pub mod Assembling
+pub mod Draft
+pub mod Sealing

@@ -1,29 +1,35 @@
 // A block that is assembled.
-ghost use Rattle.std.specs.Prelude.{◌≡◌, ◌<◌, ◌≤◌, ◌==◌, ◌^◌, ℕ, List, map, length, Some, None, Err, IfOk, IsTrue};
+ghost use Rattle.std.specs.Prelude.{◌≡◌, ◌==◌, ◌<◌, ◌≤◌, ◌^◌, ℕ, List, Option, length, map, is_some, if◌then◌else◌, Some, None, Err, IfOk, IsTrue};
 ghost use Rattle.std.specs.List.{All, list_any};
 ghost use Rattle.outside.specs.declared.disk.Damage.{Damage};
 ghost use Rattle.outside.specs.declared.disk.ReadStop.TheVariants.{Damaged};
 ghost use Rattle.codec_defs.specs.Schema as schema;
-ghost use Rattle.codec_defs.specs.Shape.{encoded};
-ghost use Rattle.chain_defs.specs.Kept.{block_hash, kept_limit};
+ghost use Rattle.codec_defs.specs.Shape.{IsA, encoded};
+ghost use Rattle.chain_defs.specs.Kept.{block_hash, kept_limit, place_of};
+ghost use Rattle.chain_defs.specs.Branch.{branch};
 ghost use Rattle.chain_defs.specs.Tip.{tip_place};
 ghost use Rattle.chain_tree.specs.Told.{Stored, blocks_of};
 ghost use Rattle.chain_tree.specs.Reading.{HasRead, stop_of};
 ghost use Rattle.chain_tree.specs.Blocks.{AreRated};
+ghost use Rattle.block_defs.specs.Rules.{first_broken};
 ghost use Rattle.block_judge.specs.Standing.{StandsForAll, seen};
 ghost use Rattle.verdict_defs.specs.Chain.{verdict_over};
 ghost use Rattle.verdict_defs.specs.declared.verdict.Verdict.TheVariants.{Joined};
-ghost use Rattle.pool_defs.specs.Assembly.{assembled};
+ghost use Rattle.pool_defs.specs.Assembly as pool;
 ghost use Rattle.pool_defs.specs.Laws.{breakable};
-ghost use Rattle.tx_pool.specs.Assembling.{IsAssembled, chain_on, most_items, most_bytes};
+ghost use Rattle.tx_pool.specs.Assembling.{IsAssembled, IsMade, chain_on, most_items, most_bytes};
 
-use crate::open::rt_open;
-use block_judge::Context;
+use crate::cellbase::cellbase_after;
+use crate::draft::Draft;
+use crate::sealing::sealed;
+use blake2b_ckb::ckbhash;
+use block_judge::{Context, JudgeStop, NoCells, judge, judge_at_sight};
 use cell_model::Cells;
 use chain_tree::Blocks;
-use mol_schema::CellbaseWitnessView;
+use mol_schema::{BlockView, CellbaseWitnessView};
 use outside::ReadStop;
 use pool_defs::Line;
+use proposal_window::Proposed;
 use std::alloc::Global;
 
 /// A block that was assembled: what became of each item, its bytes, and the first rule that it breaks.
@@ -34,15 +40,138 @@ pub struct Assembled {
     pub broken: Option<u8>,
 }
 
+/// The hash of a block.
+#[tactic(auto, unfolding(chain_defs::specs::Kept::header_hash))]
+fn hash_of(block: &BlockView<'_>) -> [u8; 32]
+    ensures { result ≡ block_hash block.now }
+{
+    ckbhash(block.header().bytes())
+}
+
+/// The first rule that a block on the context's parent breaks, J2 first.
+fn broken_by<C: Cells, B: Blocks>(
+    alloc: Global,
+    context: &Context<'_, C>,
+    blocks: &mut B,
+    block: &BlockView<'_>,
+) -> Result<Option<u8>, ReadStop>
+    requires parent { context.now.parent < length context.now.tree.now.entries }
+    requires few { length context.now.tree.now.entries < 2 ^ 24 }
+    requires rated { AreRated context.now.tree.now.entries }
+    requires counts { B.count blocks.old ≡ length context.now.tree.now.entries }
+    ensures read { HasRead B.told B.count B.loans_of B.faults B.damages blocks.old blocks.new (stop_of result) }
+    ensures broken { (stored : List Stored) → B.told blocks.old ≡ Some stored → StandsForAll stored (seen C.rows context.now)
+        → IfOk result (λ broken. broken ≡ (if is_some (place_of (blocks_of stored) (block_hash block.now)) then Some 2
+        else first_broken context.now.spec.now (branch (blocks_of stored) context.now.parent) block.now)) }
+    ensures undamaged { (stored : List Stored) → B.told blocks.old ≡ Some stored → StandsForAll stored (seen C.rows context.now)
+        → (damage : Damage) → result ≡ Err (Damaged damage) → ⊥ }
+{
+    if context.tree.find(&hash_of(block)).is_some() {
+        return Ok(Some(2));
+    }
+    let at_sight = Context {
+        spec: context.spec,
+        tree: context.tree,
+        uncles: context.uncles,
+        cells: &NoCells,
+        parent: context.parent,
+    };
+    let hashes = match judge_at_sight(alloc, &at_sight, block) {
+        Ok(hashes) => hashes,
+        Err(JudgeStop::Broken(rule)) => return Ok(Some(rule.number())),
+        Err(JudgeStop::Read(stop)) => return Err(stop),
+    };
+    match judge(alloc, context, blocks, block, &hashes) {
+        Ok(_) => Ok(None),
+        Err(JudgeStop::Broken(rule)) => Ok(Some(rule.number())),
+        Err(JudgeStop::Read(stop)) => Err(stop),
+    }
+}
+
+/// What becomes of each item, and the bytes of the block.
+fn make_block<C: Cells, B: Blocks>(
+    alloc: Global,
+    context: &Context<'_, C>,
+    blocks: &mut B,
+    witness: &CellbaseWitnessView<'_>,
+    items: &[Vec<u8>],
+) -> Result<(Vec<Line>, Vec<u8>), ReadStop>
+    requires parent { context.now.parent < length context.now.tree.now.entries }
+    requires few { length context.now.tree.now.entries < 2 ^ 24 }
+    requires rated { AreRated context.now.tree.now.entries }
+    requires counts { B.count blocks.old ≡ length context.now.tree.now.entries }
+    requires items { length items.now ≤ most_items }
+    requires bytes { All (λ item. length item.items ≤ most_bytes) items.now }
+    requires witness { length (encoded schema.cellbase_witness witness.now) ≤ most_bytes }
+    ensures read { HasRead B.told B.count B.loans_of B.faults B.damages blocks.old blocks.new (stop_of result) }
+    ensures canonical { IfOk result (λ made. (b : schema.Block) × IsA schema.block made.1.items b) }
+    ensures made { (stored : List Stored) → B.told blocks.old ≡ Some stored → StandsForAll stored (seen C.rows context.now)
+        → IfOk result (λ made. IsMade context.now.spec.now (branch (blocks_of stored) context.now.parent)
+        (pool.assembly context.now.spec.now (branch (blocks_of stored) context.now.parent) witness.now (map (λ item. item.items) items.now)) made.0.items made.1.items) }
+    ensures undamaged { (stored : List Stored) → B.told blocks.old ≡ Some stored → StandsForAll stored (seen C.rows context.now)
+        → (damage : Damage) → result ≡ Err (Damaged damage) → ⊥ }
+{
+    let cellbase = match cellbase_after(
+        alloc,
+        context.spec,
+        context.tree,
+        blocks,
+        context.parent,
+        witness,
+    ) {
+        Ok(cellbase) => cellbase,
+        Err(stop) => return Err(stop),
+    };
+    let height = context.tree.entry(context.parent).number + 1;
+    let proposed = match Proposed::of(
+        alloc,
+        context.spec,
+        context.tree,
+        blocks,
+        context.parent,
+        height,
+    ) {
+        Ok(proposed) => proposed,
+        Err(stop) => return Err(stop),
+    };
+    let mut draft = match Draft::start(alloc, context, &cellbase) {
+        Ok(draft) => draft,
+        Err(_) => return Err(ReadStop::NoMemory),
+    };
+    match draft.take_items(alloc, context, blocks, &proposed, items) {
+        Ok(()) => {}
+        Err(stop) => {
+            drop(draft);
+            return Err(stop);
+        }
+    }
+    match sealed(
+        alloc,
+        context.spec,
+        context.tree,
+        context.parent,
+        &draft.transactions,
+        &draft.proposals,
+        draft.interest,
+        draft.freed,
+    ) {
+        Ok(block) => Ok((draft.lines, block)),
+        Err(_) => {
+            drop(draft);
+            Err(ReadStop::NoMemory)
+        }
+    }
+}
+
 /// Assembles a block after the context's parent, of up to 1,000 items in their order, each the bytes of a transaction, with
 /// this witness of its cellbase: what becomes of each item, the block, and the first rule that it breaks. The witness and
 /// each item have at most 1,048,576 bytes. Damaged as `judge` is.
-pub fn assemble<'a, C: Cells, B: Blocks>(
+pub fn assemble<C: Cells, B: Blocks>(
     alloc: Global,
-    context: &Context<'a, C>,
+    context: &Context<'_, C>,
     blocks: &mut B,
     witness: &CellbaseWitnessView<'_>,
-    items: &'a [Vec<u8>],
+    items: &[Vec<u8>],
 ) -> Result<Assembled, ReadStop>
     requires parent { context.now.parent < length context.now.tree.now.entries }
     requires few { length context.now.tree.now.entries < 2 ^ 24 }
@@ -52,13 +181,14 @@ pub fn assemble<'a, C: Cells, B: Blocks>(
     requires bytes { All (λ item. length item.items ≤ most_bytes) items.now }
     requires witness { length (encoded schema.cellbase_witness witness.now) ≤ most_bytes }
     ensures read { HasRead B.told B.count B.loans_of B.faults B.damages blocks.old blocks.new (stop_of result) }
+
     // Over kept blocks that are told with their own fees, of which the parent is the tip, with the cells of its branch.
     ensures assembled { (stored : List Stored) → B.told blocks.old ≡ Some stored → StandsForAll stored (seen C.rows context.now)
         → tip_place (blocks_of stored) ≡ Some context.now.parent
-        → IfOk result (IsAssembled (assembled (chain_on context.now.spec.now (blocks_of stored)) witness.now (map (λ item. item.items) items.now))) }
+        → IfOk result (IsAssembled (pool.assembled (chain_on context.now.spec.now (blocks_of stored)) witness.now (map (λ item. item.items) items.now))) }
     ensures joins { (stored : List Stored) → B.told blocks.old ≡ Some stored → StandsForAll stored (seen C.rows context.now)
         → tip_place (blocks_of stored) ≡ Some context.now.parent → length (blocks_of stored) < kept_limit
-        → (b : schema.Block) → b ≡ (assembled (chain_on context.now.spec.now (blocks_of stored)) witness.now (map (λ item. item.items) items.now)).block
+        → (b : schema.Block) → b ≡ (pool.assembled (chain_on context.now.spec.now (blocks_of stored)) witness.now (map (λ item. item.items) items.now)).block
         → IfOk result (λ made. made.broken ≡ None
         → verdict_over (chain_on context.now.spec.now (blocks_of stored)) made.block.items ≡ Joined b.header.number (block_hash b)) }
     ensures breaks_few { (stored : List Stored) → B.told blocks.old ≡ Some stored → StandsForAll stored (seen C.rows context.now)
@@ -67,6 +197,17 @@ pub fn assemble<'a, C: Cells, B: Blocks>(
     ensures undamaged { (stored : List Stored) → B.told blocks.old ≡ Some stored → StandsForAll stored (seen C.rows context.now)
         → (damage : Damage) → result ≡ Err (Damaged damage) → ⊥ }
 {
-    rt_open();
-    Err(ReadStop::NoMemory)
+    let (lines, block) = match make_block(alloc, context, blocks, witness, items) {
+        Ok(made) => made,
+        Err(stop) => return Err(stop),
+    };
+    let broken = match broken_by(alloc, context, blocks, &BlockView::from_encoding(&block)) {
+        Ok(broken) => broken,
+        Err(stop) => return Err(stop),
+    };
+    Ok(Assembled {
+        lines,
+        block,
+        broken,
+    })
 }

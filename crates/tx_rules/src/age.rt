@@ -22,7 +22,7 @@ use since_rules::{SinceAt, meets};
 
 /// The height of the block that made a cell, which is at most that of the block that the transaction stands in.
 /// Damaged where a row's block is not kept, or not below that height.
-pub(crate) fn made_at(at: &TxAt<'_>, height: u64, meta: &CellMeta) -> Result<u64, Damage>
+pub(crate) fn made_at(at: &TxAt<'_, '_, '_>, height: u64, meta: &CellMeta) -> Result<u64, Damage>
     requires placed { IsPlaced at.now }
     ensures at_most { IfOk result (λ made. made ≤ height) }
     ensures made { (stored : List Stored) (rows : OutPoint → Option Row) (site : Site) (found : Found) → IsSiteOf stored at.now rows site
@@ -46,7 +46,7 @@ pub(crate) fn made_at(at: &TxAt<'_>, height: u64, meta: &CellMeta) -> Result<u64
 }
 
 /// Whether a cell may be used: it is no cellbase output, or the span of maturity is over.
-fn is_mature(at: &TxAt<'_>, height: u64, meta: &CellMeta) -> Result<bool, Damage>
+fn is_mature(at: &TxAt<'_, '_, '_>, height: u64, meta: &CellMeta) -> Result<bool, Damage>
     requires placed { IsPlaced at.now }
     requires fits { height < 2 ^ 24 }
     ensures mature { (stored : List Stored) (rows : OutPoint → Option Row) (site : Site) (found : Found) → IsSiteOf stored at.now rows site
@@ -68,7 +68,10 @@ fn is_mature(at: &TxAt<'_>, height: u64, meta: &CellMeta) -> Result<bool, Damage
 
 /// J23, of some cells: a cellbase output may be used once the span of maturity is over. Damaged where a row's block is
 /// none that the transaction sees.
-pub(crate) fn are_mature(at: &TxAt<'_>, found: &[(OutPoint, CellMeta)]) -> Result<bool, Damage>
+pub(crate) fn are_mature(
+    at: &TxAt<'_, '_, '_>,
+    found: &[(OutPoint, CellMeta)],
+) -> Result<bool, Damage>
     requires placed { IsPlaced at.now }
     ensures mature { (stored : List Stored) (rows : OutPoint → Option Row) (site : Site) (founds : List Found) → IsSiteOf stored at.now rows site → AreSeen site founds
         → found.now ≡ map (found_row (blocks_of stored) at.now.parent) founds → IfOk result (λ mature. mature ≡ list_all (rules.is_mature site) founds) }
@@ -90,7 +93,7 @@ pub(crate) fn are_mature(at: &TxAt<'_>, found: &[(OutPoint, CellMeta)]) -> Resul
 /// The time from which a cell counts, in milliseconds: the median time at the parent of the block that made it, the
 /// genesis' own timestamp. `median` is the median time at the parent of the block that the transaction stands in.
 /// Damaged where a row's block is not kept.
-fn start_at(at: &TxAt<'_>, median: u64, meta: &CellMeta) -> Result<u64, Damage>
+fn start_at(at: &TxAt<'_, '_, '_>, median: u64, meta: &CellMeta) -> Result<u64, Damage>
     requires placed { IsPlaced at.now }
     ensures start { (stored : List Stored) (rows : OutPoint → Option Row) (site : Site) (found : Found) → IsSiteOf stored at.now rows site
         → median ≡ median_time site.branch → IsRowOf (blocks_of stored) at.now.parent site found meta.now
@@ -118,7 +121,7 @@ fn start_at(at: &TxAt<'_>, median: u64, meta: &CellMeta) -> Result<u64, Damage>
 /// Whether a since is valid and met by the cell of a row, spent at this height with this median time at the parent.
 /// Damaged where a row's block is not kept, or not below that height.
 fn meets_since(
-    at: &TxAt<'_>,
+    at: &TxAt<'_, '_, '_>,
     height: u64,
     median: u64,
     since: u64,
@@ -157,7 +160,7 @@ fn meets_since(
 /// the transaction sees.
 pub(crate) fn meets_each_since(
     tx: &TxView<'_>,
-    at: &TxAt<'_>,
+    at: &TxAt<'_, '_, '_>,
     found: &[(OutPoint, CellMeta)],
 ) -> Result<bool, Damage>
     requires placed { IsPlaced at.now }

@@ -15,19 +15,19 @@ use std::marker::Model;
 
 /// Where transactions stand: in a whole block, or apart.
 #[derive(Drop)]
-enum Held<'a> {
-    Block(BlockView<'a>),
-    Apart(&'a [TxView<'a>]),
+enum Held<'a, 'b> {
+    Block(BlockView<'b>),
+    Apart(&'a [TxView<'b>]),
 }
 
 /// The transactions of the block that is judged: those of a whole block, or those that were put into one so far. Clauses see
 /// a block with these transactions.
 #[derive(Drop)]
-pub struct Own<'a> {
-    held: Held<'a>,
+pub struct Own<'a, 'b> {
+    held: Held<'a, 'b>,
 }
 
-impl<'a> Model for Own<'a> {
+impl<'a, 'b> Model for Own<'a, 'b> {
     ghost use Rattle.codec_defs.specs.Schema.{Block};
     ghost use Rattle.tx_rules.specs.Own.{block_of};
 
@@ -36,14 +36,14 @@ impl<'a> Model for Own<'a> {
     ghost view = { λ own. block_of own.held };
 }
 
-impl<'a> Own<'a> {
+impl<'a, 'b> Own<'a, 'b> {
     ghost use Rattle.std.specs.Prelude.{◌≡◌};
     ghost use Rattle.std.specs.Option.{option_map};
     ghost use Rattle.cell_model.specs.Copies.{output_in};
     ghost use Rattle.tx_rules.specs.Own.{of_transactions};
 
     /// Those of a block.
-    pub fn of_block(block: BlockView<'a>) -> Own<'a>
+    pub fn of_block(block: BlockView<'b>) -> Own<'a, 'b>
         ensures { result ≡ block.entry }
     {
         Own {
@@ -52,7 +52,7 @@ impl<'a> Own<'a> {
     }
 
     /// Those that were put into a block so far, in their order.
-    pub fn so_far(transactions: &'a [TxView<'a>]) -> Own<'a>
+    pub fn so_far(transactions: &'a [TxView<'b>]) -> Own<'a, 'b>
         ensures { result ≡ of_transactions transactions.now }
     {
         Own {
@@ -66,7 +66,7 @@ impl<'a> Own<'a> {
         &self,
         o: &OutPoint,
         meta: &CellMeta,
-    ) -> Option<(OutputView<'a>, &'a [u8])>
+    ) -> Option<(OutputView<'b>, &'b [u8])>
         ensures { option_map (λ it. (it.0, it.1.now)) result ≡ output_in self.now meta.now.transaction o.now.index }
     {
         match &self.held {
@@ -99,15 +99,15 @@ fn output_apart<'a>(
 /// Where a transaction is judged: on a parent in the tree, in the block that is judged or, as a dry run, alone. A row
 /// of its cells whose block is the tree's length names an output of that block.
 #[derive(Drop)]
-pub struct TxAt<'a> {
+pub struct TxAt<'a, 'o, 'b> {
     pub spec: &'a Spec,
     pub tree: &'a Tree,
     /// The place of the parent in the tree.
     pub parent: u32,
-    pub block: Option<Own<'a>>,
+    pub block: Option<Own<'o, 'b>>,
 }
 
-impl<'a> Model for TxAt<'a> {
+impl<'a, 'o, 'b> Model for TxAt<'a, 'o, 'b> {
     ghost use Rattle.tx_rules.specs.At.{AtValue};
 
     ghost Value = { AtValue };
@@ -115,7 +115,7 @@ impl<'a> Model for TxAt<'a> {
     ghost view = { λ at. record { spec = at.spec.now; entries = at.tree.now.entries; parent = at.parent; block = at.block } };
 }
 
-impl<'a> TxAt<'a> {
+impl<'a, 'o, 'b> TxAt<'a, 'o, 'b> {
     ghost use Rattle.std.specs.Prelude.{◌≡◌, ◌+◌, ◌^◌, ◌<◌, List, IsSomeAnd};
     ghost use Rattle.codec_defs.specs.Schema.{OutPoint};
     ghost use Rattle.std.specs.declared.option.Option.{Option};
@@ -137,7 +137,7 @@ impl<'a> TxAt<'a> {
 }
 
 /// Where a row is wrong: at its block in LOG, or at place 0 where that is not kept.
-pub(crate) fn damage_of(at: &TxAt<'_>, meta: &CellMeta) -> Damage
+pub(crate) fn damage_of(at: &TxAt<'_, '_, '_>, meta: &CellMeta) -> Damage
     ensures area { result.area ≡ Log }
     ensures at { result.at ≡ log_place at.now.entries meta.now.block }
 {

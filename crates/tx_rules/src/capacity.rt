@@ -34,7 +34,7 @@ pub(crate) struct Balance {
 }
 
 /// The accumulated rate of a kept block.
-fn rate_at(at: &TxAt<'_>, place: u32) -> u64
+fn rate_at(at: &TxAt<'_, '_, '_>, place: u32) -> u64
     requires placed { IsPlaced at.now }
     requires within { place < length at.now.entries }
     ensures rate { (entry : Entry) → entry_at at.now.entries place ≡ Some entry → result ≡ (field_of_bytes entry.dao).rate }
@@ -45,7 +45,7 @@ fn rate_at(at: &TxAt<'_>, place: u32) -> u64
 
 /// What a withdrawing cell counts since its deposit block, in shannons; none above the greatest u64. Damaged where its
 /// row's block is not kept, or it does not hold what it occupies.
-fn withdrawn(at: &TxAt<'_>, meta: &CellMeta, deposit: u32) -> Result<Option<u64>, Damage>
+fn withdrawn(at: &TxAt<'_, '_, '_>, meta: &CellMeta, deposit: u32) -> Result<Option<u64>, Damage>
     requires placed { IsPlaced at.now }
     requires within { deposit < length at.now.entries }
     ensures withdrawn { (stored : List Stored) (rows : OutPoint → Option Row) (site : Site) (found : Found) (height : ℕ) → IsSiteOf stored at.now rows site
@@ -76,7 +76,7 @@ fn counted_plain(capacity: u64) -> Option<u64>
 /// or not below the height, the copy is no output, or a withdrawing cell does not hold what it occupies.
 fn counted(
     tx: &TxView<'_>,
-    at: &TxAt<'_>,
+    at: &TxAt<'_, '_, '_>,
     height: u64,
     headers: &[u32],
     i: usize,
@@ -108,7 +108,7 @@ fn counted(
 /// What all inputs count, in shannons; none above the greatest u64. Damaged as `counted` is.
 fn counted_in(
     tx: &TxView<'_>,
-    at: &TxAt<'_>,
+    at: &TxAt<'_, '_, '_>,
     copies: &[Resolved],
     headers: &[u32],
 ) -> Result<Option<u64>, Damage>
@@ -181,7 +181,7 @@ fn beyond(counted: u64, capacities: u128) -> i128
 /// or a withdrawing cell does not hold what it occupies.
 pub(crate) fn balance_of(
     tx: &TxView<'_>,
-    at: &TxAt<'_>,
+    at: &TxAt<'_, '_, '_>,
     copies: &[Resolved],
     headers: &[u32],
 ) -> Result<Option<Balance>, Damage>

@@ -25,7 +25,7 @@ use std::alloc::Global;
 /// A copy of an output of a kept block.
 fn copy_kept<B: Blocks>(
     alloc: Global,
-    at: &TxAt<'_>,
+    at: &TxAt<'_, '_, '_>,
     blocks: &mut B,
     o: OutPoint,
     meta: CellMeta,
@@ -53,7 +53,7 @@ fn copy_kept<B: Blocks>(
 /// A copy of an output of a block that is read.
 fn copy_read(
     alloc: Global,
-    at: &TxAt<'_>,
+    at: &TxAt<'_, '_, '_>,
     block: &BlockView<'_>,
     o: OutPoint,
     meta: CellMeta,
@@ -80,8 +80,8 @@ fn copy_read(
 /// The same of the transactions of the block that is judged.
 fn copy_named(
     alloc: Global,
-    at: &TxAt<'_>,
-    own: &Own<'_>,
+    at: &TxAt<'_, '_, '_>,
+    own: &Own<'_, '_>,
     o: OutPoint,
     meta: CellMeta,
 ) -> Result<Resolved, ReadStop>
@@ -105,7 +105,12 @@ fn copy_named(
 }
 
 /// A copy of an output of the block that is judged.
-fn copy_own(alloc: Global, at: &TxAt<'_>, o: OutPoint, meta: CellMeta) -> Result<Resolved, ReadStop>
+fn copy_own(
+    alloc: Global,
+    at: &TxAt<'_, '_, '_>,
+    o: OutPoint,
+    meta: CellMeta,
+) -> Result<Resolved, ReadStop>
     ensures out_point { IfOk result (λ copy. copy.out_point ≡ o) }
     ensures row { IfOk result (λ copy. copy.row ≡ meta) }
     ensures output { IfOk result HoldsOutput }
@@ -126,7 +131,7 @@ fn copy_own(alloc: Global, at: &TxAt<'_>, o: OutPoint, meta: CellMeta) -> Result
 /// A copy of the cell of a row. Damaged where the row's block is none that the transaction sees, or has no such output.
 fn copy_row<B: Blocks>(
     alloc: Global,
-    at: &TxAt<'_>,
+    at: &TxAt<'_, '_, '_>,
     blocks: &mut B,
     o: OutPoint,
     meta: CellMeta,
@@ -190,7 +195,7 @@ fn none_taken(alloc: Global, count: usize) -> Result<Vec<Option<Resolved>>, NoMe
 /// begins with.
 fn take_read(
     alloc: Global,
-    at: &TxAt<'_>,
+    at: &TxAt<'_, '_, '_>,
     read: &BlockView<'_>,
     block: u32,
     rows: &[(OutPoint, CellMeta)],
@@ -228,7 +233,7 @@ fn take_read(
 /// Takes copies of the cells of rows of a kept block, which is read once, as `take_read` does.
 fn take_kept<B: Blocks>(
     alloc: Global,
-    at: &TxAt<'_>,
+    at: &TxAt<'_, '_, '_>,
     blocks: &mut B,
     meta: CellMeta,
     rows: &[(OutPoint, CellMeta)],
@@ -261,7 +266,7 @@ fn take_kept<B: Blocks>(
 /// the rows by their blocks.
 fn take_several<B: Blocks>(
     alloc: Global,
-    at: &TxAt<'_>,
+    at: &TxAt<'_, '_, '_>,
     blocks: &mut B,
     rows: &[(OutPoint, CellMeta)],
     order: &[(u32, usize)],
@@ -294,7 +299,7 @@ fn take_several<B: Blocks>(
 /// A copy of the cell of a row: the one that is taken, or else one that is copied now, as `copy_row` does.
 fn taken_or_copied<B: Blocks>(
     alloc: Global,
-    at: &TxAt<'_>,
+    at: &TxAt<'_, '_, '_>,
     blocks: &mut B,
     taken: Option<Resolved>,
     o: OutPoint,
@@ -318,7 +323,7 @@ fn taken_or_copied<B: Blocks>(
 /// copied now, as `copy_row` does.
 fn copy_each<B: Blocks>(
     alloc: Global,
-    at: &TxAt<'_>,
+    at: &TxAt<'_, '_, '_>,
     blocks: &mut B,
     rows: &[(OutPoint, CellMeta)],
     taken: &mut [Option<Resolved>],
@@ -350,7 +355,7 @@ fn copy_each<B: Blocks>(
 /// Copies of the cells of rows, in their order. A kept block is read once, also where it made several of them.
 pub(crate) fn fetch_all<B: Blocks>(
     alloc: Global,
-    at: &TxAt<'_>,
+    at: &TxAt<'_, '_, '_>,
     blocks: &mut B,
     rows: &[(OutPoint, CellMeta)],
 ) -> Result<Vec<Resolved>, ReadStop>

@@ -64,7 +64,7 @@ fn add_group<C: Cells>(
 
 /// Adds the rows of the members of the dep group that a row names in its block. Damaged where it names no output there.
 fn add_group_in<C: Cells>(
-    at: &TxAt<'_>,
+    at: &TxAt<'_, '_, '_>,
     cells: &C,
     block: &BlockView<'_>,
     o: &OutPoint,
@@ -89,7 +89,7 @@ fn add_group_in<C: Cells>(
 
 /// The same for a row of a kept block.
 fn add_kept_group<C: Cells, B: Blocks>(
-    at: &TxAt<'_>,
+    at: &TxAt<'_, '_, '_>,
     cells: &C,
     blocks: &mut B,
     o: &OutPoint,
@@ -113,9 +113,9 @@ fn add_kept_group<C: Cells, B: Blocks>(
 
 /// The same among the transactions of the block that is judged.
 fn add_group_named<C: Cells>(
-    at: &TxAt<'_>,
+    at: &TxAt<'_, '_, '_>,
     cells: &C,
-    own: &Own<'_>,
+    own: &Own<'_, '_>,
     o: &OutPoint,
     meta: &CellMeta,
     found: &mut Vec<(OutPoint, CellMeta)>,
@@ -138,7 +138,7 @@ fn add_group_named<C: Cells>(
 
 /// The same for a row of the block that is judged.
 fn add_own_group<C: Cells>(
-    at: &TxAt<'_>,
+    at: &TxAt<'_, '_, '_>,
     cells: &C,
     o: &OutPoint,
     meta: &CellMeta,
@@ -164,7 +164,7 @@ fn add_own_group<C: Cells>(
 /// Adds the rows of the members of the dep group that a row names. Damaged where the row's block is none that the
 /// transaction sees.
 fn add_group_of<C: Cells, B: Blocks>(
-    at: &TxAt<'_>,
+    at: &TxAt<'_, '_, '_>,
     cells: &C,
     blocks: &mut B,
     o: &OutPoint,
@@ -190,7 +190,7 @@ fn add_group_of<C: Cells, B: Blocks>(
 
 /// Adds the rows of the cells that a cell dep stands for. False where it does not resolve.
 fn add_dep<C: Cells, B: Blocks>(
-    at: &TxAt<'_>,
+    at: &TxAt<'_, '_, '_>,
     cells: &C,
     blocks: &mut B,
     dep: &DepView<'_>,
@@ -222,7 +222,7 @@ fn add_dep<C: Cells, B: Blocks>(
 pub(crate) fn resolved_deps<C: Cells, B: Blocks>(
     alloc: Global,
     tx: &TxView<'_>,
-    at: &TxAt<'_>,
+    at: &TxAt<'_, '_, '_>,
     cells: &C,
     blocks: &mut B,
 ) -> Result<Option<Vec<(OutPoint, CellMeta)>>, ReadStop>

@@ -20,7 +20,7 @@ use outside::NoMemory;
 use std::alloc::Global;
 
 /// The ancestor with a hash: its place in the tree, and its height. None where no ancestor has it.
-fn ancestor_with(at: &TxAt<'_>, hash: &[u8; 32]) -> Option<(u32, u64)>
+fn ancestor_with(at: &TxAt<'_, '_, '_>, hash: &[u8; 32]) -> Option<(u32, u64)>
     requires placed { IsPlaced at.now }
     ensures found { IfSome result (λ it. place_of_hash at.now.entries hash.now ≡ Some it.0) }
     ensures above { IfSome result (λ it. IsSomeAnd (entry_at at.now.entries at.now.parent) (λ parent. it.1 ≤ parent.number)) }
@@ -44,7 +44,7 @@ fn ancestor_with(at: &TxAt<'_>, hash: &[u8; 32]) -> Option<(u32, u64)>
 
 /// The place of a header dep in the tree. None where it is not the hash of an ancestor from which the span of maturity
 /// is over.
-fn mature_place(at: &TxAt<'_>, hash: &[u8; 32]) -> Option<u32>
+fn mature_place(at: &TxAt<'_, '_, '_>, hash: &[u8; 32]) -> Option<u32>
     requires placed { IsPlaced at.now }
     ensures found { IfSome result (λ place. place_of_hash at.now.entries hash.now ≡ Some place) }
     ensures height { (stored : List Stored) (rows : OutPoint → Option Row) (site : Site) → IsSiteOf stored at.now rows site
@@ -66,7 +66,7 @@ fn mature_place(at: &TxAt<'_>, hash: &[u8; 32]) -> Option<u32>
 pub(crate) fn header_places(
     alloc: Global,
     tx: &TxView<'_>,
-    at: &TxAt<'_>,
+    at: &TxAt<'_, '_, '_>,
 ) -> Result<Option<Vec<u32>>, NoMemory>
     requires placed { IsPlaced at.now }
     ensures found { IfOk result (λ found. IfSome found (λ places. AllZip (λ hash place. place_of_hash at.now.entries hash ≡ Some place) tx.now.raw.header_deps places.items)) }

@@ -128,7 +128,7 @@ fn spent_rows<C: Cells>(
 fn named_rows<C: Cells, B: Blocks>(
     alloc: Global,
     tx: &TxView<'_>,
-    at: &TxAt<'_>,
+    at: &TxAt<'_, '_, '_>,
     cells: &C,
     blocks: &mut B,
 ) -> Result<(Vec<(OutPoint, CellMeta)>, Vec<u32>), TxStop>
@@ -160,7 +160,7 @@ fn named_rows<C: Cells, B: Blocks>(
 fn try_cells<C: Cells>(
     tx: &TxView<'_>,
     hash: [u8; 32],
-    at: &TxAt<'_>,
+    at: &TxAt<'_, '_, '_>,
     cells: &C,
     spent: &[(OutPoint, CellMeta)],
     named: &[(OutPoint, CellMeta)],
@@ -199,7 +199,7 @@ fn try_cells<C: Cells>(
 fn paid_by(
     alloc: Global,
     tx: &TxView<'_>,
-    at: &TxAt<'_>,
+    at: &TxAt<'_, '_, '_>,
     copies: &[Resolved],
     places: &[u32],
 ) -> Result<Balance, TxStop>
@@ -232,7 +232,7 @@ fn find<C: Cells, B: Blocks>(
     alloc: Global,
     tx: &TxView<'_>,
     hash: [u8; 32],
-    at: &TxAt<'_>,
+    at: &TxAt<'_, '_, '_>,
     proposed: bool,
     cells: &C,
     blocks: &mut B,
@@ -273,7 +273,7 @@ fn find<C: Cells, B: Blocks>(
 fn copy_cells<B: Blocks>(
     alloc: Global,
     tx: &TxView<'_>,
-    at: &TxAt<'_>,
+    at: &TxAt<'_, '_, '_>,
     blocks: &mut B,
     finding: &Finding,
 ) -> Result<Copying, TxStop>
@@ -323,7 +323,7 @@ pub fn resolve<'a, C: Cells, B: Blocks>(
     alloc: Global,
     tx: &TxView<'a>,
     hash: [u8; 32],
-    at: &TxAt<'_>,
+    at: &TxAt<'_, '_, '_>,
     proposed: bool,
     cells: &C,
     blocks: &mut B,

@@ -59,7 +59,7 @@ fn has_withdrawing_data(content: &[u8]) -> bool
 /// Of a withdrawing cell the height of the block that made it; none of any other. Damaged where the copy is no output, or
 /// its row's block is not kept or not below that height.
 pub(crate) fn withdrawing_made(
-    at: &TxAt<'_>,
+    at: &TxAt<'_, '_, '_>,
     height: u64,
     copy: &Resolved,
 ) -> Result<Option<u64>, Damage>
@@ -124,7 +124,7 @@ fn named_place(tx: &TxView<'_>, headers: &[u32], i: usize) -> Option<u32>
 /// number is below the height of the block that made the cell.
 pub(crate) fn deposit_place(
     tx: &TxView<'_>,
-    at: &TxAt<'_>,
+    at: &TxAt<'_, '_, '_>,
     headers: &[u32],
     i: usize,
     made: u64,
@@ -168,7 +168,7 @@ fn is_named(ordered: &[u32], block: u32) -> bool
 /// Damaged as `withdrawing_made` is.
 fn withdraws_well(
     tx: &TxView<'_>,
-    at: &TxAt<'_>,
+    at: &TxAt<'_, '_, '_>,
     height: u64,
     headers: &[u32],
     ordered: &[u32],
@@ -199,7 +199,7 @@ fn withdraws_well(
 /// Whether each input withdraws well, over copies of its inputs' cells. Damaged as `withdraws_well` is.
 fn all_withdraw_well(
     tx: &TxView<'_>,
-    at: &TxAt<'_>,
+    at: &TxAt<'_, '_, '_>,
     copies: &[Resolved],
     headers: &[u32],
     ordered: &[u32],
@@ -232,7 +232,7 @@ fn all_withdraw_well(
 pub(crate) fn names_deposits(
     alloc: Global,
     tx: &TxView<'_>,
-    at: &TxAt<'_>,
+    at: &TxAt<'_, '_, '_>,
     copies: &[Resolved],
     headers: &[u32],
 ) -> Result<bool, ReadStop>

@@ -66,7 +66,7 @@ fn text_of(alloc: Global, answer: &Result<TxOk<'_>, TxStop>) -> Option<String> {
 fn answer(
     alloc: Global,
     tx: &TxView<'_>,
-    at: &TxAt<'_>,
+    at: &TxAt<'_, '_, '_>,
     state: &State,
     blocks: &mut ListBlocks,
 ) -> Option<String> {
@@ -105,7 +105,7 @@ fn answer_in(
     alloc: Global,
     chain: &mut Chain,
     state: &State,
-    own: Own<'_>,
+    own: Own<'_, '_>,
     tx: &TxView<'_>,
 ) -> Option<String> {
     let at = TxAt {

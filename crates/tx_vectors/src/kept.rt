@@ -57,7 +57,7 @@ fn are_rated(tree: &Tree) -> bool
 }
 
 /// Whether a transaction may be judged there.
-pub(crate) fn is_placed(at: &TxAt<'_>) -> bool
+pub(crate) fn is_placed(at: &TxAt<'_, '_, '_>) -> bool
     ensures { result ≡ true → IsPlaced at.now }
 {
     at.tree.len() <= MOST && at.parent < at.tree.len() && are_rated(at.tree)

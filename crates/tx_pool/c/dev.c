@@ -1,1 +1,0 @@
-void rt_open(void) {}

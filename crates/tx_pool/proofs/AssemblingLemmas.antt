@@ -1,0 +1,144 @@
+-- What is assembled after the tip.
+use Rattle.std.proofs.Common.{◌≡◌, ℕ, ◌^◌, ◌<◌, ◌≤◌, Bool, true, false, cond, List, [], length, Option, Some, None, refl, sym, ap, ◌∙◌, subst, arith}
+use Rattle.std.specs.Prelude.{IsTrue, is_some, ◌==◌}
+use Rattle.std.specs.List.{list_any}
+use Rattle.codec_defs.specs.Shape.{Shape, IsA, encoded}
+use Rattle.codec_defs.specs.Schema as schema
+use Rattle.codec_defs.specs.Schema.{Transaction, Block, CellbaseWitness}
+use Rattle.codec_defs.proofs.RowLaws.{block-check}
+use Rattle.codec_defs.proofs.ShapeLaws.{decoded-is}
+use Rattle.fold_defs.specs.Fold.{keep}
+use Rattle.time_defs.specs.Specification.{Specification}
+use Rattle.chain_defs.specs.Kept.{block_hash, place_of, kept_limit}
+use Rattle.chain_defs.specs.Branch.{branch}
+use Rattle.chain_defs.specs.Tip.{tip_place, best_branch}
+use Rattle.chain_tree.specs.declared.entry.Entry.{Entry}
+use Rattle.chain_tree.specs.Told.{Stored, blocks_of}
+use Rattle.chain_tree.specs.Blocks.{IndexesBlocks}
+use Rattle.chain_tree.proofs.BlockLemmas.{len-same}
+use Rattle.block_defs.specs.Rules.{first_broken}
+use Rattle.block_judge.specs.Standing.{ContextValue}
+use Rattle.verdict_defs.specs.Chain.{Chain, verdict_over}
+use Rattle.verdict_defs.specs.declared.verdict.Verdict.TheVariants.{Joined}
+use Rattle.pool_defs.specs.Size.{size_with}
+use Rattle.pool_defs.specs.Start.{sealed}
+use Rattle.pool_defs.specs.Assembly as pool
+use Rattle.pool_defs.specs.Assembly.{assembly, assembled}
+use Rattle.pool_defs.specs.Laws.{IsFounded, breakable}
+use Rattle.pool_defs.specs.declared.line.Line.{Line}
+use Rattle.pool_defs.proofs.JoiningLaws.{breaks-few, unbroken-joins}
+use Rattle.tx_pool.specs.Assembling.{IsAssembled, IsMade, chain_on, most_bytes}
+use Rattle.tx_pool.specs.Draft.{DraftValue, Fits, IsSoFar}
+use Rattle.tx_pool.specs.Sealing.{Fills}
+use Rattle.tx_pool.specs.declared.assembling.Assembled.{Assembled}
+
+-- whether a block is kept, by its hash
+pub known-as : (kept : List Block) (b : Block) (hash : List ℕ) (found : Option ℕ) (test : Bool) → found ≡ place_of kept hash → hash ≡ block_hash b → is_some found ≡ test
+    → is_some (place_of kept (block_hash b)) ≡ test
+known-as kept b hash found test is same answered = ap (λ (h : List ℕ). is_some (place_of kept h)) (sym same) ∙ ap is_some (sym is) ∙ answered
+
+-- J2 is broken by it, or what comes after that
+pub breaks-2 : (known : Bool) (later : Option ℕ) → known ≡ true → Some 2 ≡ cond known (Some 2) later
+breaks-2 known later is = sym (ap (λ (test : Bool). cond test (Some 2) later) is)
+
+pub after-2 : (known : Bool) (later answer : Option ℕ) → known ≡ false → answer ≡ later → answer ≡ cond known (Some 2) later
+after-2 known later answer is same = same ∙ sym (ap (λ (test : Bool). cond test (Some 2) later) is)
+
+-- what kept blocks are founded on that a tree indexes
+pub founded : (kept : List Block) (entries : List Entry) (parent : ℕ) → IndexesBlocks kept entries → parent < length entries → IsFounded kept
+founded kept entries parent indexes within =
+    let long = len-same kept entries indexes in
+    record { is_kept = indexes.is_kept; some = omega (arith, long, within); genesis = indexes.genesis }
+
+-- over kept blocks, after a branch of them
+abbrev assembled_on : Specification → List Block → List Block → CellbaseWitness → List (List ℕ) → pool.Assembled
+assembled_on spec kept on witness items = record {
+  lines = (pool.assembly spec on witness items).lines;
+  block = sealed spec on (pool.assembly spec on witness items).block;
+  broken = cond (is_some (place_of kept (block_hash (sealed spec on (pool.assembly spec on witness items).block)))) (Some 2)
+      (first_broken spec on (sealed spec on (pool.assembly spec on witness items).block));
+}
+
+best-is : (kept : List Block) (parent : ℕ) → tip_place kept ≡ Some parent → best_branch kept ≡ branch kept parent
+best-is kept parent top = ap (λ (place : Option ℕ). elim place [ None ↦ [] | Some it ↦ branch kept it ]) top
+
+pub assembled-is : (spec : Specification) (kept : List Block) (parent : ℕ) (witness : CellbaseWitness) (items : List (List ℕ)) → tip_place kept ≡ Some parent
+    → pool.assembled (chain_on spec kept) witness items ≡ assembled_on spec kept (branch kept parent) witness items
+unfolding assembled
+assembled-is spec kept parent witness items top = ap (λ (on : List Block). assembled_on spec kept on witness items) (best-is kept parent top)
+
+-- ---- An answer
+
+module _ (spec : Specification) (kept : List Block) (parent : ℕ) (witness : CellbaseWitness) (items : List (List ℕ)) (top : tip_place kept ≡ Some parent)
+    (answer : Assembled)
+    (made : IsMade spec (branch kept parent) (pool.assembly spec (branch kept parent) witness items) answer.lines.items answer.block.items)
+    (broken : (b : Block) → IsA schema.block answer.block.items b
+    → answer.broken ≡ cond (is_some (place_of kept (block_hash b))) (Some 2) (first_broken spec (branch kept parent) b)) where
+  abbrev pub all : pool.Assembled
+  all = pool.assembled (chain_on spec kept) witness items
+
+  is : all ≡ assembled_on spec kept (branch kept parent) witness items
+  is = assembled-is spec kept parent witness items top
+
+  block-is : all.block ≡ sealed spec (branch kept parent) (pool.assembly spec (branch kept parent) witness items).block
+  block-is = ap (λ (it : pool.Assembled). it.block) is
+
+  broken-is : answer.broken ≡ all.broken
+  broken-is =
+      broken (sealed spec (branch kept parent) (pool.assembly spec (branch kept parent) witness items).block) made.block_is
+      ∙ sym (ap (λ (it : pool.Assembled). it.broken) is)
+
+  pub answer-is : IsAssembled all answer
+  answer-is = record {
+    lines_are = made.lines_are ∙ sym (ap (λ (it : pool.Assembled). it.lines) is);
+    block_is = made.block_is.encoding ∙ ap (encoded schema.block) (sym block-is);
+    broken_is = broken-is;
+  }
+
+  pub answer-joins : (b : Block) → b ≡ all.block → IsFounded kept → length kept < kept_limit → answer.broken ≡ None
+      → verdict_over (chain_on spec kept) answer.block.items ≡ Joined b.header.number (block_hash b)
+  answer-joins b same begins room unbroken =
+      let bytes_are : answer.block.items ≡ encoded schema.block b = answer-is.block_is ∙ ap (encoded schema.block) (sym same) in
+      let its : IsA schema.block answer.block.items b =
+      subst (λ (it : Block). IsA schema.block answer.block.items it) (sym (same ∙ block-is)) made.block_is in
+      let own : IsA schema.block (encoded schema.block b) b = record { fits = its.fits; encoding = refl } in
+      ap (verdict_over (chain_on spec kept)) bytes_are
+      ∙ unbroken-joins (chain_on spec kept) witness items b begins (sym same) (sym broken-is ∙ unbroken) (decoded-is schema.block block-check (encoded schema.block b) b own) room
+
+  pub answer-breaks : (rule : ℕ) → IsFounded kept → answer.broken ≡ Some rule → IsTrue (list_any (λ other. other == rule) breakable)
+  answer-breaks rule begins broke = breaks-few (chain_on spec kept) witness items rule begins (sym broken-is ∙ broke)
+
+-- ---- What the items came to
+
+pub bytes-as : {V : Type 0} (shape : Shape V) (bytes other : List ℕ) (v : V) → other ≡ bytes → IsA shape bytes v → IsA shape other v
+bytes-as shape bytes other v same is = subst (λ (these : List ℕ). IsA shape these v) (sym same) is
+
+pub some-as : {V : Type 0} (shape : Shape V) (bytes other : List ℕ) → other ≡ bytes → ((v : V) × IsA shape bytes v) → (v : V) × IsA shape other v
+some-as shape bytes other same its = (its.0, bytes-as shape bytes other its.0 same its.1)
+
+pub made-of : (stored : List Stored) (on : ContextValue) (witness : CellbaseWitness) (items : List (List ℕ)) (draft : DraftValue) (bytes : List ℕ)
+    → IsSoFar stored on (keep (pool.take_item on.spec (branch (blocks_of stored) on.parent)) (pool.start on.spec (branch (blocks_of stored) on.parent) witness) items) draft
+    → IsA schema.block bytes (sealed on.spec (branch (blocks_of stored) on.parent)
+    (keep (pool.take_item on.spec (branch (blocks_of stored) on.parent)) (pool.start on.spec (branch (blocks_of stored) on.parent) witness) items).block)
+    → IsMade on.spec (branch (blocks_of stored) on.parent) (pool.assembly on.spec (branch (blocks_of stored) on.parent) witness items) draft.lines bytes
+unfolding assembly
+made-of stored on witness items draft bytes is block = record { lines_are = is.lines_are; block_is = block }
+
+pub fills-with : (stored : List Stored) (on : ContextValue) (so_far : pool.Assembly) (draft : DraftValue) (txs : List Transaction) (ids : List (List ℕ)) → IsSoFar stored on so_far draft
+    → txs ≡ draft.transactions → ids ≡ draft.proposals → Fills on.spec (branch (blocks_of stored) on.parent) so_far.block txs ids
+fills-with stored on so_far draft txs ids is same named = record {
+  header_is = is.fills.header_is;
+  no_uncles = is.fills.no_uncles;
+  transactions_are = same ∙ is.fills.transactions_are;
+  ids_are = named ∙ is.fills.ids_are;
+}
+
+pub size-fits : (draft : DraftValue) (txs : List Transaction) (ids : List (List ℕ)) → Fits draft → txs ≡ draft.transactions → ids ≡ draft.proposals → size_with txs ids < 2 ^ 32
+size-fits draft txs ids fits same named =
+    let size : size_with txs ids ≡ draft.length = ap (λ (these : List Transaction). size_with these ids) same ∙ ap (size_with draft.transactions) named ∙ sym fits.length_is in
+    let short = fits.short in
+    omega (arith, size, short)
+
+pub small-witness : (n : ℕ) → n ≤ most_bytes → n < 2 ^ 28
+unfolding most_bytes
+small-witness n small = omega (arith, small)

@@ -1,0 +1,44 @@
+use Rattle.std.proofs.Common.{◌≡◌, ℕ, Bool, true, false, cond, Option, Some, None, refl, sym, ap, ◌∙◌}
+use Rattle.std.specs.Prelude.{Err, is_some}
+use Rattle.chain_defs.specs.Branch.{branch}
+use Rattle.chain_defs.specs.Kept.{block_hash, place_of}
+use Rattle.chain_tree.specs.Told.{blocks_of}
+use Rattle.block_defs.specs.Rules.{first_broken}
+use Rattle.rule_names.specs.Number.{rule_number}
+use Rattle.block_judge.specs.declared.stop.JudgeStop.TheVariants.{Broken, Read}
+use Rattle.block_judge.proofs.Exits.{same_stop}
+use Rattle.tx_pool.proofs.SightLemmas.{first-at-sight}
+use Rattle.tx_pool.proofs.AssemblingLemmas.{known-as, breaks-2, after-2}
+use Rattle.tx_pool.proofs.assembling.broken_by.Goals as goal
+
+pub returns-then-is_some-clause-broken : goal.returns-then-is_some-clause-broken
+returns-then-is_some-clause-broken g c stored tells stands =
+    breaks-2 _ _ (known-as (blocks_of stored) c.args.block.now c.hash_of.result c.find.result true
+    (c.find.ensures.of_blocks (blocks_of stored) stands.stands.indexed) c.hash_of.ensures (sym c.is_some.ensures ∙ c.if-is_some.true))
+
+pub returns-in-Err-Broken-clause-broken : goal.returns-in-Err-Broken-clause-broken
+returns-in-Err-Broken-clause-broken g c stored tells stands =
+    after-2 _ _ _ (known-as (blocks_of stored) c.args.block.now c.hash_of.result c.find.result false
+    (c.find.ensures.of_blocks (blocks_of stored) stands.stands.indexed) c.hash_of.ensures (sym c.is_some.ensures ∙ c.if-is_some.false))
+    (ap Some (c.number.ensures ∙ ap rule_number c.in-Err-Broken.rule-is)
+    ∙ sym (first-at-sight c.args.context.now.spec.now (branch (blocks_of stored) c.args.context.now.parent) c.args.block.now (rule_number c.in-Err-Broken.rule)
+    (c.in-Err-Broken.ensures.broken (blocks_of stored) stands.stands.indexed stands.uncles c.in-Err-Broken.rule (ap Err c.in-Err-Broken.field-0-is))))
+
+pub returns-in-Ok-judge-clause-broken : goal.returns-in-Ok-judge-clause-broken
+returns-in-Ok-judge-clause-broken g c stored tells stands =
+    after-2 _ _ _ (known-as (blocks_of stored) c.args.block.now c.hash_of.result c.find.result false
+    (c.find.ensures.of_blocks (blocks_of stored) stands.stands.indexed) c.hash_of.ensures (sym c.is_some.ensures ∙ c.if-is_some.false))
+    (sym (c.in-Ok-judge.ensures.unbroken stored tells stands (c.in-Ok.ensures.unbroken (blocks_of stored) stands.stands.indexed stands.uncles)))
+
+pub returns-in-Err-Broken-judge-clause-broken : goal.returns-in-Err-Broken-judge-clause-broken
+returns-in-Err-Broken-judge-clause-broken g c stored tells stands =
+    after-2 _ _ _ (known-as (blocks_of stored) c.args.block.now c.hash_of.result c.find.result false
+    (c.find.ensures.of_blocks (blocks_of stored) stands.stands.indexed) c.hash_of.ensures (sym c.is_some.ensures ∙ c.if-is_some.false))
+    (ap Some (c.number-in-Err-Broken-judge.ensures ∙ ap rule_number c.in-Err-Broken-judge.rule-is)
+    ∙ sym (c.in-Err-Broken-judge.ensures.broken stored tells stands (c.in-Ok.ensures.unbroken (blocks_of stored) stands.stands.indexed stands.uncles)
+    c.in-Err-Broken-judge.rule (ap Err c.in-Err-Broken-judge.field-0-is)))
+
+pub returns-clause-undamaged : goal.returns-clause-undamaged
+returns-clause-undamaged g c stored tells stands damage same =
+    c.in-Err-Read-judge.ensures.undamaged stored tells stands damage
+    (ap Err (c.in-Err-Read-judge.field-0-is ∙ ap Read (sym c.in-Err-Read-judge.stop-is ∙ same_stop same)))
