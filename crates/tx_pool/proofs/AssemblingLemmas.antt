@@ -18,14 +18,13 @@ use Rattle.chain_tree.specs.Blocks.{IndexesBlocks}
 use Rattle.chain_tree.proofs.BlockLemmas.{len-same}
 use Rattle.block_defs.specs.Rules.{first_broken}
 use Rattle.block_judge.specs.Standing.{ContextValue}
-use Rattle.verdict_defs.specs.Chain.{Chain, verdict_over}
+use Rattle.verdict_defs.specs.Chain.{verdict_over}
 use Rattle.verdict_defs.specs.declared.verdict.Verdict.TheVariants.{Joined}
 use Rattle.pool_defs.specs.Size.{size_with}
 use Rattle.pool_defs.specs.Start.{sealed}
 use Rattle.pool_defs.specs.Assembly as pool
 use Rattle.pool_defs.specs.Assembly.{assembly, assembled}
 use Rattle.pool_defs.specs.Laws.{IsFounded, breakable}
-use Rattle.pool_defs.specs.declared.line.Line.{Line}
 use Rattle.pool_defs.proofs.JoiningLaws.{breaks-few, unbroken-joins}
 use Rattle.tx_pool.specs.Assembling.{IsAssembled, IsMade, chain_on, most_bytes}
 use Rattle.tx_pool.specs.Draft.{DraftValue, Fits, IsSoFar}

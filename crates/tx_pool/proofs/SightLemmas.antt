@@ -1,5 +1,5 @@
 -- What a block that breaks a rule at sight says of all rules.
-use Rattle.std.proofs.Common.{◌≡◌, ℕ, Bool, true, false, List, [], ◌∷◌, ◌++◌, Option, Some, None, refl, sym, ap, ◌∙◌}
+use Rattle.std.proofs.Common.{◌≡◌, ℕ, Bool, true, false, List, [], ◌∷◌, ◌++◌, Option, Some, refl, sym, ap, ◌∙◌}
 use Rattle.std.specs.Prelude.{◌&&◌, ◌==◌, not, is_some, length}
 use Rattle.std.specs.List.{list_all, list_any}
 use Rattle.codec_defs.specs.Schema.{OutPoint, Transaction, Block}

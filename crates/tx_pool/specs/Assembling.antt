@@ -1,6 +1,5 @@
 -- What is assembled, as the code answers it.
-use Rattle.std.specs.Prelude.{◌≡◌, ℕ, ◌≤◌, ◌^◌, List, length}
-use Rattle.std.specs.List.{All}
+use Rattle.std.specs.Prelude.{◌≡◌, ℕ, ◌^◌, List}
 use Rattle.codec_defs.specs.Shape.{IsA, encoded}
 use Rattle.codec_defs.specs.Schema as schema
 use Rattle.codec_defs.specs.Schema.{Block}

@@ -1,4 +1,4 @@
-use Rattle.std.proofs.Common.{◌≡◌, ℕ, cond, List, Vec, Global, Option, Some, map, refl, sym, ap, ◌∙◌}
+use Rattle.std.proofs.Common.{ℕ, cond, Vec, Global, Some, map, ap, ◌∙◌}
 use Rattle.std.specs.Prelude.{is_some}
 use Rattle.codec_defs.specs.Schema as schema
 use Rattle.codec_defs.specs.Schema.{Block}

@@ -1,11 +1,9 @@
-use Rattle.std.proofs.Common.{◌≡◌, ℕ, Bool, true, false, cond, Option, Some, None, refl, sym, ap, ◌∙◌}
-use Rattle.std.specs.Prelude.{Err, is_some}
+use Rattle.std.proofs.Common.{true, false, Some, sym, ap, ◌∙◌}
+use Rattle.std.specs.Prelude.{Err}
 use Rattle.chain_defs.specs.Branch.{branch}
-use Rattle.chain_defs.specs.Kept.{block_hash, place_of}
 use Rattle.chain_tree.specs.Told.{blocks_of}
-use Rattle.block_defs.specs.Rules.{first_broken}
 use Rattle.rule_names.specs.Number.{rule_number}
-use Rattle.block_judge.specs.declared.stop.JudgeStop.TheVariants.{Broken, Read}
+use Rattle.block_judge.specs.declared.stop.JudgeStop.TheVariants.{Read}
 use Rattle.block_judge.proofs.Exits.{same_stop}
 use Rattle.tx_pool.proofs.SightLemmas.{first-at-sight}
 use Rattle.tx_pool.proofs.AssemblingLemmas.{known-as, breaks-2, after-2}

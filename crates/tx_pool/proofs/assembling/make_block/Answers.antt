@@ -1,4 +1,4 @@
-use Rattle.std.proofs.Common.{◌≡◌, ℕ, List, Vec, Global, Some, map, refl, sym, ap, ◌∙◌, length, rules}
+use Rattle.std.proofs.Common.{ℕ, Vec, Global, map, ◌∙◌, length, rules}
 use Rattle.std.specs.Int.{w128}
 use Rattle.std.proofs.lemmas.Int.{to_z-of_z}
 use Rattle.codec_defs.specs.Shape.{encoded}
