@@ -3,3 +3,4 @@ pub mod ByteLemmas
 pub mod ItemLemmas
 pub mod BlockLemmas
 pub mod CanonicalLaws
+pub mod InRange

@@ -5,6 +5,8 @@ use Rattle.codec_defs.specs.Schema as shapes
 use Rattle.codec_defs.specs.Schema.{Block, CellbaseWitness}
 use Rattle.time_defs.specs.Specification.{keeps_s2}
 use Rattle.chain_defs.specs.Kept.{block_at, block_hash, kept_limit}
+use Rattle.outside.specs.Image.{Image}
+use Rattle.store_defs.specs.Store.{StandsFor}
 use Rattle.verdict_defs.specs.Chain.{Chain, verdict_over}
 use Rattle.verdict_defs.specs.declared.verdict.Verdict.TheVariants.{Joined}
 use Rattle.pool_defs.specs.Assembly.{assembled}
@@ -34,3 +36,7 @@ UnbrokenIsCanonical = (chain : Chain) (witness : CellbaseWitness) (items : List 
 abbrev pub UnbrokenIsJoined : Type 0
 UnbrokenIsJoined = (chain : Chain) (witness : CellbaseWitness) (items : List (List ℕ)) (b : Block) → IsUnbroken chain witness items
     → (assembled chain witness items).block ≡ b → verdict_over chain (encoded shapes.block b) ≡ Joined b.header.number (block_hash b)
+
+-- Law: the numbers of a chain that a store keeps are as bytes hold them, where its compact target has 32 bits.
+abbrev pub KeptIsInRange : Type 0
+KeptIsInRange = (chain : Chain) (image : Image) → StandsFor chain image → chain.spec.compact_target < 2 ^ 32 → IsInRange chain
