@@ -99,6 +99,12 @@ def of_transactions(text):
     return '%.0f µs a transaction' % float(find(r'a block, ([\d.]+) us a transaction$', text)[0]), ''
 
 
+def of_assemble(text):
+    own, beside = find(r'of the processor, import [\d.]+ ms, ([\d.]+) us and ([\d.]+) us a transaction$', text)
+    return '%s (%.0f µs a transaction)' % (share(find(r'^ratio ([\d.]+)$', text)[0], 'processor time'), float(own)), (
+        'the `import` of the block that it makes (%.0f µs)' % float(beside))
+
+
 def of_branches(text):
     steps = [float(row[5]) for row in map(str.split, text.splitlines()) if len(row) == 6 and row[0].isdigit()]
     if not steps:
@@ -135,6 +141,8 @@ BENCHES = {
     'importing': Bench(['importing.py', '--plain', '--row', '--tmpfs'], 'ckbdev', True, [
         Figure('`import` of 20,000 small blocks in a row, the store in memory; of 2,000', of_importing),
         Figure('the same with 100 transactions a block, each with two inputs, two outputs and one script group', of_transactions)]),
+    'assemble': Bench(['assemble.py'], 'ckbdev', True,
+                      [Figure('`assemble` of 1,000 transfers, each with two inputs, two outputs and one script group', of_assemble)]),
     'branches': Bench(['branches.py'], 'ckbdev', True,
                       [Figure("`import` of a block on another branch than the tip's", of_branches)]),
     'opening': Bench(['opening.py'], 'ckbdev', True, [Figure('opening a store of 20,000 blocks', of_opening)]),

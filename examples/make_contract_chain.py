@@ -8,6 +8,7 @@
         transfer.txt        its line
         refused.bin         another: one that breaks a rule
         refused.txt         its line
+        witness.bin         the first item of `assemble`: a `CellbaseWitness`
 
 The contract is scripts/exit.elf, which exits with the first byte of its args, or with 0
 where they are empty. So it is a lock that opens without args, and one that never does
@@ -24,7 +25,7 @@ import os
 
 import encoding
 import make_store as store
-from encoding import cell_input, ckbhash, hash_of_all, out_point, raw_transaction, transactions_root
+from encoding import as_bytes, cell_input, ckbhash, hash_of_all, out_point, raw_transaction, table, transactions_root
 from make_first_blocks import input_and_text, joined
 from make_store import COIN, PROGRAM, SHANNONS, Spec
 from script_scene import Cell, Scene, Script
@@ -43,6 +44,9 @@ OPEN = Script(ckbhash(CONTRACT))
 SHUT = Script(ckbhash(CONTRACT), args=b'\7')
 
 GENESIS = store.genesis(SPEC, outputs=((store.occupied(CONTRACT), CONTRACT),))
+
+# whom a block's reward is for: the lock of all, and no message
+WITNESS = table([store.LOCK, as_bytes(b'')])
 
 
 # ------------------------------------------------------------ transactions
@@ -206,6 +210,7 @@ def main():
         given, text = input_and_text(items)
         store.write(os.path.join(HERE, name + '.bin'), given)
         store.write(os.path.join(HERE, name + '.txt'), text)
+    store.write(os.path.join(HERE, 'witness.bin'), WITNESS)
 
 
 if __name__ == '__main__':

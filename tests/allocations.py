@@ -8,7 +8,9 @@ import sys
 
 from harness import FIRST_INIT, FIRST_LINE, Ran, first, must, must_answer, must_be, must_have_tip, new_folder, new_store
 sys.path.insert(0, os.path.join(os.path.dirname(os.path.abspath(__file__)), 'rows'))
-import branch_runs  # noqa: E402 (beside the path above)
+import assembled_runs  # noqa: E402 (beside the path above)
+import assembling  # noqa: E402
+import branch_runs  # noqa: E402
 import stream_faults  # noqa: E402
 
 # Stands before the C library's allocations. It refuses the one whose number REFUSED gives, and at the end writes to the
@@ -129,6 +131,20 @@ def check_each_allocation_refused(program):
             for output in branch_runs.ASKED:
                 text = (branch_runs.line_of(branch_runs.live_cells(chain.best[-1]), output) + '\n').encode()
                 runs.must_bear(store, ['cell', '0x' + output[0].hash.hex(), str(output[1])], b'', 0, text, lambda _, text=text: [text], 'cell')
+
+
+def check_each_allocation_of_assemble_refused(program):
+    """Of two transactions, of which the second spends what the first makes."""
+    with shim() as library:
+        if not library or Ran([program], env=dict(os.environ, LD_PRELOAD=library)).err:
+            return
+        chain = next(assembled_runs.each_on_the_other())
+        with assembling.store_of(program, chain) as store:
+            for words, status, given, text in chain.rows[:3]:
+                if words == 'assemble':
+                    Runs(program, library).must_bear(store, [words], given, status, text, lambda _: [text], words)
+                else:
+                    must_answer(Ran([program, store, words], given), status, text, words)
 
 
 def lines_of(lines):

@@ -20,6 +20,7 @@ import sys
 
 sys.dont_write_bytecode = True
 import allocations  # noqa: E402 (beside the line above)
+import assembling  # noqa: E402
 import chain_snapshots  # noqa: E402
 import documents  # noqa: E402
 import folders  # noqa: E402
@@ -40,7 +41,7 @@ def main():
     a.add_argument('--program')
     a.add_argument('words', nargs='*')
     a = a.parse_args()
-    modules = streams, json_texts, folders, allocations, chain_snapshots, script, documents, tracing, stored
+    modules = streams, assembling, json_texts, folders, allocations, chain_snapshots, script, documents, tracing, stored
     checks = [it for module in modules for it in checks_of(module)]
     checks = [it for it in checks if not a.words or any(word in it[0] for word in a.words)]
     program = a.program and os.path.abspath(a.program)

@@ -14,6 +14,7 @@ import block_json
 from harness import (CONTRACT_INIT, CONTRACT_LINE, FIRST_INIT, FIRST_LINE, SCRIPT, SECONDS, TOP, Ran, chain_of,
                      contract, first, line_of, must, must_answer, must_be, must_have_tip, new_folder, new_store,
                      started, status_of)
+from assembling import assembled_on_contract
 from encoding import ckbhash, data_hash
 from streams import BAD_WORDS
 
@@ -74,6 +75,7 @@ def check_script_explains_statuses(_):
         must_tell(['store', 'import'], 9, b'bad size 0\n', 'the size at the start', b'\3\0\0\0')
         must_tell(['empty', 'exec', '5'], 12, b'extra 1048576\n', 'bytes follow', bytes((1 << 20) + 1))
         must_tell(['empty', 'init'], 8, b'cut 0\n', 'a specification and a genesis')
+        must_tell(['store', 'assemble'], 8, b'cut 0\n', "its cellbase's witness")
         bad = first.changed(first.SPEC, epoch_length=0).item() + first.GENESIS.item()
         must_tell(['empty', 'init'], 11, b'bad spec S2\n', 'the rule that the line names', bad)
 
@@ -232,8 +234,8 @@ def check_script_answers_words_without_a_build(_):
         usages = [it.run(words=[word]) for word in ('--help', '-h')]
         must_be(usages[0], usages[1], '--help and -h')
         must_be((usages[0][0], usages[0][2]), (0, b''), '--help')
-        for command in ('init', 'import', 'check', 'tip', 'header N', 'json N', 'epoch', 'cell HASH N', 'dao HASH N', 'exec N',
-                        'asm', 'dis', 'unjson', 'make N M'):
+        for command in ('init', 'import', 'check', 'assemble', 'tip', 'header N', 'json N', 'epoch', 'cell HASH N', 'dao HASH N',
+                        'exec N', 'asm', 'dis', 'unjson', 'make N M', 'soak N M'):
             lines = [line for line in usages[0][1].splitlines() if b'ckbdev FOLDER %s ' % command.encode() in line]
             must_be(len(lines), 1, 'lines of --help on ' + command)
         status, out, err = it.run(words=['--version'])
@@ -432,6 +434,14 @@ def check_refusals(_):
             must(len(found) == 1, 'docs/%s has %d rows of %s' % (page, len(found), name % number))
 
 
+def blocks_of_items():
+    """Three blocks after the chain with a contract: the first and the third are assembled of two transactions, the second of none."""
+    items = [contract.TRANSFER, contract.FORCES]
+    for given, (lines, joined) in zip(('items', 'examples/witness.bin', 'items'), assembled_on_contract(items, [], items)):
+        yield './ckbdev contract assemble < %s | python3 examples/take_block.py block' % given, 0, lines
+        yield './ckbdev contract import < block', 0, joined
+
+
 def check_readme(_):
     """What the README and the page on examples/ show is what comes."""
     readme, examples = shown_by('README.md'), shown_by('examples/README.md')
@@ -467,6 +477,8 @@ def check_readme(_):
          b''.join(it for it in text_of_contract.splitlines(keepends=True) if it.startswith(b'refused'))),
         ('./ckbdev contract check < examples/transfer.bin', 0, (contract.transfer()[1] + '\n').encode()),
         ('./ckbdev contract check < examples/refused.bin', 1, (contract.refused()[1] + '\n').encode()),
+        ('cat examples/witness.bin examples/transfer.bin examples/refused.bin > items', 0, b''),
+        *blocks_of_items(),
     ]
     with new_folder() as away:
         for folder, page in (('chain', readme), ('own', examples), ('contract', readme)):

@@ -26,7 +26,7 @@ PARTS = {
     'reorg_vectors': ('moves',),
     'store_vectors': (OTHERS, 'kept_bodies', 'snapshots'),
     'run_vectors': (OTHERS, 'stopped_logs', 'rule_runs', OTHERS, 'reward_runs', OTHERS, 'dao_amounts', 'branch_runs',
-                    'snapshot_runs', 'snapshot_stops', 'stream_faults'),
+                    'snapshot_runs', 'snapshot_stops', 'stream_faults', 'assembled_runs'),
     'format_vectors': (OTHERS, 'sample_blocks', OTHERS),
 }
 # scripts that make no rows by themselves, or of a folder that is not stored here
@@ -102,7 +102,7 @@ def check_import_lines(_):
 def check_stored_samples(_):
     """The files of examples/ that its scripts make."""
     files = {'spec.bin': first.SPEC.item(), 'genesis.bin': first.GENESIS.item(),
-             'genesis.json': json.dumps(block_json.tree_of(first.GENESIS.item()), indent=2).encode() + b'\n'}
+             'witness.bin': contract.WITNESS, 'genesis.json': json.dumps(block_json.tree_of(first.GENESIS.item()), indent=2).encode() + b'\n'}
     for name, items in (('first-blocks', first.first_blocks()[0]), ('contract-chain', contract.contract_chain()[0]),
                         ('transfer', [contract.transfer()]), ('refused', [contract.refused()])):
         files[name + '.bin'], files[name + '.txt'] = first.input_and_text(items)

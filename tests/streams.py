@@ -31,6 +31,7 @@ BAD_WORDS = [
     ['any', 'import', 'import'], ['any', 'import', ''], ['', 'init'], ['any', 'init', 'init'], ['any', 'INIT'],
     ['', 'tip'], ['any', 'tip', '0'], ['any', 'tips'], ['check'], ['', 'check'], ['any', 'Check'], ['any', 'checks'],
     ['any', 'check', ''], ['any', 'check', '0'], ['any', 'check', 'check'], ['any', 'exec'], ['any', 'exec', ''],
+    ['assemble'], ['', 'assemble'], ['any', 'assemble', ''], ['any', 'assemble', '0'], ['any', 'Assemble'], ['any', 'assembles'],
     ['any', 'exec', '01'], ['any', 'exec', '-1'], ['any', 'exec', '+1'], ['any', 'exec', '0x1'],
     ['any', 'exec', '1 '], ['any', 'exec', '1099511627777'], ['any', 'exec', '5', '6'],
     ['asm'], ['', 'asm'], ['any', 'asm', ''], ['any', 'Asm'], ['any', 'dis', '0'], ['any', 'diss'],
@@ -312,7 +313,7 @@ def check_size_words(program):
 
     chain = chain_of(1)
     with chain.store(program) as folder:
-        for words in ('import', 'check'):
+        for words in ('import', 'check', 'assemble'):
             for size in (2 ** 20 + 1, 2 ** 31, 2 ** 32 - 1):
                 ran = Ran([program, folder, words], size_word(size), preexec_fn=limit)
                 must_answer(ran, 9, b'bad size 0\n', '%s, a size of %d' % (words, size))

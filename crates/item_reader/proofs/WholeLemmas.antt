@@ -1,9 +1,9 @@
 -- What was given of an input that is read whole, at each exit.
 use Rattle.std.proofs.Common.{◌≡◌, ◌⊎◌, inl, inr, ℕ, ◌+◌, ◌≤◌, ◌<◌, true, false, List, [], ◌∷◌, ◌++◌, length, map, get_or, drop, sum, slice_get, Vec, Global, refl, ap, sym, ◌∙◌, subst, arith, append-nil, append_assoc, length-append}
-use Rattle.std.specs.Prelude.{Option, Some, None, nat_lt, if◌then◌else◌}
+use Rattle.std.specs.Prelude.{Option, Some, None, Ok, nat_lt, if◌then◌else◌}
 use Rattle.std.specs.List.{concat}
 use Rattle.std.specs.Io.KnownBytes.{IsAtEnd}
-use Rattle.std.proofs.lemmas.Bool.Decides.{nat_tests}
+use Rattle.std.proofs.lemmas.Bool.Decides.{nat_tests, leb_tells}
 use Rattle.std.proofs.Output.{concat-append}
 use Rattle.std.proofs.lemmas.List.{length-map}
 use Rattle.std.proofs.lemmas.List.Sums.{sum_by-drop_more}
@@ -12,10 +12,10 @@ use Rattle.outside.specs.Streams.{Gives}
 use Rattle.outside.proofs.Streams.{gives_more}
 use Rattle.report_defs.specs.declared.end.End.{End}
 use Rattle.report_defs.specs.declared.end.End.TheVariants.{AtEnd, Cut, BadSize, Extra}
-use Rattle.report_defs.specs.Items.{Split, IsItem, IsTaken, AreItems, split_of, end_offset, whole_limits, end_of_needed, end_of_whole, ReadsNoFurther}
+use Rattle.report_defs.specs.Items.{Split, IsItem, IsTaken, AreItems, split_of, end_offset, whole_limits, end_of_needed, end_after, end_of_whole, ReadsNoFurther}
 use Rattle.report_defs.proofs.ItemLemmas.{split_of-is, all_items-append}
 use Rattle.item_reader.specs.Items.{IsPartial, IsItemAt, EndsAt}
-use Rattle.item_reader.specs.Whole.{IsWhole, EndsEarly}
+use Rattle.item_reader.specs.Whole.{IsWhole, EndsEarly, IsReadWhole, whole_at}
 use Rattle.item_reader.proofs.Reading.{ends_at_byte}
 use Rattle.item_reader.proofs.FurtherLemmas.{items_no_further, partial_no_further, stopped_no_further, byte_no_further}
 
@@ -65,13 +65,35 @@ pub offset_fits : (limits : List ℕ) (i offset size : ℕ) → i < length limit
     → offset + size + sum (drop (i + 1) limits) ≤ sum limits
 offset_fits limits i offset size more fits least = omega (arith, fits, least, sum_by-drop_more (λ (n : ℕ). n) limits i 0 more)
 
--- ---- Where the reading ended early
+-- ---- How many they are
+
+-- no more than there are limits
+pub few_items : (limits : List ℕ) (place : ℕ) (items : List (List ℕ)) → AreItems (whole_limits limits) place items → place ≤ length limits
+    → place + length items ≤ length limits
+few_items limits place [] all few = omega (arith, few)
+few_items limits place (item ∷ items) all few = elim (leb_tells (place + 1) (length limits)) [
+  | inl there ↦ omega (arith, few_items limits (place + 1) items all.1 there.1)
+  | inr none ↦ absurd (subst (λ (l : Option ℕ). IsTaken l item) (slice_get_past limits place (omega (arith, none.1))) all.0)
+]
+
+-- ---- How the reading ended
 
 needed_early : (end : End) → end_of_needed end ≡ AtEnd → ⊥
 needed_early AtEnd e = cc
 needed_early Cut e = cc
 needed_early BadSize e = cc
 needed_early Extra e = cc
+
+-- it is at the end only after all that is needed
+after_at_end : (needed count : ℕ) (end : End) → end_after needed count end ≡ AtEnd → (needed ≤ count) × (end ≡ AtEnd)
+after_at_end needed count end is = elim (leb_tells needed count) [
+  | inl enough ↦
+      let test : nat_lt count needed ≡ false = grind (arith, nat_tests) in
+      (enough.1, rw test at is)
+  | inr few ↦
+      let test : nat_lt count needed ≡ true = grind (arith, nat_tests) in
+      absurd (needed_early end (rw test at is))
+]
 
 module _ (limits : List ℕ) (items : List (List ℕ)) (all : AreItems (whole_limits limits) 0 items) where
   -- the split of all of the input
@@ -90,15 +112,14 @@ module _ (limits : List ℕ) (items : List (List ℕ)) (all : AreItems (whole_li
       here : EndsAt (slice_get limits (length items)) None (length (concat items)) left end given
       here = subst (λ l. EndsAt l None (length (concat items)) left end given) (sym limit_is) (subst (λ n. EndsAt limit None n left end given) offset_is ends_here)
 
-  -- before an item that is needed
-  pub ends_before : (limit : ℕ) (left : Option (List ℕ)) (end : End) (offset : ℕ) (given whole : List ℕ)
-      → whole ≡ concat items ++ given → slice_get limits (length items) ≡ Some limit → length items < length limits → offset ≡ length (concat items)
-      → EndsAt (Some limit) None offset left end given → IsPartial limit None offset given → EndsEarly limits left (end_of_needed end) offset whole
-  ends_before limit left end offset given whole whole_is limit_is few offset_is ends_here partial = record {
-    early = needed_early end;
-    ends = λ more is.
-        let test : nat_lt (length items) (length limits) ≡ true = grind (arith, nat_tests) in
-        ap (λ (s : Split). end_of_whole (length limits) s) (split more is) ∙ rw test refl;
+  -- where the reading ended otherwise than after all that is needed
+  ended_early : (needed limit : ℕ) (left : Option (List ℕ)) (end : End) (offset : ℕ) (given whole : List ℕ)
+      → whole ≡ concat items ++ given → slice_get limits (length items) ≡ Some limit → offset ≡ length (concat items)
+      → EndsAt (Some limit) None offset left end given → IsPartial limit None offset given
+      → (end_after needed (length items) end ≡ AtEnd → ⊥) → EndsEarly limits needed left (end_after needed (length items) end) offset whole
+  ended_early needed limit left end offset given whole whole_is limit_is offset_is ends_here partial early = record {
+    early = early;
+    ends = λ more is. ap (λ (s : Split). end_of_whole needed s) (split more is);
     there = λ more is. ap (λ (s : Split). end_offset s) (split more is) ∙ sym offset_is;
     enough = omega (arith, ap length whole_is, length-append (concat items) given, offset_is);
     no_further = partial_no_further (whole_limits limits) items all tt limit offset given whole whole_is limit_is offset_is partial;
@@ -107,15 +128,56 @@ module _ (limits : List ℕ) (items : List (List ℕ)) (all : AreItems (whole_li
       split : (more : List ℕ) → left ≡ Some more → split_of (whole_limits limits) (whole ++ more) ≡ record { items = items; rest = given ++ more; end = end }
       split more is = split_there (Some limit) left end offset given whole more whole_is limit_is offset_is ends_here is
 
+  -- after all that is needed
+  ended_whole : (needed limit : ℕ) (left : Option (List ℕ)) (end : End) (offset : ℕ) (given whole : List ℕ)
+      → whole ≡ concat items ++ given → EndsAt (Some limit) None offset left end given
+      → end_after needed (length items) end ≡ AtEnd → IsWhole limits needed left items whole
+  ended_whole needed limit left end offset given whole whole_is ends_here is =
+      let there = after_at_end needed (length items) end is in
+      record {
+        same = whole_is ∙ ap (λ bs. concat items ++ bs) (ends_here.nothing there.1) ∙ append-nil (concat items);
+        all = all;
+        count = there.0;
+        to_end = ends_here.to_end there.1;
+      }
+
+  -- by how it ended
+  answer_at : (needed limit : ℕ) (left : Option (List ℕ)) (vectors : Vec (Vec ℕ Global) Global) (end told : End) (offset : ℕ) (given whole : List ℕ)
+      → items ≡ map (λ (v : Vec ℕ Global). v.items) vectors.items
+      → whole ≡ concat items ++ given → slice_get limits (length items) ≡ Some limit → offset ≡ length (concat items)
+      → EndsAt (Some limit) None offset left end given → IsPartial limit None offset given
+      → end_after needed (length items) end ≡ told → IsReadWhole limits needed left (Ok (whole_at vectors offset told)) whole
+  answer_at needed limit left vectors end AtEnd offset given whole items_are whole_is limit_is offset_is ends_here partial is =
+      subst (λ (them : List (List ℕ)). IsWhole limits needed left them whole) items_are (ended_whole needed limit left end offset given whole whole_is ends_here is)
+  answer_at needed limit left vectors end Cut offset given whole items_are whole_is limit_is offset_is ends_here partial is =
+      subst (λ (e : End). EndsEarly limits needed left e offset whole) is
+      (ended_early needed limit left end offset given whole whole_is limit_is offset_is ends_here partial (λ at. absurd (cc)))
+  answer_at needed limit left vectors end BadSize offset given whole items_are whole_is limit_is offset_is ends_here partial is =
+      subst (λ (e : End). EndsEarly limits needed left e offset whole) is
+      (ended_early needed limit left end offset given whole whole_is limit_is offset_is ends_here partial (λ at. absurd (cc)))
+  answer_at needed limit left vectors end Extra offset given whole items_are whole_is limit_is offset_is ends_here partial is =
+      subst (λ (e : End). EndsEarly limits needed left e offset whole) is
+      (ended_early needed limit left end offset given whole whole_is limit_is offset_is ends_here partial (λ at. absurd (cc)))
+
+  -- before an item that may be there
+  pub read_at : (needed limit count : ℕ) (left : Option (List ℕ)) (vectors : Vec (Vec ℕ Global) Global) (end : End) (offset : ℕ) (given whole : List ℕ)
+      → items ≡ map (λ (v : Vec ℕ Global). v.items) vectors.items → count ≡ length vectors.items
+      → whole ≡ concat items ++ given → slice_get limits (length items) ≡ Some limit → offset ≡ length (concat items)
+      → EndsAt (Some limit) None offset left end given → IsPartial limit None offset given
+      → IsReadWhole limits needed left (Ok (whole_at vectors offset (end_after needed count end))) whole
+  read_at needed limit count left vectors end offset given whole items_are count_is whole_is limit_is offset_is ends_here partial =
+      answer_at needed limit left vectors end (end_after needed count end) offset given whole items_are whole_is limit_is offset_is ends_here partial
+      (ap (λ (n : ℕ). end_after needed n end) (ap length items_are ∙ count_of vectors.items count (sym count_is)))
+
   -- behind the last
-  pub ends_behind : (left : Option (List ℕ)) (offset : ℕ) (given whole : List ℕ)
-      → whole ≡ concat items ++ given → length items ≡ length limits → offset ≡ length (concat items)
-      → length given ≡ 1 → EndsEarly limits left Extra offset whole
-  ends_behind left offset given whole whole_is count offset_is one = record {
+  pub ends_behind : (needed : ℕ) (left : Option (List ℕ)) (offset : ℕ) (given whole : List ℕ)
+      → whole ≡ concat items ++ given → needed ≤ length limits → length items ≡ length limits → offset ≡ length (concat items)
+      → length given ≡ 1 → EndsEarly limits needed left Extra offset whole
+  ends_behind needed left offset given whole whole_is enough count offset_is one = record {
     early = λ e. cc;
     ends = λ more is.
-        let test : nat_lt (length items) (length limits) ≡ false = grind (arith, nat_tests) in
-        ap (λ (s : Split). end_of_whole (length limits) s) (split more is) ∙ rw test refl;
+        let test : nat_lt (length items) needed ≡ false = grind (arith, nat_tests) in
+        ap (λ (s : Split). end_of_whole needed s) (split more is) ∙ rw test refl;
     there = λ more is. ap (λ (s : Split). end_offset s) (split more is) ∙ sym offset_is;
     enough = omega (arith, ap length whole_is, length-append (concat items) given, offset_is);
     no_further = byte_no_further (whole_limits limits) items all tt given whole whole_is (last_limit limits items count) one;

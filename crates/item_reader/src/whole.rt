@@ -1,8 +1,9 @@
 // An input that is read whole.
-ghost use Rattle.std.specs.Prelude.{◌≡◌, ◌^◌, ◌≤◌, Err, sum};
+ghost use Rattle.std.specs.Prelude.{◌≡◌, ◌^◌, ◌≤◌, Err, length, sum};
 ghost use Rattle.outside.specs.Causes.{CountsFault};
 ghost use Rattle.report_defs.specs.Items as items;
 ghost use Rattle.item_reader.specs.Items.{Gave};
+ghost use Rattle.item_reader.specs.Whole as wholes;
 ghost use Rattle.item_reader.specs.Whole.{IsReadWhole};
 
 use crate::next::{Next, has_more, next_item};
@@ -10,7 +11,7 @@ use outside::Source;
 use report_defs::{End, Status};
 use std::alloc::Global;
 
-/// What an input holds that has so many items and nothing after them: these, or its reading ends at an offset
+/// What an input holds that has items within its limits and nothing after them: these, or its reading ends at an offset
 /// where it should not.
 #[derive(Drop)]
 pub enum Whole {
@@ -18,15 +19,17 @@ pub enum Whole {
     Early { end: End, offset: u64 },
 }
 
-/// Reads an item for each of these limits, and the end of the input, or up to where it ends early. The status is
-/// `InputFault` or `NoMemory`.
+/// Reads at most an item for each of these limits, of which the first `needed` must be there, and the end of the input, or up to
+/// where it ends early. The status is `InputFault` or `NoMemory`.
 pub fn read_whole<S: Source>(
     alloc: Global,
     input: &mut S,
     limits: &[usize],
+    needed: usize,
 ) -> Result<Whole, Status>
-    requires { sum limits.now ≤ 2 ^ 62 }
-    ensures read { Gave (S.left input.old) (S.left input.new) (IsReadWhole limits.now (S.left input.new) result) }
+    requires offsets { sum limits.now ≤ 2 ^ 62 }
+    requires needed { needed ≤ length limits.now }
+    ensures read { Gave (S.left input.old) (S.left input.new) (IsReadWhole limits.now needed (S.left input.new) result) }
     ensures faults { CountsFault (S.faults input.old) (S.faults input.new) (result ≡ Err Status.InputFault) }
 {
     let mut items = Vec::new(alloc);
@@ -35,10 +38,8 @@ pub fn read_whole<S: Source>(
         let item = match next_item(alloc, input, *limit, None, offset) {
             Ok(Next::Item(item)) => item,
             Ok(Next::End(end)) => {
-                return Ok(Whole::Early {
-                    end: end_of_needed(end),
-                    offset,
-                });
+                let end = end_after(needed, items.len(), end);
+                return Ok(whole_at(items, offset, end));
             }
             Err(status) => return Err(status),
         };
@@ -59,6 +60,38 @@ pub fn read_whole<S: Source>(
         });
     }
     Ok(Whole::Items(items))
+}
+
+/// What is answered where the reading ends so at an offset, after these items.
+fn whole_at(items: Vec<Vec<u8>>, offset: u64, end: End) -> Whole
+    ensures { result ≡ wholes.whole_at items offset end }
+{
+    match end {
+        End::AtEnd => Whole::Items(items),
+        End::Cut => Whole::Early {
+            end: End::Cut,
+            offset,
+        },
+        End::BadSize => Whole::Early {
+            end: End::BadSize,
+            offset,
+        },
+        End::Extra => Whole::Early {
+            end: End::Extra,
+            offset,
+        },
+    }
+}
+
+/// How the reading ends after so many items, where the first `needed` must be there.
+fn end_after(needed: usize, count: usize, end: End) -> End
+    ensures { result ≡ items.end_after needed count end }
+{
+    if count < needed {
+        end_of_needed(end)
+    } else {
+        end
+    }
 }
 
 /// Where an item is needed, an input that ends between two items is cut.

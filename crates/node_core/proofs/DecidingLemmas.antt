@@ -31,8 +31,9 @@ use Rattle.tx_defs.specs.Site.{site_after}
 use Rattle.time_defs.specs.Dao.{is_rated}
 use Rattle.block_judge.specs.Standing.{Stands, StandsWhole}
 use Rattle.cell_defs.specs.Fit.{BranchFits}
-use Rattle.verdict_defs.specs.Verdict.{verdict, verdict_of, verdict_of_block, verdict_on, verdict_by_rules}
-use Rattle.verdict_defs.specs.Chain.{Chain}
+use Rattle.verdict_defs.specs.Verdict.{joins, verdict, verdict_of, verdict_of_block, verdict_on, verdict_by_rules}
+use Rattle.verdict_defs.specs.Chain.{Chain, verdict_over}
+use Rattle.tx_pool.specs.declared.assembling.Assembled.{Assembled}
 use Rattle.verdict_defs.specs.Trial.{trial_on, trial_by}
 use Rattle.verdict_defs.specs.declared.verdict.Verdict.{Verdict}
 use Rattle.verdict_defs.specs.declared.verdict.Verdict.TheVariants.{Joined, Known, Refused, Full}
@@ -104,6 +105,19 @@ whole-at-hand spec stored entries index state kept b entry whole are on joined l
           (within-entries (blocks_of stored) kept.chain.blocks entries entry.parent seen are.indexed
           (place_of-below kept.chain.blocks b.header.parent_hash entry.parent on.on_kept))
           (subst (λ (blocks : List Block). AreOf blocks entry.parent (rows state)) (sym seen) live);
+      uncles = are.uncles;
+      fees = have-own-fees spec stored before.joined before.own are.counted;
+    }
+
+-- all that a block after the tip is judged over
+pub whole-at-tip : (spec : Specification) (stored : List Stored) (entries : List Entry) (index : UnclesValue) (state : StateValue) (kept : KeptValue) (place : ℕ)
+    → kept_of spec stored entries ≡ kept → AreKept stored entries index → AreJoined kept.chain kept.exts → AreOfTip kept.chain.blocks (rows state)
+    → tip_place (blocks_of stored) ≡ Some place → place < length entries → StandsWhole spec stored entries place (rows state) index
+whole-at-tip spec stored entries index state kept place whole are joined live is below =
+    let before : AreJoined (kept_of spec stored entries).chain (kept_of spec stored entries).exts = subst (λ (k : KeptValue). AreJoined k.chain k.exts) (sym whole) joined in
+    record {
+      stands = stands-tip spec stored entries index (rows state) place are (subst (λ (k : KeptValue). AreOfTip k.chain.blocks (rows state)) (sym whole) live)
+          before.joined is below;
       uncles = are.uncles;
       fees = have-own-fees spec stored before.joined before.own are.counted;
     }
@@ -230,3 +244,11 @@ pub trial-passes-else : {E : Type 0} (spec : Specification) (kept : List Block) 
     → IfOk result (λ it. trial_on spec (best_branch kept) t ≡ trials.Passes it.0 it.1)
 trial-passes-else spec kept t tip (Ok it) is found is_fee is_cycles = trial-passes spec kept t tip is it.0 it.1 found is_fee is_cycles
 trial-passes-else spec kept t tip (Err stop) is found is_fee is_cycles = tt
+
+-- ---- A block that is assembled
+
+pub joins-made : {E : Type 0} (chain : Chain) (number : ℕ) (hash : List ℕ) (result : Result Assembled E)
+    → IfOk result (λ made. made.broken ≡ None → verdict_over chain made.block.items ≡ Joined number hash)
+    → IfOk result (λ made. made.broken ≡ None → joins (verdict_over chain made.block.items) ≡ true)
+joins-made chain number hash (Ok made) answers = λ unbroken. ap joins (answers unbroken)
+joins-made chain number hash (Err stop) answers = tt

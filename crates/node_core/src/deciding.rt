@@ -1,5 +1,8 @@
 // What is to become of an item, over the kept blocks.
-ghost use Rattle.std.specs.Prelude.{◌≡◌, ◌≢◌, ◌≤◌, ◌+◌, ◌-◌, ◌<◌, ◌^◌, nat_lt, ℕ, length, Some, None, Err, IfOk, OnOk};
+ghost use Rattle.std.specs.Prelude.{◌≡◌, ◌≢◌, ◌≤◌, ◌==◌, ◌+◌, ◌-◌, ◌<◌, ◌^◌, nat_lt, ℕ, true, map, length, Some, None, Err, IfOk, OnOk, IsTrue};
+ghost use Rattle.std.specs.List.{All, list_any};
+ghost use Rattle.codec_defs.specs.Schema as schema;
+ghost use Rattle.codec_defs.specs.Shape.{encoded};
 ghost use Rattle.chain_defs.specs.Kept.{block_hash, place_of, kept_limit};
 ghost use Rattle.chain_defs.specs.Branch.{branch, distance};
 ghost use Rattle.chain_defs.specs.Tip.{best_branch};
@@ -12,6 +15,11 @@ ghost use Rattle.rule_names.specs.declared.rule.Rule.{Rule};
 ghost use Rattle.block_judge.specs.declared.stop.JudgeStop.TheVariants.{Broken, Read};
 ghost use Rattle.verdict_defs.specs.Trial.{trial_on};
 ghost use Rattle.verdict_defs.specs.declared.trial.Trial.TheVariants.{Passes, Refused};
+ghost use Rattle.verdict_defs.specs.Chain.{verdict_over};
+ghost use Rattle.verdict_defs.specs.Verdict.{joins};
+ghost use Rattle.pool_defs.specs.Assembly.{assembled};
+ghost use Rattle.pool_defs.specs.Laws.{breakable};
+ghost use Rattle.tx_pool.specs.Assembling.{IsAssembled, most_items, most_bytes};
 ghost use Rattle.node_core.specs.Steps.{moves_on, moves_of_block, moves_for};
 ghost use Rattle.cell_state.specs.State.{rows};
 ghost use Rattle.reorg.specs.Moves.{AreOf};
@@ -26,11 +34,12 @@ use block_judge::{Context, JudgeStop, NoCells, dry_run, judge, judge_at_sight};
 use cell_model::Ext;
 use cell_state::State;
 use chain_tree::{Blocks, Entry};
-use mol_schema::{BlockView, TxView};
+use mol_schema::{BlockView, CellbaseWitnessView, TxView};
 use outside::{ReadStop, Steps};
 use reorg::go_to;
 use std::alloc::Global;
 use std::sync::ledger::Ledger;
+use tx_pool::Assembled;
 use verdict_defs::Verdict;
 
 /// The most kept blocks, genesis included.
@@ -307,5 +316,38 @@ impl Kept {
             parent: self.tree.tip(),
         };
         dry_run(alloc, &context, blocks, tx)
+    }
+
+    /// Assembles a block after the tip, by its live cells.
+    pub(crate) fn assemble<B: Blocks>(
+        &self,
+        alloc: Global,
+        blocks: &mut B,
+        state: &State,
+        witness: &CellbaseWitnessView<'_>,
+        items: &[Vec<u8>],
+    ) -> Result<Assembled, ReadStop>
+        requires items { length items.now ≤ most_items }
+        requires bytes { All (λ item. length item.items ≤ most_bytes) items.now }
+        requires witness { length (encoded schema.cellbase_witness witness.now) ≤ most_bytes }
+        requires counts { B.count blocks.old ≡ length self.now.chain.blocks }
+        ensures read { HasRead B.told B.count B.loans_of B.faults B.damages blocks.old blocks.new (stop_of result) }
+        ensures assembled { TellsJoined self.now (B.told blocks.old) → AreOfTip self.now.chain.blocks (rows state.now)
+            → IfOk result (IsAssembled (assembled self.now.chain witness.now (map (λ item. item.items) items.now))) }
+        ensures joins { TellsJoined self.now (B.told blocks.old) → AreOfTip self.now.chain.blocks (rows state.now) → length self.now.chain.blocks < kept_limit
+            → IfOk result (λ made. made.broken ≡ None → joins (verdict_over self.now.chain made.block.items) ≡ true) }
+        ensures breaks_few { TellsJoined self.now (B.told blocks.old) → AreOfTip self.now.chain.blocks (rows state.now)
+            → IfOk result (λ made. (rule : ℕ) → made.broken ≡ Some rule → IsTrue (list_any (λ other. other == rule) breakable)) }
+        ensures undamaged { TellsJoined self.now (B.told blocks.old) → AreOfTip self.now.chain.blocks (rows state.now)
+            → (damage : Damage) → result ≡ Err (Damaged damage) → ⊥ }
+    {
+        let context = Context {
+            spec: &self.spec,
+            tree: &self.tree,
+            uncles: &self.uncles,
+            cells: state,
+            parent: self.tree.tip(),
+        };
+        tx_pool::assemble(alloc, &context, blocks, witness, items)
     }
 }

@@ -1,5 +1,6 @@
 // A node: what is kept of a store, and its disk.
-ghost use Rattle.std.specs.Prelude.{◌≡◌, ◌≢◌, ◌⊎◌, ◌↔◌, ◌<◌, ◌≤◌, ◌+◌, ◌-◌, ◌^◌, ◌++◌, ◌∷◌, [], ℕ, false, true, Ok, Err, List, None, Some, length, drop, IfOk, IfErr, OnOk, IfSome, IsSome, IsTrue, pos};
+ghost use Rattle.std.specs.Prelude.{◌≡◌, ◌≢◌, ◌⊎◌, ◌↔◌, ◌<◌, ◌≤◌, ◌==◌, ◌+◌, ◌-◌, ◌^◌, ◌++◌, ◌∷◌, [], ℕ, false, true, Ok, Err, List, None, Some, map, length, drop, IfOk, IfErr, OnOk, IfSome, IsSome, IsTrue, pos};
+ghost use Rattle.std.specs.List.{All, list_any};
 ghost use Rattle.std.specs.Option.{option_map};
 ghost use Rattle.outside.specs.Causes.{CountsFault};
 ghost use Rattle.outside.specs.Disk.{HasOneImage, OthersRead, LeavesOnly};
@@ -7,11 +8,11 @@ ghost use Rattle.outside.specs.Image.{Image};
 ghost use Rattle.outside.specs.declared.disk.Area.TheVariants.{Log as log_area};
 ghost use Rattle.outside.specs.declared.disk.Damage.{Damage};
 ghost use Rattle.outside.specs.declared.disk.ReadStop.TheVariants.{DiskFault, Damaged};
-ghost use Rattle.codec_defs.specs.Shape.{decoded};
+ghost use Rattle.codec_defs.specs.Shape.{decoded, encoded};
 ghost use Rattle.codec_defs.specs.Schema as schema;
 ghost use Rattle.codec_defs.specs.Schema.{Block};
 ghost use Rattle.time_defs.specs.Dao.{as_u64, counted_capacity};
-ghost use Rattle.chain_defs.specs.Kept.{place_of, block_at};
+ghost use Rattle.chain_defs.specs.Kept.{place_of, block_at, kept_limit};
 ghost use Rattle.tx_defs.specs.Capacity.{rate_of};
 ghost use Rattle.chain_defs.specs.Tip as tips;
 ghost use Rattle.chain_defs.specs.Tip.{tip_place, best_branch};
@@ -28,6 +29,9 @@ ghost use Rattle.verdict_defs.specs.Chain.{Chain, verdict_over, chain_after};
 ghost use Rattle.verdict_defs.specs.Verdict.{joins};
 ghost use Rattle.verdict_defs.specs.Trial.{trial_on};
 ghost use Rattle.verdict_defs.specs.declared.trial.Trial.TheVariants.{Passes, Refused};
+ghost use Rattle.pool_defs.specs.Assembly.{assembled};
+ghost use Rattle.pool_defs.specs.Laws.{breakable};
+ghost use Rattle.tx_pool.specs.Assembling.{IsAssembled, most_items, most_bytes};
 ghost use Rattle.log_defs.specs.Log.{Record, records_of};
 ghost use Rattle.log_defs.specs.LogLaws.{HasFittingBody};
 ghost use Rattle.log_defs.specs.Rest.{IsSettled};
@@ -58,11 +62,12 @@ use cell_state::State;
 use chain_tree::{Entry, Tree};
 use epochs::Spec;
 use log_file::{Body, Log, LogStop, append, next_rec};
-use mol_schema::TxView;
+use mol_schema::{CellbaseWitnessView, TxView};
 use outside::{Disk, NoMemory, ReadStop, Steps, WriteStop};
 use std::alloc::Global;
 use std::marker::Model;
 use std::sync::ledger::Ledger;
+use tx_pool::Assembled;
 use verdict_defs::Verdict;
 
 /// How many blocks a command's node holds in memory beside those on its disk: the ones that were used last.
@@ -509,6 +514,41 @@ impl Node {
         ensures undamaged { IsSoundOn self.old (D.reads_as disk.old) → (damage : Damage) → result ≡ Err (Read (Damaged damage)) → ⊥ }
     {
         over_disk::check(alloc, disk, &mut self.cache, &self.kept, &self.state, tx)
+    }
+
+    /// Assembles a block after the tip (docs/RULES.md, "A block that is assembled"), with this witness of its cellbase, of up
+    /// to 1,000 items in their order, each the bytes of a transaction: what becomes of each item, the bytes of the block, and
+    /// the first rule that it breaks. Nothing is kept of it. The witness and each item have at most 1,048,576 bytes.
+    pub fn assemble<D: Disk>(
+        &mut self,
+        alloc: Global,
+        disk: &mut D,
+        witness: &CellbaseWitnessView<'_>,
+        items: &[Vec<u8>],
+    ) -> Result<Assembled, ReadStop>
+        requires items { length items.now ≤ most_items }
+        requires bytes { All (λ item. length item.items ≤ most_bytes) items.now }
+        requires witness { length (encoded schema.cellbase_witness witness.now) ≤ most_bytes }
+        requires own { IsItsOwn self.old (D.reads_as disk.old) (D.images disk.old) }
+        ensures left { LeavesAll D.content_of D.reads_as D.images D.faults disk.old disk.new self.old self.new (stop_of result) }
+        ensures assembled { IsSoundOn self.old (D.reads_as disk.old)
+            → IfOk result (IsAssembled (assembled self.old.chain witness.now (map (λ item. item.items) items.now))) }
+        // One that breaks no rule joins where it is imported next, while there is room; one that breaks a rule breaks one of few.
+        ensures joins { IsSoundOn self.old (D.reads_as disk.old) → length self.old.chain.blocks < kept_limit
+            → IfOk result (λ made. made.broken ≡ None → joins (verdict_over self.old.chain made.block.items) ≡ true) }
+        ensures breaks_few { IsSoundOn self.old (D.reads_as disk.old)
+            → IfOk result (λ made. (rule : ℕ) → made.broken ≡ Some rule → IsTrue (list_any (λ other. other == rule) breakable)) }
+        ensures undamaged { IsSoundOn self.old (D.reads_as disk.old) → (damage : Damage) → result ≡ Err (Damaged damage) → ⊥ }
+    {
+        over_disk::assemble(
+            alloc,
+            disk,
+            &mut self.cache,
+            &self.kept,
+            &self.state,
+            witness,
+            items,
+        )
     }
 
     /// The height of the tip.

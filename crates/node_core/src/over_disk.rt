@@ -1,10 +1,13 @@
 // What is kept, over its disk: each call makes a source of kept blocks of the disk and the cache, and lets it go.
-ghost use Rattle.std.specs.Prelude.{◌≡◌, ◌≤◌, ◌<◌, ◌+◌, ◌-◌, length, Ok, Err, None, IfOk, OnOk, IfSome, IsSome};
+ghost use Rattle.std.specs.Prelude.{◌≡◌, ◌≤◌, ◌<◌, ◌==◌, ◌+◌, ◌-◌, ℕ, true, map, length, Ok, Err, Some, None, IfOk, OnOk, IfSome, IsSome, IsTrue};
+ghost use Rattle.std.specs.List.{All, list_any};
 ghost use Rattle.std.specs.Option.{option_map};
 ghost use Rattle.outside.specs.declared.disk.Damage.{Damage as a_damage};
 ghost use Rattle.outside.specs.declared.disk.ReadStop.TheVariants.{NoMemory, Damaged};
 ghost use Rattle.chain_defs.specs.Branch.{distance};
-ghost use Rattle.chain_defs.specs.Kept.{block_at};
+ghost use Rattle.chain_defs.specs.Kept.{block_at, kept_limit};
+ghost use Rattle.codec_defs.specs.Schema as schema;
+ghost use Rattle.codec_defs.specs.Shape.{encoded};
 ghost use Rattle.chain_defs.specs.Tip.{best_branch};
 ghost use Rattle.chain_tree.specs.Reading.{stop_of};
 ghost use Rattle.cell_state.specs.State.{rows};
@@ -15,6 +18,11 @@ ghost use Rattle.block_judge.specs.Stops.{read_stop_of};
 ghost use Rattle.block_judge.specs.declared.stop.JudgeStop.TheVariants.{Broken, Read};
 ghost use Rattle.verdict_defs.specs.Trial.{trial_on};
 ghost use Rattle.verdict_defs.specs.declared.trial.Trial.TheVariants.{Passes, Refused};
+ghost use Rattle.verdict_defs.specs.Chain.{verdict_over};
+ghost use Rattle.verdict_defs.specs.Verdict.{joins};
+ghost use Rattle.pool_defs.specs.Assembly.{assembled};
+ghost use Rattle.pool_defs.specs.Laws.{breakable};
+ghost use Rattle.tx_pool.specs.Assembling.{IsAssembled, most_items, most_bytes};
 ghost use Rattle.store_defs.specs.Store.{AreJoined};
 ghost use Rattle.node_core.specs.Node.{IsReadBy, HasOnlyRead, AreOfFound, AreOfTip};
 ghost use Rattle.node_core.specs.Steps.{moves_for};
@@ -28,10 +36,11 @@ use block_judge::JudgeStop;
 use block_store::{Cache, Store};
 use cell_model::OutPoint;
 use cell_state::State;
-use mol_schema::TxView;
+use mol_schema::{CellbaseWitnessView, TxView};
 use outside::{Disk, ReadStop, Steps};
 use std::alloc::Global;
 use std::sync::ledger::Ledger;
+use tx_pool::Assembled;
 
 /// Leads the live cells of the branch of one place to those of another's.
 pub(crate) fn moved<D: Disk, L: Ledger>(
@@ -106,6 +115,35 @@ pub(crate) fn check<D: Disk>(
 {
     let mut store = Store::new(alloc, disk, &kept.tree, cache);
     kept.check(alloc, &mut store, state, tx)
+}
+
+/// Assembles a block after the tip, by its live cells.
+pub(crate) fn assemble<D: Disk>(
+    alloc: Global,
+    disk: &mut D,
+    cache: &mut Cache,
+    kept: &Kept,
+    state: &State,
+    witness: &CellbaseWitnessView<'_>,
+    items: &[Vec<u8>],
+) -> Result<Assembled, ReadStop>
+    requires items { length items.now ≤ most_items }
+    requires bytes { All (λ item. length item.items ≤ most_bytes) items.now }
+    requires witness { length (encoded schema.cellbase_witness witness.now) ≤ most_bytes }
+    requires own { IfSome (D.reads_as disk.old) (IsReadBy kept.now cache.old.held) }
+    ensures looked { HasOnlyRead D.content_of D.reads_as D.faults disk.old disk.new kept.now cache.old cache.new (stop_of result) }
+    ensures assembled { IsSome (D.reads_as disk.old) → AreJoined kept.now.chain kept.now.exts → AreOfTip kept.now.chain.blocks (rows state.now)
+        → IfOk result (IsAssembled (assembled kept.now.chain witness.now (map (λ item. item.items) items.now))) }
+    ensures joins { IsSome (D.reads_as disk.old) → AreJoined kept.now.chain kept.now.exts → AreOfTip kept.now.chain.blocks (rows state.now)
+        → length kept.now.chain.blocks < kept_limit
+        → IfOk result (λ made. made.broken ≡ None → joins (verdict_over kept.now.chain made.block.items) ≡ true) }
+    ensures breaks_few { IsSome (D.reads_as disk.old) → AreJoined kept.now.chain kept.now.exts → AreOfTip kept.now.chain.blocks (rows state.now)
+        → IfOk result (λ made. (rule : ℕ) → made.broken ≡ Some rule → IsTrue (list_any (λ other. other == rule) breakable)) }
+    ensures undamaged { IsSome (D.reads_as disk.old) → AreJoined kept.now.chain kept.now.exts → AreOfTip kept.now.chain.blocks (rows state.now)
+        → (damage : a_damage) → result ≡ Err (Damaged damage) → ⊥ }
+{
+    let mut store = Store::new(alloc, disk, &kept.tree, cache);
+    kept.assemble(alloc, &mut store, state, witness, items)
 }
 
 /// The header at a height of the best branch.

@@ -23,6 +23,7 @@ use Rattle.item_reader.specs.Whole.{IsWhole, EndsEarly, IsReadWhole}
 use Rattle.item_reader.specs.declared.whole.Whole.{Whole}
 use Rattle.item_reader.specs.declared.whole.Whole.TheVariants.{Items}
 use Rattle.item_reader.proofs.FurtherLemmas.{items_no_further}
+use Rattle.item_reader.proofs.WholeLemmas.{few_items}
 use Rattle.node_run.specs.Store.{Delivers}
 use Rattle.node_run.specs.Import.{IsStop}
 use Rattle.node_run.specs.Init.{StandsAlone, new_statuses}
@@ -38,10 +39,10 @@ unfolding genesis_limit
 genesis_limit-is = refl
 
 -- the limits of the two items
-pub known_limits : (left : Option (List ℕ)) (result : Result Whole Status) (given : List ℕ) → IsReadWhole (1048576 ∷ 4194304 ∷ []) left result given
-    → IsReadWhole init_items left result given
+pub known_limits : (left : Option (List ℕ)) (result : Result Whole Status) (given : List ℕ) → IsReadWhole (1048576 ∷ 4194304 ∷ []) 2 left result given
+    → IsReadWhole init_items 2 left result given
 known_limits left result given read =
-    subst (λ (limits : List ℕ). IsReadWhole limits left result given)
+    subst (λ (limits : List ℕ). IsReadWhole limits 2 left result given)
     (ap (λ (n : ℕ). n ∷ 4194304 ∷ []) (sym item_limit-is) ∙ ap (λ (n : ℕ). item_limit ∷ n ∷ []) (sym genesis_limit-is)) read
 
 -- the items in two vectors
@@ -57,14 +58,16 @@ two_items (a ∷ b ∷ c ∷ more) one two first second count one_is two_is firs
 
 -- a specification and a genesis were read
 pub both_read : (left : Option (List ℕ)) (found : Whole) (vectors : Vec (Vec ℕ Global) Global) (given : List ℕ) (one two : Vec ℕ Global) (first second : List ℕ)
-    → found ≡ Items vectors → IsReadWhole (1048576 ∷ 4194304 ∷ []) left (Ok found) given
+    → found ≡ Items vectors → IsReadWhole (1048576 ∷ 4194304 ∷ []) 2 left (Ok found) given
     → one ≡ get_or vectors.items 0 one → two ≡ get_or vectors.items 1 two → first ≡ one.items → second ≡ two.items
-    → IsWhole init_items left (first ∷ second ∷ []) given
+    → IsWhole init_items 2 left (first ∷ second ∷ []) given
 both_read left found vectors given one two first second is read one_is two_is first_is second_is =
-    let whole : IsWhole init_items left (map (λ (v : Vec ℕ Global). v.items) vectors.items) given =
-    subst (λ (w : Whole). IsReadWhole init_items left (Ok w) given) is (known_limits left (Ok found) given read) in
-    let count : length vectors.items ≡ 2 = sym (length-map vectors.items (λ (v : Vec ℕ Global). v.items)) ∙ whole.count in
-    subst (λ (items : List (List ℕ)). IsWhole init_items left items given) (two_items vectors.items one two first second count one_is two_is first_is second_is) whole
+    let whole : IsWhole init_items 2 left (map (λ (v : Vec ℕ Global). v.items) vectors.items) given =
+    subst (λ (w : Whole). IsReadWhole init_items 2 left (Ok w) given) is (known_limits left (Ok found) given read) in
+    let same : length (map (λ (v : Vec ℕ Global). v.items) vectors.items) ≡ length vectors.items = length-map vectors.items (λ (v : Vec ℕ Global). v.items) in
+    let count : length vectors.items ≡ 2 =
+    omega (arith, same, whole.count, few_items init_items 0 (map (λ (v : Vec ℕ Global). v.items) vectors.items) whole.all (omega arith)) in
+    subst (λ (items : List (List ℕ)). IsWhole init_items 2 left items given) (two_items vectors.items one two first second count one_is two_is first_is second_is) whole
 
 -- ---- What the disk holds
 
@@ -101,14 +104,14 @@ module _ {D : Type 0} (reads_as : D → Option Image) (images : D → Image → 
 
 -- the report of the whole input, where there is no log
 abbrev pub full : List ℕ → Report
-full whole = whole_report init_items report_of_items whole
+full whole = whole_report init_items 2 report_of_items whole
 
 -- what is told of it, and how far was read and written
 abbrev pub Tells : Option (List ℕ) → List ℕ → List ℕ → Status → Type 0
 Tells left given taken status = MatchesReportOf full given left taken status × ReadsWhole init_limits (Done ∷ BadGenesis ∷ []) given left taken status
 
 unread : (left : Option (List ℕ)) (status : Status) → IsStop status → Tells left [] [] status
-unread left status stop = whole_stopped init_items report_of_items (Done ∷ BadGenesis ∷ []) (tt, (tt, tt)) left [] status stop (items_no_further init_limits [] tt tt [] refl)
+unread left status stop = whole_stopped init_items 2 report_of_items (Done ∷ BadGenesis ∷ []) (tt, (tt, tt)) left [] status stop (items_no_further init_limits [] tt tt [] refl)
 
 pub fault_at_once : (reads : Option Image) (at_start at_exit meanwhile : Image → Type 0) (left : Option (List ℕ)) → Delivers Init reads at_start at_exit meanwhile left [] [] DiskFault
 fault_at_once reads at_start at_exit meanwhile left = record {
@@ -161,16 +164,16 @@ pub init_unread : (reads : Option Image) (at_start at_exit meanwhile : Image →
     → Delivers Init reads at_start at_exit meanwhile left given [] status
 init_unread reads at_start at_exit meanwhile left given status none stop no_further =
     delivers_new reads at_start at_exit meanwhile left given [] status none
-    (whole_stopped init_items report_of_items (Done ∷ BadGenesis ∷ []) (tt, (tt, tt)) left given status stop no_further)
+    (whole_stopped init_items 2 report_of_items (Done ∷ BadGenesis ∷ []) (tt, (tt, tt)) left given status stop no_further)
     (λ now told done. absurd (subst IsStop done stop))
 
 -- the input ends early
 pub init_early : (reads : Option Image) (at_start at_exit meanwhile : Image → Type 0) (left : Option (List ℕ)) (given taken : List ℕ) (end : End) (offset : ℕ) (status : Status)
-    → ((store : Store) → IsStoreOf reads store → store ≡ NoLog) → EndsEarly init_items left end offset given → IsSaid (report_of_end offset end) status taken
+    → ((store : Store) → IsStoreOf reads store → store ≡ NoLog) → EndsEarly init_items 2 left end offset given → IsSaid (report_of_end offset end) status taken
     → Delivers Init reads at_start at_exit meanwhile left given taken status
 init_early reads at_start at_exit meanwhile left given taken end offset status none here said =
     delivers_new reads at_start at_exit meanwhile left given taken status none
-    (whole_early init_items report_of_items (Done ∷ BadGenesis ∷ []) (tt, (tt, tt)) left given taken end offset status here said)
+    (whole_early init_items 2 report_of_items (Done ∷ BadGenesis ∷ []) (tt, (tt, tt)) left given taken end offset status here said)
     (λ now told done. absurd (early_not_judged end offset status taken here.early said (subst IsJudged (sym done) tt)))
 
 -- what is said of a specification and a genesis
@@ -180,19 +183,19 @@ rules_no_stop genesis None (Some rule) stop = stop
 rules_no_stop genesis None None stop = stop
 
 pub init_both : (reads : Option Image) (at_start at_exit meanwhile : Image → Type 0) (left : Option (List ℕ)) (given taken specification genesis : List ℕ) (status : Status)
-    → ((store : Store) → IsStoreOf reads store → store ≡ NoLog) → IsWhole init_items left (specification ∷ genesis ∷ []) given
+    → ((store : Store) → IsStoreOf reads store → store ≡ NoLog) → IsWhole init_items 2 left (specification ∷ genesis ∷ []) given
     → IsSaid (report_of_new specification genesis) status taken
     → ((now : Image) → reads ≡ Some now → status ≡ Done → StandsAlone specification genesis at_exit)
     → Delivers Init reads at_start at_exit meanwhile left given taken status
 init_both reads at_start at_exit meanwhile left given taken specification genesis status none both said made =
     delivers_new reads at_start at_exit meanwhile left given taken status none
-    (whole_judged init_items report_of_items (Done ∷ BadGenesis ∷ []) (tt, (tt, tt)) left (specification ∷ genesis ∷ []) given taken status both said (rules_no_stop genesis _ _))
+    (whole_judged init_items 2 report_of_items (Done ∷ BadGenesis ∷ []) (tt, (tt, tt)) left (specification ∷ genesis ∷ []) given taken status both said (rules_no_stop genesis _ _))
     (λ now told done.
     let alone = made now told done in
     record {
       specification = specification;
       genesis = genesis;
-      items = ap (λ (s : Split). s.items) (whole_split init_items left (specification ∷ genesis ∷ []) given both);
+      items = ap (λ (s : Split). s.items) (whole_split init_items 2 left (specification ∷ genesis ∷ []) given both);
       only = alone.0;
       made = alone.3;
       one = alone.1;

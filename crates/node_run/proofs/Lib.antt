@@ -13,6 +13,7 @@ pub mod WordLemmas
 pub mod WholeReports
 pub mod InitLemmas
 pub mod QuestionLemmas
+pub mod AssemblyLemmas
 pub mod Asked
 pub mod RunLemmas
 pub mod RecordLemmas

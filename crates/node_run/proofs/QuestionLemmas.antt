@@ -1,6 +1,6 @@
 -- What a question read, told and left at each exit.
-use Rattle.std.proofs.Common.{◌≡◌, ◌⊎◌, ℕ, ◌≤◌, List, [], ◌∷◌, length, map, get_or, Vec, Global, refl, ap, sym, ◌∙◌, subst, arith}
-use Rattle.std.specs.Prelude.{Option, Some, IfSome}
+use Rattle.std.proofs.Common.{◌≡◌, ◌⊎◌, ℕ, ◌≤◌, List, [], ◌∷◌, length, refl, ap, sym, ◌∙◌, subst, arith}
+use Rattle.std.specs.Prelude.{Option, Some, Result, Ok, Err, IfOk, IfSome, string_bytes}
 use Rattle.outside.specs.Image.{Image}
 use Rattle.outside.specs.Disk.{LeavesOnly, IsAsBefore, TellsAsBefore}
 use Rattle.codec_defs.specs.Shape.{decoded}
@@ -23,6 +23,7 @@ use Rattle.node_core.specs.Node.{NodeValue, IsSoundNode, IsSoundOn, IsOn}
 use Rattle.node_run.specs.Question.{IsAnswerTo, full, AnswersQuestion, DeliversAnswer}
 use Rattle.node_run.specs.Import.{IsStop}
 use Rattle.node_run.specs.Output.{IsSaid, IsWrittenAnswer}
+use Rattle.node_run.specs.declared.output.Answer.{Answer}
 use Rattle.node_run.specs.Store.{opening_stops}
 use Rattle.node_run.proofs.DiskLemmas.{opened_sound, found_sound}
 use Rattle.node_run.proofs.LookLemmas.{keeps_looked}
@@ -30,21 +31,19 @@ use Rattle.node_run.proofs.StoreLemmas.{if_told, same_chain, store_of_stands, de
 use Rattle.node_run.proofs.Statuses.{each_of, IsEarly, opening_not_done}
 use Rattle.node_run.proofs.WholeReports.{IsJudged, stop_not_judged, whole_stopped, whole_early, whole_judged, report_of_all, told_said, all_said, early_not_judged}
 
--- there is one question so far
-pub only_check : (question : Question) → question ≡ Check
-only_check Check = refl
-
 -- what comes of the bytes of an item is what comes of what they decode to
 pub trial_of_bytes : (chain : Chain) (item : List ℕ) (found : Option Transaction) → found ≡ decoded transaction item → trial_of chain found ≡ trial chain item
 unfolding trial
 trial_of_bytes chain item found is = ap (trial_of chain) is
 
--- the item in a vector
-pub one_item : (vectors : List (Vec ℕ Global)) (vector : Vec ℕ Global) (item : List ℕ) → length vectors ≡ 1 → vector ≡ get_or vectors 0 vector → item ≡ vector.items
-    → map (λ (v : Vec ℕ Global). v.items) vectors ≡ item ∷ []
-one_item [] vector item count vector_is item_is = absurd (omega (arith, count))
-one_item (a ∷ []) vector item count vector_is item_is = ap (λ (bytes : List ℕ). bytes ∷ []) (sym (item_is ∙ ap (λ (v : Vec ℕ Global). v.items) vector_is))
-one_item (a ∷ b ∷ more) vector item count vector_is item_is = absurd (omega (arith, count))
+-- a transaction alone is judged, whatever follows it
+pub first_decides : (chain : Chain) (item : List ℕ) (more items : List (List ℕ)) (result : Result Answer Status) → items ≡ item ∷ more
+    → IfOk result (λ answer. IsAnswerTo Check chain (item ∷ []) (string_bytes answer.text) answer.status)
+    → IfOk result (λ answer. IsAnswerTo Check chain items (string_bytes answer.text) answer.status)
+first_decides chain item more items (Ok answer) is says =
+    subst (λ (them : List (List ℕ)). IsAnswerTo Check chain them (string_bytes answer.text) answer.status) (sym is)
+    (record { text_is = says.text_is; status_is = says.status_is })
+first_decides chain item more items (Err status) is says = tt
 
 -- ---- What is said over a chain
 
@@ -60,7 +59,7 @@ done_no_stop status one = each_of (λ s. IsEarly s → ⊥) (Done ∷ SomeRefuse
 pub question_stopped : (question : Question) (chain : Chain) (left : Option (List ℕ)) (given : List ℕ) (status : Status) → IsStop status
     → ReadsNoFurther (question_limits question) given → AnswersQuestion question chain given left [] status
 question_stopped question chain left given status stop no_further =
-    let says = whole_stopped (question_items question) (answer_to_question question chain) (Done ∷ SomeRefused ∷ []) (tt, (tt, tt)) left given status stop no_further in
+    let says = whole_stopped (question_items question) 1 (answer_to_question question chain) (Done ∷ SomeRefused ∷ []) (tt, (tt, tt)) left given status stop no_further in
     record {
       text = says.0;
       order = says.1;
@@ -69,9 +68,9 @@ question_stopped question chain left given status stop no_further =
 
 -- the input ends early
 pub question_early : (question : Question) (chain : Chain) (left : Option (List ℕ)) (given taken : List ℕ) (end : End) (offset : ℕ) (status : Status)
-    → EndsEarly (question_items question) left end offset given → IsSaid (report_of_end offset end) status taken → AnswersQuestion question chain given left taken status
+    → EndsEarly (question_items question) 1 left end offset given → IsSaid (report_of_end offset end) status taken → AnswersQuestion question chain given left taken status
 question_early question chain left given taken end offset status here said =
-    let says = whole_early (question_items question) (answer_to_question question chain) (Done ∷ SomeRefused ∷ []) (tt, (tt, tt)) left given taken end offset status here said in
+    let says = whole_early (question_items question) 1 (answer_to_question question chain) (Done ∷ SomeRefused ∷ []) (tt, (tt, tt)) left given taken end offset status here said in
     record {
       text = says.0;
       order = says.1;
@@ -80,18 +79,18 @@ question_early question chain left given taken end offset status here said =
 
 -- its items were judged
 pub question_judged : (question : Question) (chain : Chain) (left : Option (List ℕ)) (items : List (List ℕ)) (given taken text : List ℕ) (status result : Status)
-    → IsWhole (question_items question) left items given → IsAnswerTo question chain items text status → IsOneOf (Done ∷ SomeRefused ∷ []) status
+    → IsWhole (question_items question) 1 left items given → IsAnswerTo question chain items text status → IsOneOf (Done ∷ SomeRefused ∷ []) status
     → IsWrittenAnswer text status result taken → AnswersQuestion question chain given left taken result
 question_judged question chain left items given taken text status result whole answer one told =
     let report = answer_to_question question chain items in
     let said : IsSaid report result taken = told_said report text status result taken answer.text_is answer.status_is told in
     let never : IsEarly report.status → ⊥ = λ early. done_no_stop status one (subst IsEarly (sym answer.status_is) early) in
-    let says = whole_judged (question_items question) (answer_to_question question chain) (Done ∷ SomeRefused ∷ []) (tt, (tt, tt)) left items given taken result whole said never in
+    let says = whole_judged (question_items question) 1 (answer_to_question question chain) (Done ∷ SomeRefused ∷ []) (tt, (tt, tt)) left items given taken result whole said never in
     record {
       text = says.0;
       order = says.1;
       answers = λ done. all_said report result taken said (done_judged result done)
-          ∙ sym (ap (λ (r : Report). text_of r) (report_of_all (question_items question) (answer_to_question question chain) left items given whole));
+          ∙ sym (ap (λ (r : Report). text_of r) (report_of_all (question_items question) 1 (answer_to_question question chain) left items given whole));
     }
 
 -- ---- What is delivered of a store

@@ -23,32 +23,32 @@ use Rattle.node_run.proofs.Statuses.{Have, each_of, IsEarly, is_early, not_early
 -- ---- The report
 
 -- of all of an input
-abbrev pub whole_report : List ℕ → (List (List ℕ) → Report) → List ℕ → Report
-whole_report limits judged whole = report_of_whole limits judged (split_of (whole_limits limits) whole)
+abbrev pub whole_report : List ℕ → ℕ → (List (List ℕ) → Report) → List ℕ → Report
+whole_report limits needed judged whole = report_of_whole needed judged (split_of (whole_limits limits) whole)
 
 pub all_given : (left : Option (List ℕ)) (given more : List ℕ) → IsAtEnd left → left ≡ Some more → given ++ more ≡ given
 all_given left given more at_end is = ap (λ bs. given ++ bs) (left_nothing left more at_end is) ∙ append-nil given
 
-pub whole_split : (limits : List ℕ) (left : Option (List ℕ)) (items : List (List ℕ)) (given : List ℕ) → IsWhole limits left items given
+pub whole_split : (limits : List ℕ) (needed : ℕ) (left : Option (List ℕ)) (items : List (List ℕ)) (given : List ℕ) → IsWhole limits needed left items given
     → split_of (whole_limits limits) given ≡ record { items = items; rest = []; end = ends.AtEnd }
-whole_split limits left items given whole = split_of-is (whole_limits limits) given (record { items = items; rest = []; end = ends.AtEnd }) (record {
+whole_split limits needed left items given whole = split_of-is (whole_limits limits) given (record { items = items; rest = []; end = ends.AtEnd }) (record {
   whole = whole.same ∙ sym (append-nil (concat items));
   items = whole.all;
   within = tt;
   ends = end_at-nothing (slice_get limits (length items)) None (length (concat items));
 })
 
-pub whole_no_further : (limits : List ℕ) (left : Option (List ℕ)) (items : List (List ℕ)) (given : List ℕ) → IsWhole limits left items given
+pub whole_no_further : (limits : List ℕ) (needed : ℕ) (left : Option (List ℕ)) (items : List (List ℕ)) (given : List ℕ) → IsWhole limits needed left items given
     → ReadsNoFurther (whole_limits limits) given
-whole_no_further limits left items given whole = items_no_further (whole_limits limits) items whole.all tt given whole.same
+whole_no_further limits needed left items given whole = items_no_further (whole_limits limits) items whole.all tt given whole.same
 
 -- what is said of a whole input is said of its items
-pub report_of_all : (limits : List ℕ) (judged : List (List ℕ) → Report) (left : Option (List ℕ)) (items : List (List ℕ)) (given : List ℕ) → IsWhole limits left items given
-    → whole_report limits judged given ≡ judged items
-report_of_all limits judged left items given whole =
-    let count : length items ≡ length limits = whole.count in
-    let test : nat_lt (length items) (length limits) ≡ false = grind (arith, nat_tests) in
-    ap (report_of_whole limits judged) (whole_split limits left items given whole) ∙ rw test refl
+pub report_of_all : (limits : List ℕ) (needed : ℕ) (judged : List (List ℕ) → Report) (left : Option (List ℕ)) (items : List (List ℕ)) (given : List ℕ) → IsWhole limits needed left items given
+    → whole_report limits needed judged given ≡ judged items
+report_of_all limits needed judged left items given whole =
+    let count : needed ≤ length items = whole.count in
+    let test : nat_lt (length items) needed ≡ false = grind (arith, nat_tests) in
+    ap (report_of_whole needed judged) (whole_split limits needed left items given whole) ∙ rw test refl
 
 early_report : (judged : Report) (offset : ℕ) (end : End) → (end ≡ ends.AtEnd → ⊥) → report_at_end judged offset end ≡ report_of_end offset end
 early_report judged offset ends.AtEnd early = absurd (early refl)
@@ -57,9 +57,9 @@ early_report judged offset ends.BadSize early = refl
 early_report judged offset ends.Extra early = refl
 
 -- and of one that ends early its end
-pub report_of_early : (limits : List ℕ) (judged : List (List ℕ) → Report) (left : Option (List ℕ)) (end : End) (offset : ℕ) (given : List ℕ)
-    → EndsEarly limits left end offset given → (more : List ℕ) → left ≡ Some more → whole_report limits judged (given ++ more) ≡ report_of_end offset end
-report_of_early limits judged left end offset given here more is =
+pub report_of_early : (limits : List ℕ) (needed : ℕ) (judged : List (List ℕ) → Report) (left : Option (List ℕ)) (end : End) (offset : ℕ) (given : List ℕ)
+    → EndsEarly limits needed left end offset given → (more : List ℕ) → left ≡ Some more → whole_report limits needed judged (given ++ more) ≡ report_of_end offset end
+report_of_early limits needed judged left end offset given here more is =
     let split = split_of (whole_limits limits) (given ++ more) in
     ap (λ (e : End). report_at_end (judged split.items) (end_offset split) e) (here.ends more is)
     ∙ ap (λ (n : ℕ). report_at_end (judged split.items) n end) (here.there more is)
@@ -133,16 +133,16 @@ early_not_judged end offset status taken early (inr part) judged = stop_not_judg
 
 -- ---- The exits
 
-module _ (limits : List ℕ) (judged : List (List ℕ) → Report) (statuses : List Status) (are : Have IsJudged statuses) where
+module _ (limits : List ℕ) (needed : ℕ) (judged : List (List ℕ) → Report) (statuses : List Status) (are : Have IsJudged statuses) where
   is_judged : (status : Status) → IsOneOf statuses status → IsJudged status
   is_judged status one = each_of IsJudged statuses status are one
 
   -- the run was stopped before the sink
   pub whole_stopped : (left : Option (List ℕ)) (given : List ℕ) (status : Status) → IsStop status → ReadsNoFurther (whole_limits limits) given
-      → MatchesReportOf (whole_report limits judged) given left [] status × ReadsWhole (whole_limits limits) statuses given left [] status
+      → MatchesReportOf (whole_report limits needed judged) given left [] status × ReadsWhole (whole_limits limits) statuses given left [] status
   whole_stopped left given status stop no_further = (
     record {
-      front = λ more is. (text_of (whole_report limits judged (given ++ more)), refl);
+      front = λ more is. (text_of (whole_report limits needed judged (given ++ more)), refl);
       whole_text = λ more is told. absurd (stop_not_reported status stop told);
       same_status = λ more is told. absurd (stop_not_reported status stop told);
     },
@@ -156,10 +156,10 @@ module _ (limits : List ℕ) (judged : List (List ℕ) → Report) (statuses : L
 
   -- the input ends early
   pub whole_early : (left : Option (List ℕ)) (given taken : List ℕ) (end : End) (offset : ℕ) (status : Status)
-      → EndsEarly limits left end offset given → IsSaid (report_of_end offset end) status taken
-      → MatchesReportOf (whole_report limits judged) given left taken status × ReadsWhole (whole_limits limits) statuses given left taken status
+      → EndsEarly limits needed left end offset given → IsSaid (report_of_end offset end) status taken
+      → MatchesReportOf (whole_report limits needed judged) given left taken status × ReadsWhole (whole_limits limits) statuses given left taken status
   whole_early left given taken end offset status here said = (
-    said_text (whole_report limits judged) (report_of_end offset end) left given taken status said (report_of_early limits judged left end offset given here),
+    said_text (whole_report limits needed judged) (report_of_end offset end) left given taken status said (report_of_early limits needed judged left end offset given here),
     record {
       to_end = λ told. absurd (early_not_judged end offset status taken here.early said (is_judged status told));
       to_early_end = λ told more is. subst (λ (n : ℕ). n ≤ length given) (sym (here.there more is)) here.enough;
@@ -170,16 +170,16 @@ module _ (limits : List ℕ) (judged : List (List ℕ) → Report) (statuses : L
 
   -- its items were judged
   pub whole_judged : (left : Option (List ℕ)) (items : List (List ℕ)) (given taken : List ℕ) (status : Status)
-      → IsWhole limits left items given → IsSaid (judged items) status taken → (IsEarly (judged items).status → ⊥)
-      → MatchesReportOf (whole_report limits judged) given left taken status × ReadsWhole (whole_limits limits) statuses given left taken status
+      → IsWhole limits needed left items given → IsSaid (judged items) status taken → (IsEarly (judged items).status → ⊥)
+      → MatchesReportOf (whole_report limits needed judged) given left taken status × ReadsWhole (whole_limits limits) statuses given left taken status
   whole_judged left items given taken status whole said never = (
-    said_text (whole_report limits judged) (judged items) left given taken status said
-        (λ more is. ap (whole_report limits judged) (all_given left given more whole.to_end is) ∙ report_of_all limits judged left items given whole),
+    said_text (whole_report limits needed judged) (judged items) left given taken status said
+        (λ more is. ap (whole_report limits needed judged) (all_given left given more whole.to_end is) ∙ report_of_all limits needed judged left items given whole),
     record {
       to_end = λ told. whole.to_end;
-      to_early_end = λ told more is. rw (all_given left given more whole.to_end is, whole_split limits left items given whole)
+      to_early_end = λ told more is. rw (all_given left given more whole.to_end is, whole_split limits needed left items given whole)
           (omega (arith, ap length whole.same));
-      no_further = whole_no_further limits left items given whole;
+      no_further = whole_no_further limits needed left items given whole;
       silent = said_silent (judged items) status taken said never;
     },
   )

@@ -133,7 +133,7 @@ pub fn init<S: Source, K: Sink, D: Disk>(
     if length != 0 {
         return Status::StoreThere;
     }
-    match read_whole(alloc, input, &[SPEC_LIMIT, GENESIS_LIMIT]) {
+    match read_whole(alloc, input, &[SPEC_LIMIT, GENESIS_LIMIT], 2) {
         Ok(Whole::Items(items)) => make_and_answer(alloc, out, disk, &items[0], &items[1]),
         Ok(Whole::Early { end, offset }) => write_early_end(alloc, out, end, offset),
         Err(status) => status,

@@ -7,6 +7,7 @@
 //! the machine are left to `outside_os`, and `main` to the program `ckbdev`.
 #![tactic(auto)]
 
+mod assembly;
 mod dao;
 mod import;
 mod init;

@@ -8,6 +8,7 @@ ghost use Rattle.log_defs.specs.Log.{end_of_log};
 ghost use Rattle.store_defs.specs.Store.{Keeps, store_of};
 ghost use Rattle.outside.specs.Disk.{IsOnlyRead, TellsAsBefore};
 ghost use Rattle.report_defs.specs.Report as reports;
+ghost use Rattle.report_defs.specs.Items.{AreItems};
 ghost use Rattle.report_defs.specs.Text as text;
 ghost use Rattle.report_defs.specs.Status.{IsOneOf};
 ghost use Rattle.report_defs.specs.Promise.{question_statuses};
@@ -20,6 +21,7 @@ ghost use Rattle.node_core.specs.Node.{IsItsOwn, IsSoundOn};
 ghost use Rattle.node_run.specs.Store.{OnlyReads, opening_stops};
 ghost use Rattle.node_run.specs.Question.{IsAnswerTo, AnswersQuestion, DeliversAnswer};
 
+use crate::assembly::assemble;
 use crate::lines::trial_line;
 use crate::output::{Answer, write_answer, write_early_end};
 use crate::store::{open, status_of_reading};
@@ -32,16 +34,20 @@ use std::alloc::Global;
 use std::sync::ledger::Ledger;
 use verdict_defs::Trial;
 
-/// The most bytes of a transaction.
+/// The most bytes of an item.
 const ITEM_LIMIT: usize = 1 << 20;
 
-/// Reads the items that a question is about.
+/// The most items of which a block is assembled, and the witness of its cellbase.
+const MOST_ASSEMBLED: usize = 1001;
+
+/// Reads the items that a question is about, of which the first must be there.
 fn read_items<S: Source>(alloc: Global, input: &mut S, question: Question) -> Result<Whole, Status>
-    ensures read { Gave (S.left input.old) (S.left input.new) (IsReadWhole (reports.question_items question) (S.left input.new) result) }
+    ensures read { Gave (S.left input.old) (S.left input.new) (IsReadWhole (reports.question_items question) 1 (S.left input.new) result) }
     ensures faults { CountsFault (S.faults input.old) (S.faults input.new) (result ≡ Err Status.InputFault) }
 {
     match question {
-        Question::Check => read_whole(alloc, input, &[ITEM_LIMIT]),
+        Question::Check => read_whole(alloc, input, &[ITEM_LIMIT], 1),
+        Question::Assemble => read_whole(alloc, input, &[ITEM_LIMIT; MOST_ASSEMBLED], 1),
     }
 }
 
@@ -53,7 +59,8 @@ fn answer_to<D: Disk>(
     question: Question,
     items: &[Vec<u8>],
 ) -> Result<Answer, Status>
-    requires items { length items.now ≡ length (reports.question_items question) }
+    requires some { 1 ≤ length items.now }
+    requires items { AreItems (reports.question_limits question) 0 (map (λ item. item.items) items.now) }
     requires own { IsItsOwn node.old (D.reads_as disk.old) (D.images disk.old) }
     ensures disk { OnlyReads D.content_of D.faults disk.old disk.new (result ≡ Err Status.DiskFault) }
     ensures answer { IsSoundOn node.old (D.reads_as disk.old) → IfOk result (λ answer. IsAnswerTo question node.old.chain (map (λ item. item.items) items.now) (string_bytes answer.text) answer.status) }
@@ -63,6 +70,7 @@ fn answer_to<D: Disk>(
 {
     match question {
         Question::Check => check(alloc, disk, node, &items[0]),
+        Question::Assemble => assemble(alloc, disk, node, items),
     }
 }
 

@@ -69,6 +69,9 @@ fn command_alone(name: &[u8]) -> Option<Command>
     if name == b"check".as_slice() {
         return Some(Command::Question(Question::Check));
     }
+    if name == b"assemble".as_slice() {
+        return Some(Command::Question(Question::Assemble));
+    }
     if name == b"asm".as_slice() {
         return Some(Command::Standalone(Standalone::Asm));
     }

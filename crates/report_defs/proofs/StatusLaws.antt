@@ -1,7 +1,10 @@
 -- A report has a status of its command.
 use Rattle.std.proofs.Common.{◌≡◌, ◌⊎◌, inl, inr, ℕ, Bool, true, false, List, [], ◌∷◌, refl, sym, ap, subst}
-use Rattle.std.specs.Prelude.{Option, Some, None, if◌then◌else◌}
+use Rattle.std.specs.Prelude.{Option, Some, None, is_some, ◌||◌, if◌then◌else◌}
 use Rattle.std.specs.List.{list_any}
+use Rattle.codec_defs.specs.Shape.{decoded}
+use Rattle.codec_defs.specs.Schema.{cellbase_witness, CellbaseWitness}
+use Rattle.pool_defs.specs.Assembly.{assembled}
 use Rattle.verdict_defs.specs.Verdict.{refuses}
 use Rattle.verdict_defs.specs.Chain.{Chain, verdicts_over}
 use Rattle.verdict_defs.specs.Trial.{trial}
@@ -13,7 +16,7 @@ use Rattle.store_defs.specs.Store.{Store, NoLog, NotALog, Keeps}
 use Rattle.report_defs.specs.declared.command.Command.{Command}
 use Rattle.report_defs.specs.declared.command.Command.TheVariants.{Init, Import, Query, Question, Standalone, Simulation}
 use Rattle.report_defs.specs.declared.command.Question as questions
-use Rattle.report_defs.specs.declared.command.Question.TheVariants.{Check}
+use Rattle.report_defs.specs.declared.command.Question.TheVariants.{Check, Assemble}
 use Rattle.report_defs.specs.declared.command.Standalone as files
 use Rattle.report_defs.specs.declared.command.Standalone.TheVariants.{Exec, Asm, Dis, Unjson}
 use Rattle.report_defs.specs.declared.end.End.{End}
@@ -21,8 +24,9 @@ use Rattle.report_defs.specs.declared.end.End.TheVariants as ends
 use Rattle.report_defs.specs.declared.status.Status.{Status}
 use Rattle.report_defs.specs.declared.status.Status.TheVariants.{Done, SomeRefused, ExtraInput}
 use Rattle.report_defs.specs.Status.{IsOneOf}
+use Rattle.report_defs.specs.Assembly.{refuses as refuses_line}
 use Rattle.report_defs.specs.Items.{split_of, end_offset, end_of_whole}
-use Rattle.report_defs.specs.Report.{Report, init_limits, import_limits, question_limits, status_of_end, report_at_end, report_of_rules, report_of_items, init_report, report_of_check, answer_to_question, status_of_trial, IsAnswerToFile, IsReportOfFile, IsReport}
+use Rattle.report_defs.specs.Report.{Report, init_limits, import_limits, question_limits, status_of_end, report_at_end, report_of_rules, report_of_items, init_report, report_of_check, report_with_witness, report_of_assembly, answer_to_question, status_of_trial, IsAnswerToFile, IsReportOfFile, IsReport}
 use Rattle.report_defs.specs.Promise.{init_statuses, import_statuses, query_statuses, question_statuses, standalone_statuses, statuses_of}
 use Rattle.report_defs.specs.Laws.{HasOwnStatus}
 
@@ -73,8 +77,23 @@ of-check : (chain : Chain) (items : List (List ℕ)) → Has question_statuses (
 of-check chain [] = inr (inr (inr (inr (inr (inr (inr (inl refl)))))))
 of-check chain (item ∷ more) = of-trial (trial chain item)
 
+of-lines : (refused : Bool) → IsOneOf question_statuses (if refused then SomeRefused else Done)
+of-lines true = inr (inl refl)
+of-lines false = inl refl
+
+of-witness : (chain : Chain) (found : Option CellbaseWitness) (items : List (List ℕ)) → Has question_statuses (report_with_witness chain found items)
+of-witness chain None items = inr (inl refl)
+of-witness chain (Some witness) items =
+    let all = assembled chain witness items in
+    of-lines (list_any refuses_line all.lines || is_some all.broken)
+
+of-assembly : (chain : Chain) (items : List (List ℕ)) → Has question_statuses (report_of_assembly chain items)
+of-assembly chain [] = inr (inr (inr (inr (inr (inr (inr (inl refl)))))))
+of-assembly chain (first ∷ items) = of-witness chain (decoded cellbase_witness first) items
+
 of-question : (question : questions.Question) (chain : Chain) (items : List (List ℕ)) → Has question_statuses (answer_to_question question chain items)
 of-question Check = of-check
+of-question Assemble = of-assembly
 
 question-end : (judged : Report) (offset : ℕ) (end : End) → Has question_statuses judged → Has question_statuses (report_at_end judged offset end)
 question-end judged offset ends.AtEnd has = has
@@ -121,8 +140,8 @@ own-status (Some (Query query)) input NotALog said is = told query_statuses said
 own-status (Some (Query query)) input (Keeps chain) said is = told query_statuses said _ is (inl refl)
 own-status (Some (Question question)) input NoLog said is = told question_statuses said _ is (inr (inr (inr (inr (inr (inr (inl refl)))))))
 own-status (Some (Question question)) input NotALog said is = told question_statuses said _ is (inr (inr (inr (inr (inr (inr (inl refl)))))))
-own-status (Some (Question Check)) input (Keeps chain) said is =
-    let split = split_of (question_limits Check) input in
-    told question_statuses said _ is (question-end (answer_to_question Check chain split.items) (end_offset split) (end_of_whole 1 split) (of-question Check chain split.items))
+own-status (Some (Question question)) input (Keeps chain) said is =
+    let split = split_of (question_limits question) input in
+    told question_statuses said _ is (question-end (answer_to_question question chain split.items) (end_offset split) (end_of_whole 1 split) (of-question question chain split.items))
 own-status (Some (Standalone command)) input store said is = of-file command input said is
 own-status (Some (Simulation simulation)) input store said is = inl (ap (λ (r : Report). r.status) is.2)

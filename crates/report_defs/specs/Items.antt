@@ -77,7 +77,7 @@ pub record IsSplit (limits : Limits) (input : List ℕ) (split : Split) : Type 0
 
 -- ---- A whole input
 
--- An input that is read whole has an item for each of these limits, and nothing after them.
+-- An input that is read whole has at most an item for each of these limits, and nothing after them.
 abbrev pub whole_limits : List ℕ → Limits
 whole_limits limits = record { item = slice_get limits; input = None }
 
@@ -88,9 +88,12 @@ end_of_needed Cut = Cut
 end_of_needed BadSize = BadSize
 end_of_needed Extra = Extra
 
--- how it ends, where so many items are needed
+-- how it ends after so many items, where the first so many are needed
+abbrev pub end_after : ℕ → ℕ → End → End
+end_after needed count end = if nat_lt count needed then end_of_needed end else end
+
 abbrev pub end_of_whole : ℕ → Split → End
-end_of_whole needed split = if nat_lt (length split.items) needed then end_of_needed split.end else split.end
+end_of_whole needed split = end_after needed (length split.items) split.end
 
 -- ---- The split of an input
 

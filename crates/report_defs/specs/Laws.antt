@@ -1,12 +1,23 @@
--- What is true of the reports of runs. The first is proved in `report_laws`, over what is true of texts and of trees of JSON.
-use Rattle.std.specs.Prelude.{◌≡◌, ℕ, List, Option, Some, None}
-use Rattle.store_defs.specs.Store.{Store}
+-- What is true of the reports of runs. The first and the last are proved in `report_laws`, over what is true of texts, of trees of JSON and of blocks
+-- that are assembled.
+use Rattle.std.specs.Prelude.{◌≡◌, ◌⊎◌, ℕ, ◌<◌, ◌==◌, true, List, [], ◌∷◌, ◌++◌, length, codes, Option, Some, None, IsTrue}
+use Rattle.std.specs.List.{list_any}
+use Rattle.outside.specs.Image.{Image}
+use Rattle.chain_defs.specs.Kept.{kept_limit}
+use Rattle.verdict_defs.specs.Verdict.{joins}
+use Rattle.verdict_defs.specs.Chain.{Chain, verdict_over}
+use Rattle.pool_defs.specs.Laws.{breakable}
+use Rattle.store_defs.specs.Store.{Store, Keeps, StandsFor}
 use Rattle.report_defs.specs.declared.command.Command.{Command}
 use Rattle.report_defs.specs.declared.command.Command.TheVariants.{Init, Import, Query, Question, Standalone, Simulation}
 use Rattle.report_defs.specs.declared.command.Simulation as simulations
 use Rattle.report_defs.specs.declared.command.Simulation.TheVariants.{Make, Soak}
+use Rattle.report_defs.specs.declared.command.Question.TheVariants.{Assemble}
+use Rattle.report_defs.specs.declared.status.Status.TheVariants.{Done, SomeRefused}
 use Rattle.report_defs.specs.Status.{IsOneOf}
-use Rattle.report_defs.specs.Report.{Report, IsReport}
+use Rattle.report_defs.specs.Text.{hex_text, line_feed}
+use Rattle.report_defs.specs.Assembly.{no_block_line}
+use Rattle.report_defs.specs.Report.{Report, text_of, IsReport}
 use Rattle.report_defs.specs.Simulation.{HashesDiffer}
 use Rattle.report_defs.specs.Promise.{statuses_of}
 
@@ -32,3 +43,28 @@ OneReport = (command : Option Command) (input : List ℕ) (store : Store) (one o
 -- and it has a status of the command
 abbrev pub HasOwnStatus : Type 0
 HasOwnStatus = (command : Option Command) (input : List ℕ) (store : Store) (said : Report) → IsReport command input store said → IsOneOf (statuses_of command) said.status
+
+-- ---- `assemble`
+
+-- a text ends in these bytes
+abbrev pub EndsIn : List ℕ → List ℕ → Type 0
+EndsIn ending text = (before : List ℕ) × (text ≡ before ++ ending)
+
+-- The last line of a text holds bytes that would join over a chain.
+pub record TellsBlock (chain : Chain) (text : List ℕ) : Type 0 where
+  pub bytes : List ℕ
+  pub joined : joins (verdict_over chain bytes) ≡ true
+  pub last : EndsIn (codes "block " ++ hex_text bytes ++ line_feed) text
+
+-- Its last line says that there is no block, by a rule that a block which is assembled may break.
+pub record TellsNoBlock (text : List ℕ) : Type 0 where
+  pub rule : ℕ
+  pub breakable_by : IsTrue (list_any (λ other. other == rule) breakable)
+  pub last : EndsIn (no_block_line rule) text
+
+-- Law: over a chain that a store keeps, with room for a block, what `assemble` tells of an input that is read to its end, ends in the bytes of a block
+-- that would join, or in `no block`.
+abbrev pub WhatIsAssembledJoins : Type 0
+WhatIsAssembledJoins = (chain : Chain) (image : Image) (input : List ℕ) (said : Report) → StandsFor chain image → length chain.blocks < kept_limit
+    → IsReport (Some (Question Assemble)) input (Keeps chain) said → IsOneOf (Done ∷ SomeRefused ∷ []) said.status
+    → TellsBlock chain (text_of said) ⊎ TellsNoBlock (text_of said)

@@ -1,6 +1,7 @@
 pub mod Status
 pub mod Items
 pub mod Text
+pub mod Assembly
 pub mod Words
 pub mod Queries
 pub mod Simulation

@@ -2,7 +2,7 @@
 use Rattle.std.specs.Prelude.{◌≡◌, ◌⊎◌, ℕ, ◌^◌, ◌<◌, ◌≤◌, List, [], ◌∷◌, ◌++◌, map, length, Option, Some, None, if◌then◌else◌}
 use Rattle.std.specs.List.{concat, list_any}
 use Rattle.codec_defs.specs.Shape.{decoded, IsA}
-use Rattle.codec_defs.specs.Schema.{block, Block}
+use Rattle.codec_defs.specs.Schema.{block, Block, cellbase_witness, CellbaseWitness}
 use Rattle.chain_defs.specs.Tip.{tip}
 use Rattle.time_defs.specs.Specification.{broken_specification_rule}
 use Rattle.verdict_defs.specs.declared.verdict.Verdict.{Verdict}
@@ -11,6 +11,7 @@ use Rattle.verdict_defs.specs.Chain.{Chain, verdicts_over}
 use Rattle.verdict_defs.specs.Trial.{trial}
 use Rattle.verdict_defs.specs.declared.trial.Trial.{Trial}
 use Rattle.verdict_defs.specs.declared.trial.Trial.TheVariants.{Passes, Refused}
+use Rattle.pool_defs.specs.Assembly.{Assembled, assembled}
 use Rattle.genesis_defs.specs.Genesis.{broken_genesis_rule}
 use Rattle.store_defs.specs.Store.{Store, NoLog, NotALog, Keeps}
 use Rattle.vm_defs.specs.Alone.{answer_ecall}
@@ -25,7 +26,7 @@ use Rattle.report_defs.specs.declared.command.Command.TheVariants.{Init, Import,
 use Rattle.report_defs.specs.declared.command.Query as queries
 use Rattle.report_defs.specs.declared.command.Query.TheVariants.{Tip, Header, Json, Epoch, Cell, Dao}
 use Rattle.report_defs.specs.declared.command.Question as questions
-use Rattle.report_defs.specs.declared.command.Question.TheVariants.{Check}
+use Rattle.report_defs.specs.declared.command.Question.TheVariants.{Check, Assemble}
 use Rattle.report_defs.specs.declared.command.Standalone as files
 use Rattle.report_defs.specs.declared.command.Standalone.TheVariants.{Exec, Asm, Dis, Unjson}
 use Rattle.report_defs.specs.declared.command.Simulation as simulations
@@ -36,6 +37,7 @@ use Rattle.report_defs.specs.declared.status.Status.{Status}
 use Rattle.report_defs.specs.declared.status.Status.TheVariants.{Done, SomeRefused, BadWords, NotAStore, CutInput, BadSize as BadSizeStatus, StoreThere, BadGenesis, ExtraInput}
 use Rattle.report_defs.specs.Items.{Limits, Split, split_of, end_offset, whole_limits, end_of_whole}
 use Rattle.report_defs.specs.Text.{line, trial_line, tip_line, genesis_line, bad_spec_line, bad_genesis_line, cut_line, bad_size_line, extra_line, execution_line, bad_line, bad_json, made_line, soak_line}
+use Rattle.report_defs.specs.Assembly.{assembly_items, pool_line, no_block_line, last_line, status_of_lines}
 use Rattle.report_defs.specs.Queries.{header_answer, json_answer, epoch_answer, cell_answer, dao_answer}
 use Rattle.report_defs.specs.declared.counts.Counts.{Counts}
 use Rattle.report_defs.specs.Simulation.{generated_counts, AreSoakCounts}
@@ -80,9 +82,9 @@ report_at_end judged offset Cut = report_of_end offset Cut
 report_at_end judged offset BadSize = report_of_end offset BadSize
 report_at_end judged offset Extra = report_of_end offset Extra
 
--- by the limits of its items, and what is said of them
-abbrev pub report_of_whole : List ℕ → (List (List ℕ) → Report) → Split → Report
-report_of_whole limits judged split = report_at_end (judged split.items) (end_offset split) (end_of_whole (length limits) split)
+-- by how many items are needed, and what is said of those that it has
+abbrev pub report_of_whole : ℕ → (List (List ℕ) → Report) → Split → Report
+report_of_whole needed judged split = report_at_end (judged split.items) (end_offset split) (end_of_whole needed split)
 
 -- ---- The store
 
@@ -126,7 +128,7 @@ report_of_items (specification ∷ []) = report_without_lines [] CutInput
 report_of_items (specification ∷ genesis ∷ more) = report_of_new specification genesis
 
 abbrev pub report_of_init : Split → Report
-report_of_init split = report_of_whole init_items report_of_items split
+report_of_init split = report_of_whole (length init_items) report_of_items split
 
 -- Nothing is read where there is a log.
 abbrev pub init_report : List ℕ → Store → Report
@@ -186,9 +188,29 @@ abbrev pub report_of_check : Chain → List (List ℕ) → Report
 report_of_check chain [] = report_without_lines [] CutInput
 report_of_check chain (item ∷ more) = report_of_trial (trial chain item)
 
--- the limits of the items that a question is about: `check` takes a transaction
+-- what was assembled: a line for each item, and then the block
+abbrev pub report_of_assembled : Assembled → Report
+report_of_assembled all = record {
+  lines = map pool_line all.lines;
+  closing = last_line all;
+  status = status_of_lines all.lines all.broken;
+}
+
+-- J17: the witness of the cellbase is a canonical `CellbaseWitness`. With another nothing is said of the items.
+abbrev pub report_with_witness : Chain → Option CellbaseWitness → List (List ℕ) → Report
+report_with_witness chain None items = report_without_lines (no_block_line 17) SomeRefused
+report_with_witness chain (Some witness) items = report_of_assembled (assembled chain witness items)
+
+-- (a whole input has the witness)
+abbrev pub report_of_assembly : Chain → List (List ℕ) → Report
+report_of_assembly chain [] = report_without_lines [] CutInput
+report_of_assembly chain (first ∷ items) = report_with_witness chain (decoded cellbase_witness first) items
+
+-- The limits of the items that a question is about: `check` takes a transaction, and `assemble` the witness of a cellbase and up to 1,000 transactions.
+-- The first item is needed.
 abbrev pub question_items : questions.Question → List ℕ
 question_items Check = item_limit ∷ []
+question_items Assemble = assembly_items item_limit
 
 abbrev pub question_limits : questions.Question → Limits
 question_limits question = whole_limits (question_items question)
@@ -196,9 +218,10 @@ question_limits question = whole_limits (question_items question)
 -- what it answers of these items over a chain
 abbrev pub answer_to_question : questions.Question → Chain → List (List ℕ) → Report
 answer_to_question Check chain items = report_of_check chain items
+answer_to_question Assemble chain items = report_of_assembly chain items
 
 abbrev pub report_of_question : questions.Question → Chain → Split → Report
-report_of_question question chain split = report_of_whole (question_items question) (answer_to_question question chain) split
+report_of_question question chain split = report_of_whole 1 (answer_to_question question chain) split
 
 -- ---- Without a store
 

@@ -37,6 +37,8 @@ pub enum Query {
 pub enum Question {
     /// `check`: a transaction is judged alone, after the tip.
     Check,
+    /// `assemble`: a block after the tip is assembled of transactions.
+    Assemble,
 }
 
 /// What is done with a file, without a store.

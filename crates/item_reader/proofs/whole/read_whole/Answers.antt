@@ -1,14 +1,14 @@
 use Rattle.std.proofs.Common.{◌≡◌, ◌+◌, ◌<◌, ℕ, List, [], ◌∷◌, ◌++◌, length, map, get_or, Vec, Global, inr, refl, sym, ap, ◌∙◌, subst, arith, append-nil}
-use Rattle.std.specs.Prelude.{Some, None}
+use Rattle.std.specs.Prelude.{Some, None, Ok}
 use Rattle.std.specs.List.{concat}
 use Rattle.std.proofs.lemmas.List.{map-append, length_push}
 use Rattle.outside.proofs.Streams.{gives_more}
-use Rattle.report_defs.specs.declared.end.End.{End}
 use Rattle.report_defs.specs.Items.{whole_limits}
 use Rattle.item_reader.specs.Items.{IsReadingStop, IsItemAt}
-use Rattle.item_reader.specs.Whole.{EndsEarly}
+use Rattle.item_reader.specs.declared.whole.Whole.{Whole}
+use Rattle.item_reader.specs.Whole.{IsReadWhole, whole_at}
 use Rattle.item_reader.proofs.FurtherLemmas.{items_no_further}
-use Rattle.item_reader.proofs.WholeLemmas.{HasRead, count_of, next_limit, has_read_more, offset_fits, ends_before, ends_behind, stopped_before}
+use Rattle.item_reader.proofs.WholeLemmas.{HasRead, count_of, next_limit, has_read_more, offset_fits, read_at, ends_behind, stopped_before}
 use Rattle.item_reader.proofs.whole.read_whole.Goals as goal
 
 pub returns-in-Ok-End-clause-read : goal.returns-in-Ok-End-clause-read
@@ -20,12 +20,13 @@ returns-in-Ok-End-clause-read g c =
     let read = c.items.invariant.read in
     let found = c.in-Ok-End.ensures.next in
     let next = rw c.in-Ok-End.field-0-is at found.2 in
-    let few : length items < length limits = omega (arith, count_of c.items.items.items i c.items.invariant.count, c.items-test.true) in
-    let early : EndsEarly limits left c.end_of_needed.result c.items.offset (concat items ++ found.0) =
-    subst (λ (e : End). EndsEarly limits left e c.items.offset (concat items ++ found.0)) (sym c.end_of_needed.ensures)
-    (ends_before limits items read.all (get_or limits i 0) left c.in-Ok-End.end c.items.offset found.0 (concat items ++ found.0) refl
-    (next_limit limits c.items.items.items i c.items.invariant.count c.items-test.true) few read.place next.0 next.1) in
-    (concat items ++ found.0, gives_more (g.S.Source.left c.args.input.now) (g.S.Source.left c.items.input) left (concat items) found.0 read.gives found.1, early)
+    let answer = read_at limits items read.all c.args.needed (get_or limits i 0) c.len.result left c.items.items c.in-Ok-End.end c.items.offset found.0 (concat items ++ found.0) refl
+    (omega (arith, c.len.ensures, c.items.items.ok)) refl (next_limit limits c.items.items.items i c.items.invariant.count c.items-test.true) read.place next.0 next.1 in (
+      concat items ++ found.0,
+      gives_more (g.S.Source.left c.args.input.now) (g.S.Source.left c.items.input) left (concat items) found.0 read.gives found.1,
+      subst (λ (w : Whole). IsReadWhole limits c.args.needed left (Ok w) (concat items ++ found.0))
+          (sym (c.whole_at.ensures ∙ ap (whole_at c.items.items c.items.offset) c.end_after-end.ensures)) answer,
+    )
 
 pub returns-in-Err-clause-read : goal.returns-in-Err-clause-read
 returns-in-Err-clause-read g c =
@@ -74,17 +75,17 @@ items-preserved g c =
     let read = c.items.invariant.read in
     let found = c.in-Ok-Item.ensures.next in
     let next = rw c.in-Ok-Item.field-0-is at found.2 in
-    let size : length item.items ≡ c.len.result = omega (arith, c.len.ensures, item.ok) in
+    let size : length item.items ≡ c.len-in-items.result = omega (arith, c.len-in-items.ensures, item.ok) in
     let grown : map (λ (v : Vec ℕ Global). v.items) c.push.new.self.items ≡ items ++ item.items ∷ [] =
     ap (map (λ (v : Vec ℕ Global). v.items)) c.in-Ok.ensures.items ∙ map-append (λ (v : Vec ℕ Global). v.items) vectors (item ∷ []) in
     let more : HasRead limits old left (items ++ item.items ∷ []) (c.items.offset + length item.items) =
     has_read_more limits old (g.S.Source.left c.items.input) left items item.items found.0 c.items.offset (get_or limits i 0) read
     (next_limit limits vectors i c.items.invariant.count c.items-test.true) next found.1 in
     record {
-      read = subst (λ (them : List (List ℕ)). HasRead limits old left them (c.items.offset + c.len.result)) (sym grown)
+      read = subst (λ (them : List (List ℕ)). HasRead limits old left them (c.items.offset + c.len-in-items.result)) (sym grown)
           (subst (λ (n : ℕ). HasRead limits old left (items ++ item.items ∷ []) (c.items.offset + n)) size more);
       count = ap length c.in-Ok.ensures.items ∙ length_push vectors item ∙ ap (λ (n : ℕ). n + 1) c.items.invariant.count;
-      fits = offset_fits limits i c.items.offset c.len.result c.items-test.true c.items.invariant.fits (omega (arith, size, next.is_item.most));
+      fits = offset_fits limits i c.items.offset c.len-in-items.result c.items-test.true c.items.invariant.fits (omega (arith, size, next.is_item.most));
       unchanged = c.in-Ok-Item.ensures.faults.unchanged (λ e. cc) ∙ c.items.invariant.unchanged;
     }
 
@@ -113,5 +114,5 @@ returns-then-more-clause-read g c =
     omega (arith, count_of c.items.items.items c.items.limit-index c.items.invariant.count, c.items-test.false, c.items.auto.limit-index-end) in (
       concat items ++ more.0,
       gives_more (g.S.Source.left c.args.input.now) (g.S.Source.left c.items.input) left (concat items) more.0 read.gives more.1,
-      ends_behind limits items read.all left c.items.offset more.0 (concat items ++ more.0) refl count read.place more.2,
+      ends_behind limits items read.all c.args.needed left c.items.offset more.0 (concat items ++ more.0) refl c.requires.needed count read.place more.2,
     )

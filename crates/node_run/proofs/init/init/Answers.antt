@@ -45,7 +45,7 @@ pub make_and_answer-requires-clause-specification : goal.make_and_answer-require
 make_and_answer-requires-clause-specification g c =
     let read = c.in-Ok-Items.ensures.read in
     let left = g.S.Source.left c.read_whole.new.input in
-    let both : IsWhole init_items left (c.deref.result.now ∷ c.deref-in-Ok-Items.result.now ∷ []) read.0 =
+    let both : IsWhole init_items 2 left (c.deref.result.now ∷ c.deref-in-Ok-Items.result.now ∷ []) read.0 =
     both_read left c.in-Ok-Items.field-0 c.in-Ok-Items.items read.0 c.index.result.now c.index-in-Ok-Items.result.now c.deref.result.now c.deref-in-Ok-Items.result.now
     c.in-Ok-Items.field-0-is read.2 c.index.ensures c.index-in-Ok-Items.ensures c.deref.ensures.value c.deref-in-Ok-Items.ensures.value in
     omega (arith, item_limit-is, both.all.0.most)
@@ -54,7 +54,7 @@ pub make_and_answer-requires-clause-genesis : goal.make_and_answer-requires-clau
 make_and_answer-requires-clause-genesis g c =
     let read = c.in-Ok-Items.ensures.read in
     let left = g.S.Source.left c.read_whole.new.input in
-    let both : IsWhole init_items left (c.deref.result.now ∷ c.deref-in-Ok-Items.result.now ∷ []) read.0 =
+    let both : IsWhole init_items 2 left (c.deref.result.now ∷ c.deref-in-Ok-Items.result.now ∷ []) read.0 =
     both_read left c.in-Ok-Items.field-0 c.in-Ok-Items.items read.0 c.index.result.now c.index-in-Ok-Items.result.now c.deref.result.now c.deref-in-Ok-Items.result.now
     c.in-Ok-Items.field-0-is read.2 c.index.ensures c.index-in-Ok-Items.ensures c.deref.ensures.value c.deref-in-Ok-Items.ensures.value in
     omega (arith, genesis_limit-is, both.all.1.0.most)
@@ -64,7 +64,7 @@ returns-in-Ok-Items-clause-init g c =
     let read = c.in-Ok-Items.ensures.read in
     let left = g.S.Source.left c.read_whole.new.input in
     let said = c.make_and_answer.ensures.said in
-    let both : IsWhole init_items left (c.deref.result.now ∷ c.deref-in-Ok-Items.result.now ∷ []) read.0 =
+    let both : IsWhole init_items 2 left (c.deref.result.now ∷ c.deref-in-Ok-Items.result.now ∷ []) read.0 =
     both_read left c.in-Ok-Items.field-0 c.in-Ok-Items.items read.0 c.index.result.now c.index-in-Ok-Items.result.now c.deref.result.now c.deref-in-Ok-Items.result.now
     c.in-Ok-Items.field-0-is read.2 c.index.ensures c.index-in-Ok-Items.ensures c.deref.ensures.value c.deref-in-Ok-Items.ensures.value in (
       read.0,
@@ -92,8 +92,8 @@ pub returns-in-Ok-Early-clause-init : goal.returns-in-Ok-Early-clause-init
 returns-in-Ok-Early-clause-init g c =
     let read = c.in-Ok-Early.ensures.read in
     let left = g.S.Source.left c.read_whole.new.input in
-    let early : EndsEarly init_items left c.in-Ok-Early.end c.in-Ok-Early.offset read.0 =
-    subst (λ (w : Whole). IsReadWhole init_items left (Ok w) read.0) c.in-Ok-Early.field-0-is (known_limits left (Ok c.in-Ok-Early.field-0) read.0 read.2) in
+    let early : EndsEarly init_items 2 left c.in-Ok-Early.end c.in-Ok-Early.offset read.0 =
+    subst (λ (w : Whole). IsReadWhole init_items 2 left (Ok w) read.0) c.in-Ok-Early.field-0-is (known_limits left (Ok c.in-Ok-Early.field-0) read.0 read.2) in
     let said = c.write_early_end.ensures.said in (
       read.0,
       said.0,

@@ -1,4 +1,4 @@
-use Rattle.std.proofs.Common.{◌∷◌, [], refl, ap, ◌∙◌, sym, subst, length, map}
+use Rattle.std.proofs.Common.{◌∷◌, [], refl, ap, ◌∙◌, sym, subst, length, map, arith}
 use Rattle.std.specs.Prelude.{Ok, Err, string_bytes}
 use Rattle.std.proofs.lemmas.List.{length-map}
 use Rattle.outside.proofs.Endings.{no_fault, counts-as, no_answer}
@@ -26,8 +26,8 @@ returns-in-Ok-Early-clause-answered g c =
     let read = c.in-Ok-Early.ensures.read in
     let said = c.write_early_end.ensures.said in
     let left = g.S.Source.left c.read_items.new.input in
-    let early : EndsEarly (question_items c.args.question) left c.in-Ok-Early.end c.in-Ok-Early.offset read.0 =
-    subst (λ (w : Whole). IsReadWhole (question_items c.args.question) left (Ok w) read.0) c.in-Ok-Early.field-0-is read.2 in (
+    let early : EndsEarly (question_items c.args.question) 1 left c.in-Ok-Early.end c.in-Ok-Early.offset read.0 =
+    subst (λ (w : Whole). IsReadWhole (question_items c.args.question) 1 left (Ok w) read.0) c.in-Ok-Early.field-0-is read.2 in (
       read.0,
       said.0,
       read.1,
@@ -76,21 +76,29 @@ returns-in-Err-clause-out_faults g c = no_fault _ _ refl (λ e. subst IsReadingS
 
 -- ---- The items were read
 
+pub answer_to-requires-clause-some : goal.answer_to-requires-clause-some
+answer_to-requires-clause-some g c =
+    let read = c.in-Ok-Items.ensures.read in
+    let left = g.S.Source.left c.read_items.new.input in
+    let whole : IsWhole (question_items c.args.question) 1 left (map (λ item. item.items) c.in-Ok-Items.items.items) read.0 =
+    subst (λ (w : Whole). IsReadWhole (question_items c.args.question) 1 left (Ok w) read.0) c.in-Ok-Items.field-0-is read.2 in
+    omega (arith, whole.count, ap length c.deref.ensures.value, length-map c.in-Ok-Items.items.items (λ item. item.items))
+
 pub answer_to-requires-clause-items : goal.answer_to-requires-clause-items
 answer_to-requires-clause-items g c =
     let read = c.in-Ok-Items.ensures.read in
     let left = g.S.Source.left c.read_items.new.input in
-    let whole : IsWhole (question_items c.args.question) left (map (λ item. item.items) c.in-Ok-Items.items.items) read.0 =
-    subst (λ (w : Whole). IsReadWhole (question_items c.args.question) left (Ok w) read.0) c.in-Ok-Items.field-0-is read.2 in
-    ap length c.deref.ensures.value ∙ sym (length-map c.in-Ok-Items.items.items (λ item. item.items)) ∙ whole.count
+    let whole : IsWhole (question_items c.args.question) 1 left (map (λ item. item.items) c.in-Ok-Items.items.items) read.0 =
+    subst (λ (w : Whole). IsReadWhole (question_items c.args.question) 1 left (Ok w) read.0) c.in-Ok-Items.field-0-is read.2 in
+    rw (c.deref.ensures.value) whole.all
 
 -- no answer was found
 pub returns-clause-answered : goal.returns-clause-answered
 returns-clause-answered g c =
     let read = c.in-Ok-Items.ensures.read in
     let left = g.S.Source.left c.read_items.new.input in
-    let whole : IsWhole (question_items c.args.question) left (map (λ item. item.items) c.in-Ok-Items.items.items) read.0 =
-    subst (λ (w : Whole). IsReadWhole (question_items c.args.question) left (Ok w) read.0) c.in-Ok-Items.field-0-is read.2 in
+    let whole : IsWhole (question_items c.args.question) 1 left (map (λ item. item.items) c.in-Ok-Items.items.items) read.0 =
+    subst (λ (w : Whole). IsReadWhole (question_items c.args.question) 1 left (Ok w) read.0) c.in-Ok-Items.field-0-is read.2 in
     let status = c.in-Err-answer_to.status in (
       read.0,
       [],
@@ -98,7 +106,7 @@ returns-clause-answered g c =
       takes_none (g.K.Sink.taken c.args.out.now),
       λ sound. question_stopped c.args.question c.args.node.now.chain left read.0 status
           (opening_stop status (c.in-Err-answer_to.ensures.stop status refl) (λ e. c.in-Err-answer_to.ensures.sound sound (ap Err e)))
-          (whole_no_further (question_items c.args.question) left (map (λ item. item.items) c.in-Ok-Items.items.items) read.0 whole),
+          (whole_no_further (question_items c.args.question) 1 left (map (λ item. item.items) c.in-Ok-Items.items.items) read.0 whole),
     )
 
 pub returns-clause-status : goal.returns-clause-status
@@ -123,9 +131,9 @@ returns-in-Ok-clause-answered g c =
     let told = c.write_answer.ensures.told in
     let left = g.S.Source.left c.read_items.new.input in
     let items = map (λ item. item.items) c.deref.result.now in
-    let whole : IsWhole (question_items c.args.question) left (map (λ item. item.items) c.in-Ok-Items.items.items) read.0 =
-    subst (λ (w : Whole). IsReadWhole (question_items c.args.question) left (Ok w) read.0) c.in-Ok-Items.field-0-is read.2 in
-    let here : IsWhole (question_items c.args.question) left items read.0 = rw (c.deref.ensures.value) whole in (
+    let whole : IsWhole (question_items c.args.question) 1 left (map (λ item. item.items) c.in-Ok-Items.items.items) read.0 =
+    subst (λ (w : Whole). IsReadWhole (question_items c.args.question) 1 left (Ok w) read.0) c.in-Ok-Items.field-0-is read.2 in
+    let here : IsWhole (question_items c.args.question) 1 left items read.0 = rw (c.deref.ensures.value) whole in (
       read.0,
       told.0,
       read.1,

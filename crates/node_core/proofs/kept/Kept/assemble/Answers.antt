@@ -1,0 +1,65 @@
+use Rattle.std.proofs.Common.{◌≡◌, true, None, map, length, refl, sym, ap, subst}
+use Rattle.std.specs.Prelude.{IfOk, ◌<◌}
+use Rattle.chain_defs.specs.Kept.{block_hash, kept_limit}
+use Rattle.chain_tree.specs.Told.{blocks_of}
+use Rattle.verdict_defs.specs.Chain.{verdict_over}
+use Rattle.verdict_defs.specs.Verdict.{joins}
+use Rattle.pool_defs.specs.Assembly.{assembled}
+use Rattle.tx_pool.specs.Assembling.{IsAssembled, chain_on}
+use Rattle.node_core.specs.Node.{KeptValue}
+use Rattle.node_core.proofs.DecidingLemmas.{few-entries, whole-at-tip, joins-made}
+use Rattle.node_core.proofs.SourceLemmas.{told-stored, counts-entries}
+use Rattle.node_core.proofs.kept.Kept.assemble.Goals as goal
+
+pub assemble-requires-clause-few : goal.assemble-requires-clause-few
+assemble-requires-clause-few g c =
+    few-entries c.self.inside.blocks.stored c.self.inside.tree.entries c.self.inside.uncles c.self.invariant
+
+pub assemble-requires-clause-counts : goal.assemble-requires-clause-counts
+assemble-requires-clause-counts g c =
+    counts-entries (blocks_of c.self.inside.blocks.stored) c.args.self.now.chain.blocks c.self.inside.tree.entries _
+    (ap (λ (v : KeptValue). v.chain.blocks) c.self.view_is) c.self.invariant.indexed c.requires.counts
+
+pub returns-clause-read : goal.returns-clause-read
+returns-clause-read g c = c.assemble.ensures.read
+
+pub returns-clause-assembled : goal.returns-clause-assembled
+returns-clause-assembled g c tells live =
+    let stored = c.self.inside.blocks.stored in
+    let told = told-stored c.self.inside.spec stored c.self.inside.tree.entries c.args.self.now _ c.self.view_is tells in
+    let is = c.tip.ensures.of_blocks (blocks_of stored) c.self.invariant.indexed in
+    let stands = whole-at-tip c.self.inside.spec stored c.self.inside.tree.entries c.self.inside.uncles c.args.state.now c.args.self.now c.tip.result
+    c.self.view_is c.self.invariant tells.joined live is c.tip.ensures.within in
+    subst (λ (v : KeptValue). IfOk c.assemble.result (IsAssembled (assembled v.chain c.args.witness.now (map (λ item. item.items) c.args.items.now)))) c.self.view_is
+    (c.assemble.ensures.assembled stored told stands is)
+
+pub returns-clause-joins : goal.returns-clause-joins
+returns-clause-joins g c tells live room =
+    let stored = c.self.inside.blocks.stored in
+    let told = told-stored c.self.inside.spec stored c.self.inside.tree.entries c.args.self.now _ c.self.view_is tells in
+    let is = c.tip.ensures.of_blocks (blocks_of stored) c.self.invariant.indexed in
+    let stands = whole-at-tip c.self.inside.spec stored c.self.inside.tree.entries c.self.inside.uncles c.args.state.now c.args.self.now c.tip.result
+    c.self.view_is c.self.invariant tells.joined live is c.tip.ensures.within in
+    let chain = chain_on c.self.inside.spec (blocks_of stored) in
+    let b = (assembled chain c.args.witness.now (map (λ item. item.items) c.args.items.now)).block in
+    subst (λ (v : KeptValue). IfOk c.assemble.result (λ made. made.broken ≡ None → joins (verdict_over v.chain made.block.items) ≡ true)) c.self.view_is
+    (joins-made chain b.header.number (block_hash b) c.assemble.result
+    (c.assemble.ensures.joins stored told stands is (subst (λ (v : KeptValue). length v.chain.blocks < kept_limit) (sym c.self.view_is) room) b refl))
+
+pub returns-clause-breaks_few : goal.returns-clause-breaks_few
+returns-clause-breaks_few g c tells live =
+    let stored = c.self.inside.blocks.stored in
+    let told = told-stored c.self.inside.spec stored c.self.inside.tree.entries c.args.self.now _ c.self.view_is tells in
+    let is = c.tip.ensures.of_blocks (blocks_of stored) c.self.invariant.indexed in
+    let stands = whole-at-tip c.self.inside.spec stored c.self.inside.tree.entries c.self.inside.uncles c.args.state.now c.args.self.now c.tip.result
+    c.self.view_is c.self.invariant tells.joined live is c.tip.ensures.within in
+    c.assemble.ensures.breaks_few stored told stands is
+
+pub returns-clause-undamaged : goal.returns-clause-undamaged
+returns-clause-undamaged g c tells live damage =
+    let stored = c.self.inside.blocks.stored in
+    let told = told-stored c.self.inside.spec stored c.self.inside.tree.entries c.args.self.now _ c.self.view_is tells in
+    let is = c.tip.ensures.of_blocks (blocks_of stored) c.self.invariant.indexed in
+    let stands = whole-at-tip c.self.inside.spec stored c.self.inside.tree.entries c.self.inside.uncles c.args.state.now c.args.self.now c.tip.result
+    c.self.view_is c.self.invariant tells.joined live is c.tip.ensures.within in
+    c.assemble.ensures.undamaged stored told stands damage

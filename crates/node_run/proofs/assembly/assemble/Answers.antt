@@ -1,0 +1,48 @@
+use Rattle.std.proofs.Common.{List, ℕ, ◌∷◌, map, drop, ap, sym, ◌∙◌, subst, arith}
+use Rattle.std.specs.Prelude.{Some, None, Err, IfOk, string_bytes}
+use Rattle.std.proofs.lemmas.List.{take_rest}
+use Rattle.outside.proofs.Endings.{no_answer}
+use Rattle.node_run.specs.Question.{IsAnswerTo}
+use Rattle.report_defs.specs.declared.command.Question.TheVariants.{Assemble}
+use Rattle.node_run.proofs.Exits.{same_stop}
+use Rattle.node_run.proofs.LookLemmas.{looks_not, looks_found, looks_stopped, memory_no_fault, memory_no_none, memory_opening, memory_is_no_fault}
+use Rattle.node_run.proofs.AssemblyLemmas.{few-enough, short-enough, witness-fits, first-and-rest, no-witness-answer, refused-is-told, says-assembled}
+use Rattle.node_run.proofs.assembly.assemble.Goals as goal
+
+-- ---- The first item is no witness
+
+pub returns-in_default-clause-disk : goal.returns-in_default-clause-disk
+returns-in_default-clause-disk g c = looks_not c.args.disk.now (memory_no_fault c.unwitnessed.result c.unwitnessed.ensures.memory)
+
+pub returns-in_default-clause-answer : goal.returns-in_default-clause-answer
+returns-in_default-clause-answer g c = λ sound.
+    no-witness-answer c.args.node.now.chain c.deref.result.now (map (λ item. item.items) (drop 1 c.args.items.now)) (map (λ item. item.items) c.args.items.now) c.unwitnessed.result
+    (first-and-rest c.args.items.now c.index-items-0.result c.deref.result.now c.requires.some c.index-items-0.is c.deref.ensures.value)
+    (sym (sym c.in_default.is ∙ c.read.ensures.value)) c.unwitnessed.ensures.text c.unwitnessed.ensures.status
+
+pub returns-in_default-clause-one_of : goal.returns-in_default-clause-one_of
+returns-in_default-clause-one_of g c = refused-is-told c.unwitnessed.result c.unwitnessed.ensures.status
+
+pub returns-in_default-clause-stop : goal.returns-in_default-clause-stop
+returns-in_default-clause-stop g c = λ status is. memory_opening status (c.unwitnessed.ensures.memory status is)
+
+pub returns-in_default-clause-sound : goal.returns-in_default-clause-sound
+returns-in_default-clause-sound g c = λ sound is. memory_no_none c.unwitnessed.result c.unwitnessed.ensures.memory is
+
+-- ---- The block was not assembled
+
+pub returns-in-Err-clause-disk : goal.returns-in-Err-clause-disk
+returns-in-Err-clause-disk g c = looks_stopped c.in-Err.stop c.status_of_reading.result c.in-Err.ensures.left c.status_of_reading.ensures.fault
+
+pub returns-in-Err-clause-sound : goal.returns-in-Err-clause-sound
+returns-in-Err-clause-sound g c = λ sound is.
+    let none = c.status_of_reading.ensures.none (same_stop _ _ is) in
+    c.in-Err.ensures.undamaged sound none.0 (ap Err none.1)
+
+-- ---- It was told
+
+pub returns-in-Ok-answer_of-clause-disk : goal.returns-in-Ok-answer_of-clause-disk
+returns-in-Ok-answer_of-clause-disk g c = looks_found c.in-Ok.ensures.left (no_answer _ _)
+
+pub returns-in-Err-answer_of-clause-disk : goal.returns-in-Err-answer_of-clause-disk
+returns-in-Err-answer_of-clause-disk g c = looks_found c.in-Ok.ensures.left memory_is_no_fault

@@ -1,0 +1,4 @@
+pub mod Start
+pub mod Size
+pub mod Assembly
+pub mod Laws

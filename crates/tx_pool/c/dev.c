@@ -1,0 +1,1 @@
+void rt_open(void) {}
