@@ -23,7 +23,7 @@ least elsewhere.
                two, with one lock, so that one script group runs; 0 leaves it out
 --far          how far back the proposal window of that chain reaches
 --before       another program, an earlier one: both import that chain in turn,
-               so many rounds, and the ratio of the least processor times is told
+               so many rounds, and the ratio of the least processor times is printed
 --sync         what the floor syncs with
 
 Columns: seconds of the whole `import`; microseconds per block, elapsed and of

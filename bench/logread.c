@@ -59,7 +59,7 @@ int main(int argc, char **argv)
         uint64_t body = u32_at(log + at + 2);
         if (body >= size - at - 6)
             break;
-        /* a block of kind 3 stands behind its length */
+        /* a block of kind 3 stands after its length */
         const uint8_t *block = log + at + 6 + (kind == 3 ? 4 : 0);
         if (kind != 1) {
             const uint8_t *header = block + u32_at(block + 4);

@@ -125,8 +125,11 @@ def check_commands_of_the_script(_):
 @functools.lru_cache(maxsize=None)
 def names_of_the_code():
     """The words of all sources, and what their files and folders are called."""
-    names = {re.sub(r'\.\w+$', '', name) for _, inner, files in os.walk(CRATES) for name in inner + files}
-    for place in ('crates/*/*/**/*.rt', 'crates/*/*/**/*.antt', '*/*.py', '*/*/*.py', 'bench/*.c'):
+    names = set(os.listdir(CRATES))
+    for part in ('src', 'specs', 'proofs'):
+        for folder in glob.glob(os.path.join(CRATES, '*', part)):
+            names.update(re.sub(r'\.\w+$', '', name) for _, inner, files in os.walk(folder) for name in inner + files)
+    for place in ('crates/*/src/**/*.rt', 'crates/*/specs/**/*.antt', 'crates/*/proofs/**/*.antt', '*/*.py', '*/*/*.py', 'bench/*.c'):
         for path in glob.glob(os.path.join(TOP, place), recursive=True):
             names.update(re.findall(r'[A-Za-z_]\w*', text_of(path)))
     return names

@@ -113,7 +113,7 @@ def through_pipes(words, given, how):
 
     feeder = threading.Thread(target=feed, daemon=True)
     feeder.start()
-    out, ends = b'', time.monotonic() + SECONDS
+    out, ends = bytearray(), time.monotonic() + SECONDS
     while True:
         if not select.select([process.stdout], [], [], max(0, ends - time.monotonic()))[0]:
             process.kill()
@@ -125,7 +125,7 @@ def through_pipes(words, given, how):
     process.stdout.close()
     status = status_of(process)
     feeder.join(SECONDS)
-    return status, out
+    return status, bytes(out)
 
 
 def must_answer(ran, status, text, what):

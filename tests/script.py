@@ -98,8 +98,8 @@ def check_script_ends_by_a_signal(_):
     caught = (signal.SIGTERM, signal.SIGINT, signal.SIGHUP)
 
     def heed():
-        # they are ignored where this script was started so
-        for it in caught:
+        # they are ignored where this script was started so, as by a shell in the background
+        for it in (*caught, signal.SIGQUIT):
             signal.signal(it, signal.SIG_DFL)
 
     chain = chain_of(1)

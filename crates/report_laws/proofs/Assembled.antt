@@ -1,11 +1,12 @@
 -- What `assemble` tells ends in a block that would join, or in a rule for which there is none.
 use Rattle.std.proofs.Common.{◌≡◌, ◌⊎◌, inl, inr, ℕ, ◌<◌, true, false, List, [], ◌∷◌, ◌++◌, length, map, refl, sym, ap, ◌∙◌, subst, arith}
-use Rattle.std.specs.Prelude.{Option, Some, None, IfSome, ◌==◌, if◌then◌else◌, codes}
+use Rattle.std.specs.Prelude.{Option, Some, None, IfSome, IsTrue, ◌==◌, if◌then◌else◌, codes}
 use Rattle.std.specs.List.{concat}
 use Rattle.std.proofs.lemmas.Bool.Decides.{eqb_tells}
 use Rattle.std.proofs.lemmas.Option.{slice_get_within}
 use Rattle.outside.specs.Image.{Image}
 use Rattle.codec_defs.specs.Shape.{encoded, decoded}
+use Rattle.codec_defs.proofs.ShapeLaws.{IsA-decoded}
 use Rattle.codec_defs.specs.Schema as schema
 use Rattle.codec_defs.specs.Schema.{Block, CellbaseWitness, cellbase_witness}
 use Rattle.fold_defs.specs.First.{first_failing}
@@ -15,7 +16,8 @@ use Rattle.verdict_defs.specs.declared.verdict.Verdict.{Verdict}
 use Rattle.verdict_defs.specs.Verdict.{joins}
 use Rattle.verdict_defs.specs.Chain.{Chain, verdict_over}
 use Rattle.pool_defs.specs.Assembly.{assembled}
-use Rattle.pool_defs.specs.Laws.{IsFounded, BreaksFew, UnbrokenJoins}
+use Rattle.pool_defs.specs.Laws.{IsFounded, BreaksFew}
+use Rattle.pool_laws.specs.Laws.{IsInRange, UnbrokenIsJoined}
 use Rattle.store_defs.specs.Store.{StandsFor, IsJoined}
 use Rattle.store_defs.specs.StoreLaws.{StandsForWhatJoined}
 use Rattle.store_defs.proofs.JoinedLemmas.{is_kept_of_joined}
@@ -28,6 +30,7 @@ use Rattle.report_defs.specs.Status.{IsOneOf}
 use Rattle.report_defs.specs.Items.{split_of, end_offset, end_of_whole}
 use Rattle.report_defs.specs.Assembly.{pool_line}
 use Rattle.report_defs.specs.Report.{Report, text_of, question_limits, report_of_end, report_at_end, report_of_assembled, report_with_witness, report_of_assembly}
+use Rattle.report_laws.proofs.InRange.{in-range}
 use Rattle.report_defs.specs.Laws.{TellsBlock, TellsNoBlock, WhatIsAssembledJoins}
 
 -- ---- What is kept begins with a genesis of number 0
@@ -66,22 +69,23 @@ early offset ends.Extra other (inl is) = absurd (cc)
 early offset ends.Extra other (inr (inl is)) = absurd (cc)
 early offset ends.Extra other (inr (inr never)) = never
 
-module _ (what_joined : StandsForWhatJoined) (breaks_few : BreaksFew) (unbroken_joins : UnbrokenJoins) where
-  module _ (chain : Chain) (is_founded : IsFounded chain.blocks) (room : length chain.blocks < kept_limit) where
+module _ (what_joined : StandsForWhatJoined) (breaks_few : BreaksFew) (unbroken_is_joined : UnbrokenIsJoined) where
+  module _ (chain : Chain) (is_founded : IsFounded chain.blocks) (in_range : IsInRange chain) (room : length chain.blocks < kept_limit) where
     abbrev Tells : Report → Type 0
     Tells said = TellsBlock chain (text_of said) ⊎ TellsNoBlock (text_of said)
 
     -- by the rule that the block breaks
-    by-broken : (witness : CellbaseWitness) (items : List (List ℕ)) (broken : Option ℕ) → (assembled chain witness items).broken ≡ broken
-        → Tells (report_of_assembled (assembled chain witness items))
-    by-broken witness items None is =
+    by-broken : (witness : CellbaseWitness) (items : List (List ℕ)) (broken : Option ℕ) → IsTrue (cellbase_witness.encoding witness).fits
+        → (assembled chain witness items).broken ≡ broken → Tells (report_of_assembled (assembled chain witness items))
+    by-broken witness items None fits is =
         let all = assembled chain witness items in
         inl (record {
           bytes = encoded schema.block all.block;
-          joined = ap (λ (v : Verdict). joins v) (unbroken_joins chain witness items all.block is_founded refl is room);
+          joined = ap (λ (v : Verdict). joins v) (unbroken_is_joined chain witness items all.block
+              (record { founded = is_founded; in_range = in_range; room = room; witness_fits = fits; unbroken = is }) refl);
           last = (concat (map pool_line all.lines), ap (λ (broken : Option ℕ). text_of (report_of_assembled (record all { broken = broken }))) is);
         })
-    by-broken witness items (Some rule) is =
+    by-broken witness items (Some rule) fits is =
         let all = assembled chain witness items in
         inr (record {
           rule = rule;
@@ -89,15 +93,17 @@ module _ (what_joined : StandsForWhatJoined) (breaks_few : BreaksFew) (unbroken_
           last = (concat (map pool_line all.lines), ap (λ (broken : Option ℕ). text_of (report_of_assembled (record all { broken = broken }))) is);
         })
 
-    by-witness : (found : Option CellbaseWitness) (items : List (List ℕ)) → Tells (report_with_witness chain found items)
-    by-witness None items = inr (record { rule = 17; breakable_by = tt; last = ([], refl) })
-    by-witness (Some witness) items = by-broken witness items (assembled chain witness items).broken refl
+    by-witness : (first : List ℕ) (found : Option CellbaseWitness) (items : List (List ℕ)) → decoded cellbase_witness first ≡ found
+        → Tells (report_with_witness chain found items)
+    by-witness first None items is = inr (record { rule = 17; breakable_by = tt; last = ([], refl) })
+    by-witness first (Some witness) items is =
+        by-broken witness items (assembled chain witness items).broken (IsA-decoded cellbase_witness first witness is).fits refl
 
     by-items : (items : List (List ℕ)) → Judged (report_of_assembly chain items).status → Tells (report_of_assembly chain items)
     by-items [] (inl is) = absurd (cc)
     by-items [] (inr (inl is)) = absurd (cc)
     by-items [] (inr (inr never)) = absurd never
-    by-items (first ∷ items) judged = by-witness (decoded cellbase_witness first) items
+    by-items (first ∷ items) judged = by-witness first (decoded cellbase_witness first) items refl
 
     by-end : (items : List (List ℕ)) (offset : ℕ) (end : End) → Judged (report_at_end (report_of_assembly chain items) offset end).status
         → Tells (report_at_end (report_of_assembly chain items) offset end)
@@ -109,6 +115,6 @@ module _ (what_joined : StandsForWhatJoined) (breaks_few : BreaksFew) (unbroken_
   pub what-is-assembled-joins : WhatIsAssembledJoins
   what-is-assembled-joins chain image input said stands room is judged =
       let split = split_of (question_limits Assemble) input in
-      let told = by-end chain (founded chain (what_joined.0 chain image stands)) room split.items (end_offset split) (end_of_whole 1 split)
+      let told = by-end chain (founded chain (what_joined.0 chain image stands)) (in-range chain image stands) room split.items (end_offset split) (end_of_whole 1 split)
       (subst (λ (r : Report). Judged r.status) is judged) in
       subst (λ (r : Report). TellsBlock chain (text_of r) ⊎ TellsNoBlock (text_of r)) (sym is) told

@@ -3,6 +3,7 @@ ghost use Rattle.report_defs.specs.Laws.{OneReport, WhatIsAssembledJoins};
 
 use json_blocks::reading_laws;
 use pool_defs::joining_laws;
+use pool_laws::canonical_laws;
 use rv_text::text_laws;
 use store_defs::store_laws;
 
@@ -22,4 +23,5 @@ pub fn assembly_laws()
 {
     store_laws();
     joining_laws();
+    canonical_laws();
 }
