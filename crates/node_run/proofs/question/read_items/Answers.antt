@@ -14,6 +14,6 @@ returns-in-Check-clause-read g c =
 
 pub returns-in-Assemble-clause-read : goal.returns-in-Assemble-clause-read
 returns-in-Assemble-clause-read g c =
-    subst (λ (limits : List ℕ). Gave (g.S.Source.left c.args.input.now) (g.S.Source.left c.read_whole.new.input)
-    (IsReadWhole limits 1 (g.S.Source.left c.read_whole.new.input) c.read_whole.result))
-    (limits-are 1048576 1001 refl refl ∙ ap question_items (sym c.in-Assemble.is)) c.read_whole.ensures.read
+    subst (λ (limits : List ℕ). Gave (g.S.Source.left c.args.input.now) (g.S.Source.left c.read_whole-in-Assemble.new.input)
+    (IsReadWhole limits 1 (g.S.Source.left c.read_whole-in-Assemble.new.input) c.read_whole-in-Assemble.result))
+    (limits-are 1048576 1001 refl refl ∙ ap question_items (sym c.in-Assemble.is)) c.read_whole-in-Assemble.ensures.read
