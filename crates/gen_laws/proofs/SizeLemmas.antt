@@ -55,11 +55,11 @@ byte-at : (i n : ℕ) → byte_at i n < 256
 byte-at zero n = below-256 n
 byte-at (suc i) n = below-256 (n / 256 ^ suc i)
 
-low-bytes : (i count n : ℕ) → IsTrue (are_bytes (bytes_low_first i count n))
+pub low-bytes : (i count n : ℕ) → IsTrue (are_bytes (bytes_low_first i count n))
 low-bytes i zero n = refl
 low-bytes i (suc count) n = and_from _ _ (lt-ltb (byte_at i n) 256 (byte-at i n)) (low-bytes (suc i) count n)
 
-append-bytes : (a b : List ℕ) → IsTrue (are_bytes a) → IsTrue (are_bytes b) → IsTrue (are_bytes (a ++ b))
+pub append-bytes : (a b : List ℕ) → IsTrue (are_bytes a) → IsTrue (are_bytes b) → IsTrue (are_bytes (a ++ b))
 append-bytes [] b first second = second
 append-bytes (x ∷ a) b first second = let both = and_parts _ _ first in and_from _ _ both.0 (append-bytes a b both.1 second)
 

@@ -10,7 +10,7 @@ use std::alloc::Global;
 /// `Bytes`: their count, and they.
 #[tactic(auto, using(crate::proofs::Sizes::bytes_after_count))]
 pub fn bytes_row(alloc: Global, content: &[u8]) -> Result<Vec<u8>, NoMemory>
-    requires { length content.now < 2 ^ 20 }
+    requires { length content.now < 2 ^ 30 }
     ensures bytes { IfOk result (λ bytes. bytes.items ≡ encoded shape.bytes content.now) }
     ensures size { IfOk result (λ bytes. length bytes.items ≡ 4 + length content.now) }
 {

@@ -14,7 +14,7 @@ use std::alloc::Global;
 /// The fixvec of one item.
 #[tactic(auto, using(crate::proofs::Sizes::fixvec_of_one))]
 pub fn fixvec_of(alloc: Global, item: &[u8]) -> Result<Vec<u8>, NoMemory>
-    requires { length item.now < 2 ^ 20 }
+    requires { length item.now < 2 ^ 30 }
     ensures bytes { IfOk result (λ bytes. bytes.items ≡ molecule.fixvec (item.now ∷ [])) }
     ensures size { IfOk result (λ bytes. length bytes.items ≡ 4 + length item.now) }
 {
@@ -27,7 +27,7 @@ pub fn fixvec_of(alloc: Global, item: &[u8]) -> Result<Vec<u8>, NoMemory>
 /// The dynvec of one item.
 #[tactic(auto, using(crate::proofs::Sizes::length_of_dynvec))]
 pub fn dynvec_of(alloc: Global, item: &[u8]) -> Result<Vec<u8>, NoMemory>
-    requires { length item.now < 2 ^ 20 }
+    requires { length item.now < 2 ^ 30 }
     ensures bytes { IfOk result (λ bytes. bytes.items ≡ molecule.dynvec (item.now ∷ [])) }
     ensures size { IfOk result (λ bytes. length bytes.items ≡ 8 + length item.now) }
 {
@@ -74,7 +74,7 @@ pub fn script_table(
 /// An output with no type script, by the encoding of its lock.
 #[tactic(auto, unfolding(codec_defs::specs::Schema::cell_output), using(crate::proofs::Sizes::length_of_table))]
 pub fn output_table(alloc: Global, lock: &[u8], capacity: u64) -> Result<Vec<u8>, NoMemory>
-    requires { length lock.now < 2 ^ 20 }
+    requires { length lock.now < 2 ^ 30 }
     ensures bytes { (script : schema.Script) → lock.now ≡ encoded schema.script script → IfOk result (λ bytes. bytes.items
         ≡ encoded schema.cell_output (record { capacity = capacity; lock = script; type_script = None })) }
     ensures size { IfOk result (λ bytes. length bytes.items ≡ 24 + length lock.now) }
@@ -97,11 +97,11 @@ pub fn raw_table(
     outputs: &[u8],
     outputs_data: &[u8],
 ) -> Result<Vec<u8>, NoMemory>
-    requires cell_deps { length cell_deps.now < 2 ^ 20 }
-    requires header_deps { length header_deps.now < 2 ^ 20 }
-    requires inputs { length inputs.now < 2 ^ 20 }
-    requires outputs { length outputs.now < 2 ^ 20 }
-    requires outputs_data { length outputs_data.now < 2 ^ 20 }
+    requires cell_deps { length cell_deps.now < 2 ^ 29 }
+    requires header_deps { length header_deps.now < 2 ^ 29 }
+    requires inputs { length inputs.now < 2 ^ 29 }
+    requires outputs { length outputs.now < 2 ^ 29 }
+    requires outputs_data { length outputs_data.now < 2 ^ 29 }
     ensures bytes { (t : schema.RawTransaction) → version ≡ t.version → HasLists t cell_deps.now header_deps.now inputs.now outputs.now outputs_data.now
         → IfOk result (λ bytes. bytes.items ≡ encoded schema.raw_transaction t) }
     ensures size { IfOk result (λ bytes. length bytes.items
@@ -116,8 +116,8 @@ pub fn raw_table(
 /// A transaction, by the encodings of its raw part and of its witnesses.
 #[tactic(auto, unfolding(codec_defs::specs::Schema::transaction), using(crate::proofs::Sizes::length_of_table))]
 pub fn transaction_table(alloc: Global, raw: &[u8], witnesses: &[u8]) -> Result<Vec<u8>, NoMemory>
-    requires raw { length raw.now < 2 ^ 23 }
-    requires witnesses { length witnesses.now < 2 ^ 20 }
+    requires raw { length raw.now < 2 ^ 31 }
+    requires witnesses { length witnesses.now < 2 ^ 30 }
     ensures bytes { (t : schema.Transaction) → HasParts t raw.now witnesses.now → IfOk result (λ bytes. bytes.items ≡ encoded schema.transaction t) }
     ensures size { IfOk result (λ bytes. length bytes.items ≡ 12 + length raw.now + length witnesses.now) }
 {

@@ -1,0 +1,6 @@
+pub mod NumberLemmas
+pub mod ByteLemmas
+pub mod ItemLemmas
+pub mod BlockLemmas
+pub mod CanonicalLaws
+pub mod InRange
