@@ -40,7 +40,7 @@ first-number genesis good = elim (eqb_tells genesis.header.number 0) [
   | inr other ↦ absurd (none_broken (rw other.0 at good))
 ]
   where
-    none_broken : Some 2 ≡ None → ⊥
+    none_broken : ◌≡◌ {A = Option ℕ} (Some 2) None → ⊥
     none_broken is = absurd (cc)
 
 founded : (chain : Chain) → IsJoined chain → IsFounded chain.blocks
