@@ -35,6 +35,7 @@ use Rattle.report_defs.specs.Laws.{TellsBlock, TellsNoBlock, WhatIsAssembledJoin
 -- ---- What is kept begins with a genesis of number 0
 
 first-number : (genesis : Block) → first_failing (genesis_rules genesis) ≡ None → genesis.header.number ≡ 0
+unfolding first_failing
 first-number genesis good = elim (eqb_tells genesis.header.number 0) [
   | inl zero ↦ zero.1
   | inr other ↦ absurd (none_broken (rw other.0 at good))
@@ -94,7 +95,7 @@ module _ (what_joined : StandsForWhatJoined) (breaks_few : BreaksFew) (unbroken_
 
     by-witness : (first : List ℕ) (found : Option CellbaseWitness) (items : List (List ℕ)) → decoded cellbase_witness first ≡ found
         → Tells (report_with_witness chain found items)
-    by-witness first None items is = inr (record { rule = 17; breakable_by = tt; last = ([], refl) })
+    by-witness first None items is = inr (record { rule = 17; breakable_by = refl; last = ([], refl) })
     by-witness first (Some witness) items is =
         by-broken witness items (assembled chain witness items).broken (IsA-decoded cellbase_witness first witness is).fits refl
 
