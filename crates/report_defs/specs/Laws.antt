@@ -1,6 +1,6 @@
 -- What is true of the reports of runs. The first and the last are proved in `report_laws`, over what is true of texts, of trees of JSON and of blocks
 -- that are assembled.
-use Rattle.std.specs.Prelude.{◌≡◌, ◌⊎◌, ℕ, ◌<◌, ◌==◌, true, List, [], ◌∷◌, ◌++◌, length, codes, Option, Some, None, IsTrue}
+use Rattle.std.specs.Prelude.{◌≡◌, ◌⊎◌, ℕ, ◌<◌, ◌^◌, ◌==◌, true, List, [], ◌∷◌, ◌++◌, length, codes, Option, Some, None, IsTrue}
 use Rattle.std.specs.List.{list_any}
 use Rattle.outside.specs.Image.{Image}
 use Rattle.chain_defs.specs.Kept.{kept_limit}
@@ -62,9 +62,9 @@ pub record TellsNoBlock (text : List ℕ) : Type 0 where
   pub breakable_by : IsTrue (list_any (λ other. other == rule) breakable)
   pub last : EndsIn (no_block_line rule) text
 
--- Law: over a chain that a store keeps, with room for a block, what `assemble` tells of an input that is read to its end, ends in the bytes of a block
--- that would join, or in `no block`.
+-- Law: over a chain that a store keeps, whose compact target has 32 bits, with room for a block, what `assemble` tells of an input that is read to its
+-- end, ends in the bytes of a block that would join, or in `no block`.
 abbrev pub WhatIsAssembledJoins : Type 0
-WhatIsAssembledJoins = (chain : Chain) (image : Image) (input : List ℕ) (said : Report) → StandsFor chain image → length chain.blocks < kept_limit
-    → IsReport (Some (Question Assemble)) input (Keeps chain) said → IsOneOf (Done ∷ SomeRefused ∷ []) said.status
+WhatIsAssembledJoins = (chain : Chain) (image : Image) (input : List ℕ) (said : Report) → StandsFor chain image → chain.spec.compact_target < 2 ^ 32
+    → length chain.blocks < kept_limit → IsReport (Some (Question Assemble)) input (Keeps chain) said → IsOneOf (Done ∷ SomeRefused ∷ []) said.status
     → TellsBlock chain (text_of said) ⊎ TellsNoBlock (text_of said)

@@ -17,7 +17,7 @@ use Rattle.verdict_defs.specs.Verdict.{joins}
 use Rattle.verdict_defs.specs.Chain.{Chain, verdict_over}
 use Rattle.pool_defs.specs.Assembly.{assembled}
 use Rattle.pool_defs.specs.Laws.{IsFounded, BreaksFew}
-use Rattle.pool_laws.specs.Laws.{IsInRange, UnbrokenIsJoined}
+use Rattle.pool_laws.specs.Laws.{IsInRange, UnbrokenIsJoined, KeptIsInRange}
 use Rattle.store_defs.specs.Store.{StandsFor, IsJoined}
 use Rattle.store_defs.specs.StoreLaws.{StandsForWhatJoined}
 use Rattle.store_defs.proofs.JoinedLemmas.{is_kept_of_joined}
@@ -30,18 +30,18 @@ use Rattle.report_defs.specs.Status.{IsOneOf}
 use Rattle.report_defs.specs.Items.{split_of, end_offset, end_of_whole}
 use Rattle.report_defs.specs.Assembly.{pool_line}
 use Rattle.report_defs.specs.Report.{Report, text_of, question_limits, report_of_end, report_at_end, report_of_assembled, report_with_witness, report_of_assembly}
-use Rattle.report_laws.proofs.InRange.{in-range}
 use Rattle.report_defs.specs.Laws.{TellsBlock, TellsNoBlock, WhatIsAssembledJoins}
 
 -- ---- What is kept begins with a genesis of number 0
 
 first-number : (genesis : Block) → first_failing (genesis_rules genesis) ≡ None → genesis.header.number ≡ 0
+unfolding first_failing
 first-number genesis good = elim (eqb_tells genesis.header.number 0) [
   | inl zero ↦ zero.1
   | inr other ↦ absurd (none_broken (rw other.0 at good))
 ]
   where
-    none_broken : Some 2 ≡ None → ⊥
+    none_broken : ◌≡◌ {A = Option ℕ} (Some 2) None → ⊥
     none_broken is = absurd (cc)
 
 founded : (chain : Chain) → IsJoined chain → IsFounded chain.blocks
@@ -69,7 +69,7 @@ early offset ends.Extra other (inl is) = absurd (cc)
 early offset ends.Extra other (inr (inl is)) = absurd (cc)
 early offset ends.Extra other (inr (inr never)) = never
 
-module _ (what_joined : StandsForWhatJoined) (breaks_few : BreaksFew) (unbroken_is_joined : UnbrokenIsJoined) where
+module _ (what_joined : StandsForWhatJoined) (breaks_few : BreaksFew) (unbroken_is_joined : UnbrokenIsJoined) (kept_is_in_range : KeptIsInRange) where
   module _ (chain : Chain) (is_founded : IsFounded chain.blocks) (in_range : IsInRange chain) (room : length chain.blocks < kept_limit) where
     abbrev Tells : Report → Type 0
     Tells said = TellsBlock chain (text_of said) ⊎ TellsNoBlock (text_of said)
@@ -95,7 +95,7 @@ module _ (what_joined : StandsForWhatJoined) (breaks_few : BreaksFew) (unbroken_
 
     by-witness : (first : List ℕ) (found : Option CellbaseWitness) (items : List (List ℕ)) → decoded cellbase_witness first ≡ found
         → Tells (report_with_witness chain found items)
-    by-witness first None items is = inr (record { rule = 17; breakable_by = tt; last = ([], refl) })
+    by-witness first None items is = inr (record { rule = 17; breakable_by = refl; last = ([], refl) })
     by-witness first (Some witness) items is =
         by-broken witness items (assembled chain witness items).broken (IsA-decoded cellbase_witness first witness is).fits refl
 
@@ -113,8 +113,8 @@ module _ (what_joined : StandsForWhatJoined) (breaks_few : BreaksFew) (unbroken_
     by-end items offset ends.Extra judged = absurd (early offset ends.Extra (λ is. absurd (cc)) judged)
 
   pub what-is-assembled-joins : WhatIsAssembledJoins
-  what-is-assembled-joins chain image input said stands room is judged =
+  what-is-assembled-joins chain image input said stands target room is judged =
       let split = split_of (question_limits Assemble) input in
-      let told = by-end chain (founded chain (what_joined.0 chain image stands)) (in-range chain image stands) room split.items (end_offset split) (end_of_whole 1 split)
+      let told = by-end chain (founded chain (what_joined.0 chain image stands)) (kept_is_in_range chain image stands target) room split.items (end_offset split) (end_of_whole 1 split)
       (subst (λ (r : Report). Judged r.status) is judged) in
       subst (λ (r : Report). TellsBlock chain (text_of r) ⊎ TellsNoBlock (text_of r)) (sym is) told

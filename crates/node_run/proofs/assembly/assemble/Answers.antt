@@ -1,13 +1,26 @@
-use Rattle.std.proofs.Common.{List, ℕ, ◌∷◌, map, drop, ap, sym, ◌∙◌, subst, arith}
-use Rattle.std.specs.Prelude.{Some, None, Err, IfOk, string_bytes}
+use Rattle.std.proofs.Common.{List, ℕ, ◌-◌, length, map, take, drop, ap, sym, ◌∙◌}
+use Rattle.std.specs.Prelude.{Err}
 use Rattle.std.proofs.lemmas.List.{take_rest}
 use Rattle.outside.proofs.Endings.{no_answer}
-use Rattle.node_run.specs.Question.{IsAnswerTo}
-use Rattle.report_defs.specs.declared.command.Question.TheVariants.{Assemble}
 use Rattle.node_run.proofs.Exits.{same_stop}
 use Rattle.node_run.proofs.LookLemmas.{looks_not, looks_found, looks_stopped, memory_no_fault, memory_no_none, memory_opening, memory_is_no_fault}
-use Rattle.node_run.proofs.AssemblyLemmas.{few-enough, short-enough, witness-fits, first-and-rest, no-witness-answer, refused-is-told, says-assembled}
+use Rattle.node_run.proofs.AssemblyLemmas.{few-enough, short-enough, witness-fits, first-and-rest, no-witness-answer, refused-is-told}
 use Rattle.node_run.proofs.assembly.assemble.Goals as goal
+
+-- ---- The witness, and the items after it
+
+pub assemble-requires-clause-items : goal.assemble-requires-clause-items
+assemble-requires-clause-items g c =
+    few-enough c.args.items.now c.requires.items (take (length c.args.items.now - 1) (drop 1 c.args.items.now)) (take_rest c.args.items.now 1) c.requires.some
+
+pub assemble-requires-clause-bytes : goal.assemble-requires-clause-bytes
+assemble-requires-clause-bytes g c =
+    short-enough c.args.items.now c.requires.items (take (length c.args.items.now - 1) (drop 1 c.args.items.now)) (take_rest c.args.items.now 1)
+
+pub assemble-requires-clause-witness : goal.assemble-requires-clause-witness
+assemble-requires-clause-witness g c =
+    witness-fits c.args.items.now c.index-items-0.result c.deref.result.now c.in-Some.witness c.requires.items c.requires.some c.index-items-0.is c.deref.ensures.value
+    ((c.read.ensures.exact c.in-Some.witness).0 c.in-Some.is)
 
 -- ---- The first item is no witness
 
@@ -44,5 +57,5 @@ returns-in-Err-clause-sound g c = λ sound is.
 pub returns-in-Ok-answer_of-clause-disk : goal.returns-in-Ok-answer_of-clause-disk
 returns-in-Ok-answer_of-clause-disk g c = looks_found c.in-Ok.ensures.left (no_answer _ _)
 
-pub returns-in-Err-answer_of-clause-disk : goal.returns-in-Err-answer_of-clause-disk
-returns-in-Err-answer_of-clause-disk g c = looks_found c.in-Ok.ensures.left memory_is_no_fault
+pub returns-clause-disk : goal.returns-clause-disk
+returns-clause-disk g c = looks_found c.in-Ok.ensures.left memory_is_no_fault

@@ -4,6 +4,6 @@ use Rattle.report_defs.specs.Assembly.{pool_line}
 use Rattle.node_run.proofs.assembly.push_lines.Given as goal
 
 abbrev pub invariant-lines : goal.invariant-lines
-invariant-lines g l = record {
+invariant-lines l = record {
   told : string_bytes l.text ++ concat (map pool_line (drop l.line-index l.fn.lines)) ≡ string_bytes l.fn.text ++ concat (map pool_line l.fn.lines);
 }
