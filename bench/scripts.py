@@ -9,8 +9,8 @@ one that first goes through a loop of 500 cycles. `tx_vectors` must find that ea
 call takes the cycles that its row has, and `rvref` must print the sum of them.
 The processor time of a run counts, the least of the
 rounds in which they take turns, and of the baseline the faster of the builds by
-`cc -O2` and `clang -O2`. The status is 1 above 25 microseconds a start, and above
-50 milliseconds for 1,000 calls with the loop.
+`cc -O2` and `clang -O2`. The status is 1 above 5 microseconds a start, and above
+8 milliseconds for 1,000 calls with the loop.
 """
 
 import argparse
@@ -32,8 +32,8 @@ ENDS = [addi(17, 93), addi(10, 0), 0x73]
 COUNTS = [addi(5, LOOPS), -1 << 20 & 0xfff00000 | 5 << 15 | addi(5, 0), 0xfe029ee3]     # x5 -= 1; bne x5, x0, -4
 
 # name: the file, its cycles (a cycle for four bytes that are loaded, and 500 of ECALL), the most microseconds
-FILES = {'start': (program(ENDS), 3 + 2 + 500, 25.0),
-         'loop': (program(COUNTS + ENDS), 6 + 1 + 4 * LOOPS + 2 + 500, 50.0)}
+FILES = {'start': (program(ENDS), 3 + 2 + 500, 5.0),
+         'loop': (program(COUNTS + ENDS), 6 + 1 + 4 * LOOPS + 2 + 500, 8.0)}
 
 
 def rows(code, cycles, calls):

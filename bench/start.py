@@ -8,7 +8,7 @@ machine, the file loaded, run, and given back. `machine_vectors` must find that
 each run takes the cycles that the row has, and `rvref` must print the sum of them.
 The processor time of a run counts, the least of the rounds in which they take
 turns, and of the baseline the faster of the builds by `cc -O2` and `clang -O2`.
-Above 20 microseconds a start the status is 1.
+Above 3 microseconds a start the status is 1.
 """
 
 import argparse
@@ -22,7 +22,7 @@ import chaingen
 from exec import BUDGET, FLAGS, HERE, run
 
 CYCLES = 505        # 3 of loading, 1 and 1, and 500 of ECALL
-MOST = 20.0
+MOST = 3.0
 
 
 def addi(register, value):
