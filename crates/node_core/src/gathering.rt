@@ -139,13 +139,16 @@ impl Gathering {
             genesis,
             unfit,
         } = self;
-        if let Some(place) = unfit {
-            let at = tree.entry(place).at;
-            drop((blocks, uncles, genesis, tree));
-            return Err(LogStop::NotAStore(Damage {
-                area: Area::Log,
-                at,
-            }));
+        match unfit {
+            None => {}
+            Some(place) => {
+                let at = tree.entry(place).at;
+                drop((blocks, uncles, genesis, tree));
+                return Err(LogStop::NotAStore(Damage {
+                    area: Area::Log,
+                    at,
+                }));
+            }
         }
         let Some(cells) = genesis else { unreachable!() };
         let kept = Kept {

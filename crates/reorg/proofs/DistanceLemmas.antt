@@ -41,7 +41,7 @@ has-last places last place e = by_or (has places place) (sym (list_any-append (�
     by_or false e is = inr (by_one (last == place) refl e)
 
 -- No place of a branch is after its own.
-within-own : (most : ℕ) (kept : List Block) (place other : ℕ) → place < most → has (branch_places kept place) other ≡ true → other < suc place
+pub within-own : (most : ℕ) (kept : List Block) (place other : ℕ) → place < most → has (branch_places kept place) other ≡ true → other < suc place
 within-own zero kept place other few e = absurd (omega (arith, few))
 within-own (suc most) kept place other few e = by_parent (parent_place kept place) refl (within-own most kept)
   where

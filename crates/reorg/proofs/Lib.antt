@@ -7,3 +7,4 @@ pub mod PathLemmas
 pub mod ToldLemmas
 pub mod WayLemmas
 pub mod OnWayLemmas
+pub mod BelowLemmas

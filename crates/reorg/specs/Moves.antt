@@ -1,5 +1,5 @@
 -- What it takes to go from one place's branch to another's.
-use Rattle.std.specs.Prelude.{◌≡◌, ℕ, ◌-◌, ◌<◌, ◌==◌, Bool, true, false, not, List, length, Option, Some, slice_get}
+use Rattle.std.specs.Prelude.{◌≡◌, ℕ, ◌-◌, ◌<◌, ◌==◌, Bool, true, false, not, nat_lt, List, length, Option, Some, slice_get}
 use Rattle.std.specs.List.{list_any}
 use Rattle.codec_defs.specs.Schema.{OutPoint, Block}
 use Rattle.chain_defs.specs.Kept.{parent_place}
@@ -28,6 +28,14 @@ EachCanBeTakenBack stored = (place parent : ℕ) (it : Stored) → slice_get sto
 -- rows are those of the branch of a place
 abbrev pub AreOf : List Block → ℕ → (OutPoint → Option Row) → Type 0
 AreOf kept place rows = (o : OutPoint) → rows o ≡ live_row kept place o
+
+-- each row is of a block before a place
+abbrev pub AreBelow : ℕ → (OutPoint → Option Row) → Type 0
+AreBelow place rows = (o : OutPoint) (row : Row) → rows o ≡ Some row → row.block < place
+
+-- whether a row is
+abbrev pub is_below : ℕ → OutPoint × Row → Bool
+is_below place it = nat_lt it.1.block place
 
 -- whether a place is on the branch of another
 abbrev pub is_on_branch : List Block → ℕ → ℕ → Bool

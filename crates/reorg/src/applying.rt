@@ -13,7 +13,7 @@ ghost use Rattle.cell_defs.specs.Row.{row_after};
 ghost use Rattle.cell_defs.specs.Fit.{are_live, AllFit};
 ghost use Rattle.cell_state.specs.State.{rows};
 ghost use Rattle.reorg.specs.Damages.{IsAtRecord};
-ghost use Rattle.reorg.specs.Moves.{AreOf};
+ghost use Rattle.reorg.specs.Moves.{AreBelow, AreOf};
 
 use cell_state::{State, outputs_in, tx_hashes};
 use chain_tree::{Blocks, Tree};
@@ -46,6 +46,7 @@ pub fn genesis_cells<B: Blocks>(
     ensures read { HasRead B.told B.count B.loans_of B.faults B.damages blocks.old blocks.new (stop_of result) }
     ensures rows { (stored : List Stored) → B.told blocks.old ≡ Some stored → IndexesBlocks (blocks_of stored) tree.now.entries
         → IfOk result (λ state. AreOf (blocks_of stored) 0 (rows state)) }
+    ensures below { IfOk result (λ state. AreBelow 1 (rows state)) }
     ensures undamaged { (stored : List Stored) → B.told blocks.old ≡ Some stored → (damage : disk.Damage) → result ≡ Err (Damaged damage) → ⊥ }
 {
     match blocks.bring(0) {
@@ -78,6 +79,7 @@ pub(crate) fn apply_at<B: Blocks, L: Ledger>(
     ensures read { HasRead B.told B.count B.loans_of B.faults B.damages blocks.old blocks.new (stop_of result) }
     ensures rows { (stored : List Stored) (b : Block) → B.told blocks.old ≡ Some stored → block_at (blocks_of stored) place ≡ Some b
         → OnOk result ((height : ℕ) (o : OutPoint) → 0 < height → rows state.new o ≡ row_after place (events_of_block height b) (rows state.old) o) }
+    ensures below { (end : ℕ) → place < end → AreBelow end (rows state.old) → OnOk result (AreBelow end (rows state.new)) }
     ensures fit { (stored : List Stored) (b : Block) → B.told blocks.old ≡ Some stored → block_at (blocks_of stored) place ≡ Some b
         → OnOk result ((height : ℕ) → 0 < height → AllFit (events_of_block height b) (are_live (rows state.old))) }
     ensures undamaged { (stored : List Stored) (b : Block) (height : ℕ) → B.told blocks.old ≡ Some stored → block_at (blocks_of stored) place ≡ Some b

@@ -10,7 +10,7 @@ ghost use Rattle.chain_tree.specs.Reading.{HasRead, stop_of};
 ghost use Rattle.cell_defs.specs.Fit.{BranchFits};
 ghost use Rattle.cell_state.specs.State.{rows};
 ghost use Rattle.reorg.specs.Damages.{IsAtRecord};
-ghost use Rattle.reorg.specs.Moves.{CanGoDown, AreOf, IsPathUp, IsOnTheWay, AreOnTheWay};
+ghost use Rattle.reorg.specs.Moves.{CanGoDown, AreBelow, AreOf, IsPathUp, IsOnTheWay, AreOnTheWay};
 
 use crate::applying::apply_at;
 use crate::parent::parent_in;
@@ -38,6 +38,8 @@ fn go_down<B: Blocks, L: Ledger>(
     requires counts { B.count blocks.old ≡ length tree.now.entries }
     ensures read { HasRead B.told B.count B.loans_of B.faults B.damages blocks.old blocks.new (stop_of result) }
     ensures within { IfOk result (λ it. (i place : ℕ) → slice_get it.1.items i ≡ Some place → place < length tree.now.entries) }
+    ensures up_to { IfOk result (λ it. (i place : ℕ) → slice_get it.1.items i ≡ Some place → place ≤ to) }
+    ensures below { (end : ℕ) → from < end → AreBelow end (rows state.old) → IfOk result (λ it. AreBelow end (rows state.new)) }
     ensures on_way { (kept : List Block) → IndexesBlocks kept tree.now.entries → IfOk result (λ it. AreOnTheWay kept from to it.1.items) }
     ensures path { (kept : List Block) → IndexesBlocks kept tree.now.entries → IfOk result (λ it. IsPathUp kept to it.1.items it.0) }
     ensures rows { (stored : List Stored) → B.told blocks.old ≡ Some stored → IndexesBlocks (blocks_of stored) tree.now.entries
@@ -79,7 +81,8 @@ fn go_down<B: Blocks, L: Ledger>(
 
 /// Goes from the live cells of the branch of one place to those of another's: down to their fork, a block taken back each
 /// step, and up from there, a block applied each step. Damaged, at its record, where the source finds a block on the way
-/// damaged, or its ext or its events do not fit the cells. After an error the cells are gone.
+/// damaged, or its ext or its events do not fit the cells. Rows of blocks before a place that is after both stay so, whatever
+/// the source is. After an error the cells are gone.
 pub fn go_to<B: Blocks, L: Ledger>(
     alloc: Global,
     state: State,
@@ -95,6 +98,7 @@ pub fn go_to<B: Blocks, L: Ledger>(
     ensures read { HasRead B.told B.count B.loans_of B.faults B.damages blocks.old blocks.new (stop_of result) }
     ensures rows { (stored : List Stored) → B.told blocks.old ≡ Some stored → IndexesBlocks (blocks_of stored) tree.now.entries
         → CanGoDown stored from to → AreOf (blocks_of stored) from (rows state) → IfOk result (λ there. AreOf (blocks_of stored) to (rows there)) }
+    ensures below { (end : ℕ) → from < end → to < end → AreBelow end (rows state) → IfOk result (λ there. AreBelow end (rows there)) }
     ensures undamaged { (stored : List Stored) → B.told blocks.old ≡ Some stored → IndexesBlocks (blocks_of stored) tree.now.entries
         → CanGoDown stored from to → AreOf (blocks_of stored) from (rows state) → BranchFits (blocks_of stored) to
         → (damage : Damage) → result ≡ Err (Damaged damage) → ⊥ }

@@ -1,13 +1,13 @@
 -- Kept blocks that were read, and what is told of it where a function ends.
-use Rattle.std.proofs.Common.{◌≡◌, ℕ, Option, Some, None, Result, Ok, Err, refl, ap, subst, arith}
+use Rattle.std.proofs.Common.{◌≡◌, ℕ, Option, Some, None, Result, Ok, Err, refl, ap, ◌∙◌, subst, arith}
 use Rattle.outside.specs.Causes.{CountsFault}
 use Rattle.outside.specs.declared.disk.Area.TheVariants.{Log}
 use Rattle.outside.specs.declared.disk.Damage.{Damage}
 use Rattle.outside.specs.declared.disk.ReadStop.{ReadStop}
 use Rattle.outside.specs.declared.disk.ReadStop.TheVariants.{Damaged, DiskFault, NoMemory}
-use Rattle.chain_tree.specs.Reading.{Findings, stop_of}
+use Rattle.chain_tree.specs.Reading.{Findings, AnswersFound, stop_of}
 use Rattle.program_run.specs.declared.program.Stopped.{Stopped}
-use Rattle.program_run.specs.declared.program.Stopped.TheVariants.{Running}
+use Rattle.program_run.specs.declared.program.Stopped.TheVariants.{Loading, Running}
 use Rattle.script_run.specs.declared.stop.ScriptStop.{ScriptStop}
 use Rattle.script_run.specs.declared.stop.ScriptStop.TheVariants.{Read}
 use Rattle.script_run.specs.Lookups.{found_in}
@@ -44,8 +44,19 @@ pub running-stop : {T : Type 0} (stop other : ReadStop) → ◌≡◌ {A = Resul
 running-stop stop other same = let is : stop ≡ other = cc in ap Some is
 
 -- what a source of blocks has found, by what its world says of it
-pub same-found : (one other : Findings) → found_in one ≡ found_in other → one ≡ other
+same-found : (one other : Findings) → found_in one ≡ found_in other → one ≡ other
 same-found one other same = λ i. record { count = (same i).0; last = (same i).1 }
+
+-- so it is answered as the world answers it
+pub found-through : {S : Type 0} (damages : S → Findings) (old new world : S) (stop : Option ReadStop) → damages new ≡ damages world
+    → (((damage : Damage) → stop ≡ Some (Damaged damage) → (damages world).last ≡ Some damage → ⊥) → found_in (damages world) ≡ found_in (damages old))
+    → AnswersFound (damages old) (damages new) stop
+found-through damages old new world stop same answered none =
+    same ∙ same-found (damages world) (damages old) (answered (λ damage is last. none damage is (ap (λ (found : Findings). found.last) same ∙ last)))
+
+-- where there is no memory to load, nothing ran
+pub loading-unread : {T : Type 0} (stop : ReadStop) → ◌≡◌ {A = Result T Stopped} (Err Loading) (Err (Running stop)) → ⊥
+loading-unread stop same = absurd (cc)
 
 -- want of memory, where scripts are run
 pub wanted-no-damage : (damage : Damage) → ◌≡◌ {A = Result ℕ ScriptStop} (Err (Read NoMemory)) (Err (Read (Damaged damage))) → ⊥

@@ -7,6 +7,7 @@ use Rattle.cell_laws.proofs.FitLemmas.{found-same}
 use Rattle.cell_state.specs.State.{rows}
 use Rattle.outside.proofs.Endings.{handed, no_answer, memory_undamaged, is_told}
 use Rattle.chain_tree.proofs.ReadLemmas.{read_short, read_wrong}
+use Rattle.reorg.proofs.BelowLemmas.{below-same, after-below}
 use Rattle.reorg.proofs.RowLemmas.{row_after-same}
 use Rattle.reorg.proofs.FitLemmas.{told-block, none-odd, at-record}
 use Rattle.reorg.proofs.applying.apply_at.Goals as goal
@@ -15,6 +16,7 @@ pub returns-in-Err : goal.returns-in-Err
 returns-in-Err g c = record {
   read = c.in-Err.ensures.read;
   rows = λ stored b tells there. tt;
+  below = λ end less are. tt;
   fit = λ stored b tells there. tt;
   undamaged = λ stored b height tells there above fit damage same. c.in-Err.ensures.undamaged (is_told _ stored tells) damage (handed c.in-Err.stop _ same);
   at_record = λ tells damage same. absurd (c.in-Err.ensures.undamaged tells damage (handed c.in-Err.stop _ same));
@@ -26,6 +28,7 @@ pub returns-in-Err-reserve : goal.returns-in-Err-reserve
 returns-in-Err-reserve g c = record {
   read = read_short c.in-Ok.ensures.read;
   rows = λ stored b tells there. tt;
+  below = λ end less are. tt;
   fit = λ stored b tells there. tt;
   undamaged = λ stored b height tells there above fit damage same. memory_undamaged damage same;
   at_record = λ tells damage same. absurd (memory_undamaged damage same);
@@ -37,6 +40,7 @@ pub returns-in-Err-tx_hashes : goal.returns-in-Err-tx_hashes
 returns-in-Err-tx_hashes g c = record {
   read = read_short c.in-Ok.ensures.read;
   rows = λ stored b tells there. tt;
+  below = λ end less are. tt;
   fit = λ stored b tells there. tt;
   undamaged = λ stored b height tells there above fit damage same. memory_undamaged damage same;
   at_record = λ tells damage same. absurd (memory_undamaged damage same);
@@ -53,6 +57,9 @@ returns-in-Ok-apply g c = record {
       c.in-Ok-apply.ensures.rows height o above
       ∙ row_after-same c.args.place (events_of_block height c.block-block.result) (rows c.reserve.new.self) (rows c.args.state.now) o (c.in-Ok-reserve.ensures.rows o)
       ∙ ap (λ (x : Block). row_after c.args.place (events_of_block height x) (rows c.args.state.now) o) is;
+  below = λ end less are.
+      below-same _ (row_after c.args.place (events_of_block 1 c.block-block.result) (rows c.reserve.new.self)) end (λ o. c.in-Ok-apply.ensures.rows 1 o (omega arith))
+      (after-below c.args.place (events_of_block 1 c.block-block.result) (rows c.reserve.new.self) end less (below-same _ _ end c.in-Ok-reserve.ensures.rows are));
   fit = λ stored b tells there height above.
       let is : c.block-block.result ≡ b =
       told-block stored c.block-block.result c.args.place b _ _ (c.in-Ok.ensures.read.told ∙ tells) c.in-Ok.ensures.taken c.block-block.ensures there in
@@ -69,6 +76,7 @@ pub returns : goal.returns
 returns g c = record {
   read = read_wrong c.damage_at.result refl c.damage_at.ensures.area c.in-Ok.ensures.read;
   rows = λ stored b tells there. tt;
+  below = λ end less are. tt;
   fit = λ stored b tells there. tt;
   undamaged = λ stored b height tells there above fit damage same.
       let is : c.block-block.result ≡ b =

@@ -1,10 +1,11 @@
-use Rattle.std.proofs.Common.{◌≡◌, None, sym, ap, ◌∙◌}
+use Rattle.std.proofs.Common.{◌≡◌, None, sym, ap, ◌∙◌, arith}
 use Rattle.codec_defs.specs.Schema.{Block}
 use Rattle.chain_tree.specs.Told.{blocks_of}
 use Rattle.cell_defs.specs.Events.{events_of_block}
 use Rattle.cell_defs.specs.Row.{row_after}
 use Rattle.outside.proofs.Endings.{handed, no_answer, memory_undamaged, is_told}
 use Rattle.chain_tree.proofs.ReadLemmas.{read_short}
+use Rattle.reorg.proofs.BelowLemmas.{below-same, none-below, after-below}
 use Rattle.reorg.proofs.FitLemmas.{told-block}
 use Rattle.reorg.proofs.RowLemmas.{live_row-genesis}
 use Rattle.reorg.proofs.StepLemmas.{block-there}
@@ -14,6 +15,7 @@ pub returns-in-Err : goal.returns-in-Err
 returns-in-Err g c = record {
   read = c.in-Err.ensures.read;
   rows = λ stored tells indexes. tt;
+  below = tt;
   undamaged = λ stored tells damage same. c.in-Err.ensures.undamaged (is_told _ stored tells) damage (handed c.in-Err.stop _ same);
 }
 
@@ -21,6 +23,7 @@ pub returns-in-Err-tx_hashes : goal.returns-in-Err-tx_hashes
 returns-in-Err-tx_hashes g c = record {
   read = read_short c.in-Ok.ensures.read;
   rows = λ stored tells indexes. tt;
+  below = tt;
   undamaged = λ stored tells damage same. memory_undamaged damage same;
 }
 
@@ -33,6 +36,9 @@ returns-in-Ok-genesis g c = record {
       told-block stored c.block-block.result 0 there.0 _ _ (c.in-Ok.ensures.read.told ∙ tells) c.in-Ok.ensures.taken c.block-block.ensures there.1 in
       c.in-Ok-genesis.ensures o ∙ ap (λ (x : Block). row_after 0 (events_of_block 0 x) (λ _. None) o) is
       ∙ sym (live_row-genesis (blocks_of stored) there.0 o there.1);
+  below =
+      below-same _ (row_after 0 (events_of_block 0 c.block-block.result) (λ _. None)) 1 c.in-Ok-genesis.ensures
+      (after-below 0 (events_of_block 0 c.block-block.result) (λ _. None) 1 (omega arith) none-below);
   undamaged = λ stored tells damage same. no_answer _ _ same;
 }
 
@@ -40,5 +46,6 @@ pub returns : goal.returns
 returns g c = record {
   read = read_short c.in-Ok.ensures.read;
   rows = λ stored tells indexes. tt;
+  below = tt;
   undamaged = λ stored tells damage same. memory_undamaged damage same;
 }

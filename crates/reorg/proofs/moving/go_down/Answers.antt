@@ -1,13 +1,15 @@
-use Rattle.std.proofs.Common.{◌≡◌, ◌+◌, ◌<◌, List, Option, length, sym, ap, ◌∙◌, subst, arith}
+use Rattle.std.proofs.Common.{◌≡◌, ◌+◌, ◌<◌, ◌≤◌, List, Option, length, sym, ap, ◌∙◌, subst, arith}
 use Rattle.std.proofs.lemmas.List.{length_push}
 use Rattle.std.specs.Prelude.{IsSome}
 use Rattle.chain_defs.specs.Branch.{distance}
+use Rattle.chain_defs.proofs.BranchLaws.{parent_place-below}
 use Rattle.chain_tree.specs.Told.{Stored, blocks_of}
 use Rattle.chain_tree.proofs.BlockLemmas.{len-same}
 use Rattle.chain_tree.proofs.ReadLemmas.{unread, read_on}
 use Rattle.cell_defs.specs.Row.{live_row}
 use Rattle.cell_state.specs.State.{rows}
 use Rattle.outside.proofs.Endings.{handed}
+use Rattle.reorg.proofs.BelowLemmas.{live-below}
 use Rattle.reorg.proofs.DistanceLemmas.{none-away, high-nearer, low-nearer}
 use Rattle.reorg.proofs.PathLemmas.{path-none, path-more}
 use Rattle.reorg.proofs.WayLemmas.{each-none, each-more, stored-there, taken-here, parent-there}
@@ -23,6 +25,10 @@ down-init g c =
       read = unread c.args.blocks.now;
       low = c.requires.from;
       high = c.requires.to;
+      up_to = each-none (λ place. place ≤ c.args.to) c.new-up.result.items none;
+      lower = omega arith;
+      higher = omega arith;
+      below = λ end less are. are;
       within = each-none (λ place. place < length c.args.tree.now.entries) c.new-up.result.items none;
       path = λ kept indexes. path-none kept c.args.to c.new-up.result.items none;
       way = λ kept indexes place way. way;
@@ -40,6 +46,10 @@ down-preserved-in-Some g c =
       read = c.down.invariant.read;
       low = c.down.invariant.low;
       high = c.in-Some.ensures.within;
+      up_to = each-more (λ place. place ≤ c.args.to) c.down.up.items c.push.new.self.items c.down.high grown c.down.invariant.higher c.down.invariant.up_to;
+      lower = c.down.invariant.lower;
+      higher = let earlier = c.in-Some.ensures.earlier in let most = c.down.invariant.higher in omega (arith, earlier, most);
+      below = c.down.invariant.below;
       within = each-more (λ place. place < length c.args.tree.now.entries) c.down.up.items c.push.new.self.items c.down.high grown c.down.invariant.high c.down.invariant.within;
       path = λ kept indexes.
           let same = len-same kept c.args.tree.now.entries indexes in
@@ -68,6 +78,7 @@ returns-in-Err-undo_at-clause-undamaged g c stored tells indexes can are damage 
     (taken-here stored c.args.from c.args.to c.down.low parent.0 it.0 (rows c.down.state) can
     (c.down.invariant.down (blocks_of stored) indexes c.down.low (own (blocks_of stored) c.down.low))
     (c.down.invariant.way (blocks_of stored) indexes c.down.low (low-on-way (blocks_of stored) c.down.low c.down.high (omega arith))) it.1 parent.1 (c.down.invariant.rows stored tells indexes can are))
+    (live-below (blocks_of stored) parent.0 c.down.low (parent_place-below (blocks_of stored) c.down.low parent.0 parent.1))
     damage (handed c.in-Err-undo_at.stop _ same)
 
 pub returns-in-Err-undo_at-clause-most : goal.returns-in-Err-undo_at-clause-most
@@ -83,6 +94,10 @@ down-preserved g c = record {
   read = read_on c.down.invariant.read c.in-Ok-undo_at.ensures.read;
   low = c.in-Some-parent_in.ensures.within;
   high = c.down.invariant.high;
+  up_to = c.down.invariant.up_to;
+  lower = let earlier = c.in-Some-parent_in.ensures.earlier in let most = c.down.invariant.lower in omega (arith, earlier, most);
+  higher = c.down.invariant.higher;
+  below = λ end less are. let most = c.down.invariant.lower in c.in-Ok-undo_at.ensures.below end (omega (arith, less, most)) (c.down.invariant.below end less are);
   within = c.down.invariant.within;
   path = c.down.invariant.path;
   way = λ kept indexes place way. c.down.invariant.way kept indexes place
@@ -119,3 +134,9 @@ returns-in-Err-undo_at-clause-at_record g c kept indexes tells damage same = (
     c.in-Err-undo_at.ensures.at_record (subst (λ (told : Option (List Stored)). IsSome told) (sym c.down.invariant.read.told) tells) damage (handed c.in-Err-undo_at.stop _ same),
   ),
 )
+
+pub returns-clause-below : goal.returns-clause-below
+returns-clause-below g c end less are = c.down.invariant.below end less are
+
+pub returns-clause-up_to : goal.returns-clause-up_to
+returns-clause-up_to g c = c.down.invariant.up_to

@@ -3,11 +3,32 @@ use Rattle.std.specs.Prelude.{slice_get, IsSome}
 use Rattle.chain_defs.specs.Branch.{branch_places}
 use Rattle.chain_tree.specs.Told.{Stored, blocks_of}
 use Rattle.chain_tree.proofs.ReadLemmas.{read_on}
+use Rattle.cell_defs.specs.Row.{live_row}
 use Rattle.cell_state.specs.State.{rows}
 use Rattle.outside.proofs.Endings.{handed}
 use Rattle.reorg.proofs.StepLemmas.{AreRowsAt, block-there, rows-next, fits-here}
-use Rattle.reorg.proofs.PathLemmas.{height_after, read-at, on-path, path-top}
+use Rattle.reorg.proofs.PathLemmas.{height_after, read-at, on-path, path-start, path-top}
 use Rattle.reorg.proofs.moving.go_to.Goals as goal
+
+pub up-init : goal.up-init
+up-init g c = record {
+  read = c.in-Ok.ensures.read;
+  most = omega arith;
+  below = λ end from to are. c.in-Ok.ensures.below end from are;
+  rows = λ stored tells indexes can are place there o.
+      let start = path-start (blocks_of stored) c.args.to c.in-Ok.down.1.items c.in-Ok.down.0 place (c.in-Ok.ensures.path (blocks_of stored) indexes) there in
+      c.in-Ok.ensures.rows stored tells indexes can are o ∙ ap (λ (n : ℕ). live_row (blocks_of stored) n o) start;
+  steps = λ kept indexes. let all = c.in-Ok.ensures.steps kept indexes in omega (arith, all);
+}
+
+pub apply_at-requires-clause-within : goal.apply_at-requires-clause-within
+apply_at-requires-clause-within g c =
+    let long : c.len-count.result ≡ length c.in-Ok.down.1.items = search rules in
+    let more = c.up-test.true in
+    let below : c.up.i < length c.in-Ok.down.1.items = omega (arith, more, long) in
+    c.in-Ok.ensures.within _ _
+    (read-at c.in-Ok.down.1.items c.up.i c.index-place.result.now below
+    (c.index-place.ensures ∙ ap (λ (n : ℕ). get_or c.in-Ok.down.1.items (n - c.up.i - 1) c.index-place.result.now) long))
 
 pub returns-in-Err-apply_at-clause-undamaged : goal.returns-in-Err-apply_at-clause-undamaged
 returns-in-Err-apply_at-clause-undamaged g c stored tells indexes can are fits damage same =
@@ -42,6 +63,9 @@ up-preserved g c =
           (rows-next (blocks_of stored) c.args.to height c.index-place.result.now here.0 (rows c.up.state) (rows c.apply_at.new.state) on here.1
           (c.up.invariant.rows stored tells indexes can are)
           (c.in-Ok-apply_at.ensures.rows stored here.0 (c.up.invariant.read.told ∙ tells) here.1));
+      below = λ end from to are.
+          let most = c.in-Ok.ensures.up_to _ _ there in
+          c.in-Ok-apply_at.ensures.below end (omega (arith, most, to)) (c.up.invariant.below end from to are);
       steps = λ kept indexes.
           let before = c.up.invariant.steps kept indexes in
           let one = c.in-Ok-apply_at.ensures.steps in
@@ -70,3 +94,6 @@ returns-in-Err-apply_at-clause-at_record g c kept indexes tells damage same =
         c.in-Err-apply_at.ensures.at_record (subst (λ (told : Option (List Stored)). IsSome told) (sym c.up.invariant.read.told) tells) damage (handed c.in-Err-apply_at.stop _ same),
       ),
     )
+
+pub returns-clause-below : goal.returns-clause-below
+returns-clause-below g c end from to are = c.up.invariant.below end from to are

@@ -1,11 +1,13 @@
 use Rattle.std.proofs.Common.{◌≡◌, sym, ap, ◌∙◌, rules}
-use Rattle.std.specs.Prelude.{Err}
+use Rattle.std.specs.Prelude.{Some, None, Err}
 use Rattle.outside.specs.declared.disk.ReadStop.{ReadStop}
-use Rattle.program_run.specs.declared.program.Stopped.TheVariants.{Running}
+use Rattle.outside.specs.declared.disk.ReadStop.TheVariants.{Damaged, NoMemory}
+use Rattle.chain_tree.proofs.ReadLemmas.{no_stop, no_memory_damage}
+use Rattle.program_run.specs.declared.program.Stopped.TheVariants.{Loading, Running}
 use Rattle.vm_defs.specs.Program.{execution}
 use Rattle.sys_defs.specs.Answer.{syscall}
 use Rattle.sys_defs.specs.World.{Items}
-use Rattle.script_run.proofs.ReadLemmas.{running-stop, some-stop}
+use Rattle.script_run.proofs.ReadLemmas.{found-through, loading-unread, no-error, running-stop, some-stop}
 use Rattle.script_run.proofs.ShowingLemmas.{told-is}
 use Rattle.script_run.proofs.SyscallLemmas.{same-items}
 use Rattle.script_run.proofs.world.run_code.Goals as goal
@@ -25,7 +27,30 @@ returns-in-Err-Running-clause-read g c =
       loans = search rules;
       damage = λ damage same. c.execute_in-came.ensures.damage damage (is ∙ ap (λ (it : ReadStop). Err (Running it)) (some-stop _ _ same));
       cause = search rules;
-      found = λ none.
-          let answered = c.execute_in-came.ensures.answered (λ damage same last. none damage (running-stop stop _ (sym is ∙ same)) last) in
-          search (rules, answered);
+      found = found-through g.B.Blocks.damages c.args.blocks.now _ c.execute_in-came.new.world.blocks.now (Some stop) (search rules)
+          (λ none. c.execute_in-came.ensures.answered (λ damage same last. none damage (running-stop stop _ (sym is ∙ same)) last));
+    }
+
+pub returns-in-Ok-clause-read : goal.returns-in-Ok-clause-read
+returns-in-Ok-clause-read g c = record {
+  told = search rules;
+  count = search rules;
+  loans = search rules;
+  damage = λ damage same. absurd (no_stop (Damaged damage) same);
+  cause = search rules;
+  found = found-through g.B.Blocks.damages c.args.blocks.now _ c.execute_in-came.new.world.blocks.now None (search rules)
+      (λ none. c.in-Ok.ensures.answered (λ damage same last. no-error _ _ same));
+}
+
+pub returns-in-Err-Loading-clause-read : goal.returns-in-Err-Loading-clause-read
+returns-in-Err-Loading-clause-read g c =
+    let is : c.execute_in-came.result ≡ Err Loading = search rules in
+    record {
+      told = search rules;
+      count = search rules;
+      loans = search rules;
+      damage = λ damage same. absurd (no_memory_damage damage same);
+      cause = search rules;
+      found = found-through g.B.Blocks.damages c.args.blocks.now _ c.execute_in-came.new.world.blocks.now (Some NoMemory) (search rules)
+          (λ none. c.execute_in-came.ensures.answered (λ damage same last. loading-unread (Damaged damage) (sym is ∙ same)));
     }

@@ -14,6 +14,9 @@ use Rattle.tx_pool.proofs.assembling.make_block.Goals as goal
 pub cellbase_after-requires-clause-witness : goal.cellbase_after-requires-clause-witness
 cellbase_after-requires-clause-witness g c = small-witness (length (encoded schema.cellbase_witness c.args.witness.now)) c.requires.witness
 
+pub returns-in-Err-filled-clause-read : goal.returns-in-Err-filled-clause-read
+returns-in-Err-filled-clause-read g c = read_on c.in-Ok.ensures.read c.in-Err-filled.ensures.read
+
 pub returns-in-Err-filled-clause-undamaged : goal.returns-in-Err-filled-clause-undamaged
 returns-in-Err-filled-clause-undamaged g c stored tells stands damage same =
     c.in-Err-filled.ensures.undamaged stored c.args.witness.now (c.in-Ok.ensures.read.told ∙ tells) stands

@@ -33,7 +33,7 @@ pub invariant_of-kept : goal.invariant_of-kept
 invariant_of-kept c =
     let are = blocks-seen c.self.inside.blocks.stored c.args.self.stored c.args.tree.entries (ap (λ (v : RecordedValue). v.stored) c.self.view_is) c.requires in
     are-kept-gathered c.self.inside.blocks.stored c.args.tree.entries c.self.inside.count c.self.inside.uncles c.self.inside.genesis c.self.inside.unfit c.self.invariant are
-    (subst (λ (o : Option ℕ). IsUnfit o c.self.inside.blocks.stored) c.if-unfit.none c.self.invariant.fit)
+    (subst (λ (o : Option ℕ). IsUnfit o c.self.inside.blocks.stored) c.in-None.is c.self.invariant.fit)
 
 pub returns-clause-cells : goal.returns-clause-cells
 returns-clause-cells c =
@@ -45,7 +45,7 @@ pub returns-clause-wrong : goal.returns-clause-wrong
 returns-clause-wrong c =
     let same = ap (λ (v : RecordedValue). v.stored) c.self.view_is in
     let are = blocks-seen c.self.inside.blocks.stored c.args.self.stored c.args.tree.entries same c.requires in
-    let each = subst (λ (o : Option ℕ). IsUnfit o c.self.inside.blocks.stored) c.if-unfit.none c.self.invariant.fit in (
+    let each = subst (λ (o : Option ℕ). IsUnfit o c.self.inside.blocks.stored) c.in-None.is c.self.invariant.fit in (
       rated-fit c.self.inside.blocks.stored c.args.tree.entries are.indexed each,
       counted-seen c.self.inside.blocks.stored c.args.self.stored same (counted-fit c.self.inside.blocks.stored each),
     )
