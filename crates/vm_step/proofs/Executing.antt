@@ -1,13 +1,14 @@
 -- What an instruction does, from what the code did to the machine. The code sees the machine by its fields, as `seen`.
-use Rattle.std.proofs.Common.{◌≡◌, ℕ, ◌==◌, Bool, true, false, if◌then◌else◌, slice_set, refl, Option, None, Result, Ok, Err, ◌⊎◌, inl, ap, ◌∙◌}
+use Rattle.std.proofs.Common.{◌≡◌, ◌≢◌, ℕ, ◌%◌, ◌==◌, Bool, true, false, if◌then◌else◌, slice_set, refl, Option, None, Result, Ok, Err, ◌⊎◌, inl, ap, sym, subst, ◌∙◌}
 use Rattle.vm_defs.specs.declared.memory.MemFault.{MemFault}
-use Rattle.vm_defs.specs.declared.step.Step.TheVariants.{Went, Ecall}
+use Rattle.vm_defs.specs.declared.step.Step.{Step}
+use Rattle.vm_defs.specs.declared.step.Step.TheVariants.{Went, Ecall, Fault, Spent, NoMemory}
 use Rattle.vm_defs.specs.Memory.{Memory}
 use Rattle.vm_defs.specs.Step.{Machine, after, past_instruction, stored, with_register}
 use Rattle.vm_mem.specs.Pages.{IsAllocated}
 use Rattle.vm_mem.specs.Paged.{PagedMemory, Stores}
 use Rattle.vm_step.specs.declared.place.Place.{Place}
-use Rattle.vm_step.specs.Running.{RunningMachine, ByteRange, Executes, HasRoom, Touches, machine_at, with_place}
+use Rattle.vm_step.specs.Running.{RunningMachine, ByteRange, Executes, HasRoom, Touches, machine_at, stands_after, with_place}
 
 abbrev pub machine_of : RunningMachine → Machine
 machine_of running = running.machine
@@ -39,9 +40,37 @@ pub written-past : (old new : RunningMachine) (place : Place) (length rd value :
 written-past old new place length rd value changed =
     rw (register-apart old.machine place rd value) (ap (λ (running : RunningMachine). with_place running (record place { pc = after place.pc length })) changed)
 
+-- It went, so that the place is apart from the machine.
+pub went-on : (P : RunningMachine → Step → Type 0) (new : RunningMachine) (place : Place) (answer : Step) → answer ≡ Went
+    → P (with_place new place) Went → P (stands_after answer new place) answer
+went-on P new place Went went p = p
+went-on P new place Ecall went p = cc
+went-on P new place (Fault number) went p = cc
+went-on P new place Spent went p = cc
+went-on P new place NoMemory went p = cc
+
+pub went-stands : (expected : Step × Machine) (range : Option ByteRange) (old new : RunningMachine) (place : Place) (answer : Step) → answer ≡ Went
+    → Executes expected range old (with_place new place) Went place.pc → Executes expected range old (stands_after answer new place) answer place.pc
+went-stands expected range old new place answer went executes =
+    went-on (λ (it : RunningMachine) (said : Step). Executes expected range old it said place.pc) new place answer went executes
+
+-- It ended, so that the machine has its place.
+pub ended : (P : RunningMachine → Step → Type 0) (new : RunningMachine) (place : Place) (answer last : Step) → last ≡ answer → answer ≢ Went
+    → P new answer → P (stands_after last new place) last
+ended P new place answer Went is other p = absurd (other (sym is))
+ended P new place answer Ecall is other p = subst (λ (it : Step). P new it) (sym is) p
+ended P new place answer (Fault number) is other p = subst (λ (it : Step). P new it) (sym is) p
+ended P new place answer Spent is other p = subst (λ (it : Step). P new it) (sym is) p
+ended P new place answer NoMemory is other p = subst (λ (it : Step). P new it) (sym is) p
+
+pub ended-stands : (expected : Step × Machine) (range : Option ByteRange) (old new : RunningMachine) (place : Place) (answer last : Step) → last ≡ answer → answer ≢ Went
+    → Executes expected range old new answer place.pc → Executes expected range old (stands_after last new place) last place.pc
+ended-stands expected range old new place answer last is other executes =
+    ended (λ (it : RunningMachine) (said : Step). Executes expected range old it said place.pc) new place answer last is other executes
+
 -- The machine changed, and it goes on.
 pub executes-went : (old new : RunningMachine) (machine : Machine) → old.goes_on ≡ true
-    → new ≡ record old { machine = machine } → Executes (Went, machine) None old new Went
+    → new ≡ record old { machine = machine } → Executes (Went, machine) None old new Went new.machine.pc
 executes-went old new machine on changed = record {
   machine = ap (λ (running : RunningMachine). (Went, running.machine)) changed;
   room = λ has-room none. cc;
@@ -49,18 +78,33 @@ executes-went old new machine on changed = record {
   pages_kept = λ page allocated. rw changed allocated;
   pages_added = λ page allocated. inl (rw changed at allocated);
   goes_on = ap (λ (running : RunningMachine). running.goes_on) changed ∙ on;
+  follows = refl;
 }
 
 -- The machine changed, and ECALL is left to the caller.
-pub executes-ecall : (old new : RunningMachine) (machine : Machine) → old.goes_on ≡ true
-    → new ≡ record old { machine = machine } → Executes (Ecall, machine) None old new Ecall
-executes-ecall old new machine on changed = record {
+pub executes-ecall : (old new : RunningMachine) (machine : Machine) (next : ℕ) → old.goes_on ≡ true
+    → new ≡ record old { machine = machine; last = Ecall } → next % 2 ≡ 1 → Executes (Ecall, machine) None old new Ecall next
+executes-ecall old new machine next on changed nowhere = record {
   machine = ap (λ (running : RunningMachine). (Ecall, running.machine)) changed;
   room = λ has-room none. cc;
-  allocated = λ went. tt;
+  allocated = λ went. cc;
   pages_kept = λ page allocated. rw changed allocated;
   pages_added = λ page allocated. inl (rw changed at allocated);
   goes_on = ap (λ (running : RunningMachine). running.goes_on) changed ∙ on;
+  follows = nowhere;
+}
+
+-- A fault leaves the machine as it was.
+pub executes-fault : (expected : Step × Machine) (range : Option ByteRange) (old new : RunningMachine) (number next : ℕ) → expected ≡ (Fault number, old.machine)
+    → new ≡ record old { goes_on = false; last = Fault number } → next % 2 ≡ 1 → Executes expected range old new (Fault number) next
+executes-fault expected range old new number next is changed nowhere = record {
+  machine = ap (λ (running : RunningMachine). (Fault number, running.machine)) changed ∙ sym is;
+  room = λ has-room none. cc;
+  allocated = λ went. cc;
+  pages_kept = λ page allocated. rw changed allocated;
+  pages_added = λ page allocated. inl (rw changed at allocated);
+  goes_on = ap (λ (running : RunningMachine). running.goes_on) changed;
+  follows = nowhere;
 }
 
 -- The bytes were stored, and the next instruction follows.
@@ -69,7 +113,7 @@ pub executes-stored : (expected : Result Memory MemFault) (range : Option ByteRa
     → HasRoom memory.allocated range → ((page : ℕ) → IsAllocated seen.allocated page → IsAllocated memory.allocated page)
     → ((page : ℕ) → IsAllocated memory.allocated page → IsAllocated seen.allocated page ⊎ Touches range page)
     → Executes (stored old.machine length expected) range old
-    (record seen { machine = past_instruction (record seen.machine { memory = memory.memory }) length; allocated = memory.allocated }) Went
+    (record seen { machine = past_instruction (record seen.machine { memory = memory.memory }) length; allocated = memory.allocated }) Went (after seen.machine.pc length)
 executes-stored (Ok changed) range old seen memory length same on is-stored allocated pages_kept pages_added = record {
   machine =
       ap (λ (memory : Memory). (Went, past_instruction (record seen.machine { memory = memory }) length)) is-stored
@@ -79,5 +123,6 @@ executes-stored (Ok changed) range old seen memory length same on is-stored allo
   pages_kept = λ page allocated. pages_kept page (rw same allocated);
   pages_added = λ page allocated. rw same at pages_added page allocated;
   goes_on = ap (λ (running : RunningMachine). running.goes_on) same ∙ on;
+  follows = refl;
 }
 executes-stored (Err fault) range old seen memory length same on never allocated pages_kept pages_added = absurd never

@@ -1,5 +1,5 @@
 -- Steps up to one that does not go.
-use Rattle.std.proofs.Common.{◌≡◌, ◌≢◌, ℕ, zero, suc, ◌+◌, ◌-◌, ◌/◌, ◌<◌, Bool, true, List, ◌⊎◌, inl, inr, Option, Some, None, refl, sym, ap, subst, ◌∙◌, arith}
+use Rattle.std.proofs.Common.{◌≡◌, ◌≢◌, ℕ, zero, suc, ◌+◌, ◌-◌, ◌/◌, ◌%◌, ◌<◌, ◌≤◌, Bool, true, List, ◌⊎◌, inl, inr, Option, Some, None, refl, sym, ap, subst, ◌∙◌, arith}
 use Rattle.std.proofs.lemmas.Bool.{cases_lt}
 use Rattle.vm_defs.specs.declared.step.Step.{Step}
 use Rattle.vm_defs.specs.declared.step.Step.TheVariants.{Went, Ecall, Fault, Spent, NoMemory}
@@ -8,8 +8,11 @@ use Rattle.vm_defs.specs.Program.{Leads, followed, stop_of}
 use Rattle.vm_defs.specs.Step.{Machine, step_of}
 use Rattle.vm_defs.proofs.ProgramLaws.{Pays, step-pays, stops-step-by-step}
 use Rattle.vm_defs.proofs.ReachLaws.{leads-prefix, leads-same}
+use Rattle.vm_mem.specs.declared.slot.Slot.{Slot}
 use Rattle.vm_mem.specs.Pages.{IsAllocated}
-use Rattle.vm_step.specs.Running.{RunningMachine, ByteRange, HasRoom, IsStep, IsStoredBefore, IsStoredTo, LeavesRoom, Stops, Touches, next_range}
+use Rattle.vm_mem.specs.Slots.{IsKept}
+use Rattle.vm_step.specs.declared.place.Place.{Place}
+use Rattle.vm_step.specs.Running.{RunningMachine, ByteRange, HasRoom, IsOneStep, IsStep, IsStoredBefore, IsStoredTo, LeavesRoom, Stops, Touches, goes_on_after, next_range, stands_after, with_place}
 
 -- the machine at the start, and after some steps that went
 pub record Going (start now : RunningMachine) : Type 0 where
@@ -21,16 +24,18 @@ pub record Going (start now : RunningMachine) : Type 0 where
   pub room : (before : ℕ) (reached : Machine) → before < steps → Leads before start.machine reached → HasRoom now.allocated (next_range reached)
   pub goes_on : now.goes_on ≡ true
 
-pub going-none : (start : RunningMachine) → start.goes_on ≡ true → Going start start
-going-none start on = record {
-  steps = zero;
-  leads = refl;
-  stop = refl;
-  pages_kept = λ page allocated. allocated;
-  pages_added = λ page allocated. inl allocated;
-  room = λ before reached below. absurd (omega (arith, below));
-  goes_on = on;
-}
+-- a run begins
+pub going-starts : (start seen : RunningMachine) → seen ≡ start → start.goes_on ≡ true → Going start (record seen { last = Went })
+going-starts start seen same on =
+    subst (λ (running : RunningMachine). Going running (record seen { last = Went })) same (record {
+      steps = zero;
+      leads = refl;
+      stop = refl;
+      pages_kept = λ page allocated. allocated;
+      pages_added = λ page allocated. inl allocated;
+      room = λ before reached below. absurd (omega (arith, below));
+      goes_on = ap (λ (running : RunningMachine). running.goes_on) same ∙ on;
+    })
 
 -- ---- the pages that were stored to
 
@@ -157,3 +162,80 @@ stops start now new NoMemory going other steps room = record {
   stores = steps;
   new_page = λ has. room (room-now start now (next_range now.machine) going has) refl;
 }
+
+-- ---- what a run has come to
+
+-- a run that ended
+pub record Ended (start now : RunningMachine) (answer : Step) : Type 0 where
+  pub stops : Stops start now.machine answer
+  pub goes_on : now.goes_on ≡ goes_on_after answer
+  pub room : answer ≢ NoMemory → LeavesRoom start.machine now.allocated
+  pub pages_kept : (page : ℕ) → IsAllocated start.allocated page → IsAllocated now.allocated page
+  pub pages_added : (page : ℕ) → IsAllocated now.allocated page → IsAllocated start.allocated page ⊎ IsStoredTo start.machine page
+
+-- As long as its steps went, its place is apart from the machine.
+abbrev pub HasCome : Step → RunningMachine → RunningMachine → Place → Type 0
+HasCome Went start now place = Going start (with_place now place) × (place.cycles ≤ now.machine.budget)
+HasCome Ecall start now place = Ended start now Ecall × (place.pc % 2 ≡ 1)
+HasCome (Fault number) start now place = Ended start now (Fault number) × (place.pc % 2 ≡ 1)
+HasCome Spent start now place = Ended start now Spent × (place.pc % 2 ≡ 1)
+HasCome NoMemory start now place = Ended start now NoMemory × (place.pc % 2 ≡ 1)
+
+-- what is left of it
+abbrev pub left_after : Step → RunningMachine → Place → ℕ
+left_after Went now place = suc (now.machine.budget - place.cycles)
+left_after Ecall now place = 0
+left_after (Fault number) now place = 0
+left_after Spent now place = 0
+left_after NoMemory now place = 0
+
+has-ended : (start now new : RunningMachine) (answer : Step) (next : ℕ) → Going start now → answer ≢ Went → IsOneStep now new answer next → Ended start new answer
+has-ended start now new answer next going other one = record {
+  stops = stops start now new answer going other one.steps one.room;
+  goes_on = one.goes_on;
+  room = λ some. leaves-room start now new answer going other some one.steps one.pages_kept;
+  pages_kept = λ page allocated. one.pages_kept page (going.pages_kept page allocated);
+  pages_added = added-more start now new going one.pages_added;
+}
+
+-- one more step
+pub comes-on : (start now new : RunningMachine) (place : Place) (answer : Step) → Going start now → IsOneStep now (stands_after answer new place) answer place.pc
+    → HasCome answer start new place
+comes-on start now new place Went going one =
+    (going-more start now (with_place new place) Went going refl one.steps one.pages_kept one.pages_added one.allocated one.goes_on, one.within one.goes_on)
+comes-on start now new place Ecall going one = (has-ended start now new Ecall place.pc going (λ went. cc) one, one.follows)
+comes-on start now new place (Fault number) going one = (has-ended start now new (Fault number) place.pc going (λ went. cc) one, one.follows)
+comes-on start now new place Spent going one = (has-ended start now new Spent place.pc going (λ went. cc) one, one.follows)
+comes-on start now new place NoMemory going one = (has-ended start now new NoMemory place.pc going (λ went. cc) one, one.follows)
+
+pub less-left : (now new : RunningMachine) (old place : Place) (last answer : Step) → last ≡ Went
+    → IsOneStep (with_place now old) (stands_after answer new place) answer place.pc → left_after answer new place < left_after last now old
+less-left now new old place Went Went went one =
+    let fewer = fewer-left (with_place now old).machine (with_place new place).machine Went refl one.steps in omega (arith, fewer)
+less-left now new old place Went Ecall went one = omega arith
+less-left now new old place Went (Fault number) went one = omega arith
+less-left now new old place Went Spent went one = omega arith
+less-left now new old place Went NoMemory went one = omega arith
+less-left now new old place Ecall answer went one = cc
+less-left now new old place (Fault number) answer went one = cc
+less-left now new old place Spent answer went one = cc
+less-left now new old place NoMemory answer went one = cc
+
+-- A run that has come to a slot's address goes on.
+pub finds-slot : (start now : RunningMachine) (place : Place) (slot : Slot) (answer : Step) → slot.at ≡ place.pc → IsKept now.machine.memory slot
+    → HasCome answer start now place → answer ≡ Went
+finds-slot start now place slot Went at-is kept come = refl
+finds-slot start now place slot Ecall at-is kept come = let odd = come.1 in let even = kept.even in absurd (omega (arith, odd, even, at-is))
+finds-slot start now place slot (Fault number) at-is kept come = let odd = come.1 in let even = kept.even in absurd (omega (arith, odd, even, at-is))
+finds-slot start now place slot Spent at-is kept come = let odd = come.1 in let even = kept.even in absurd (omega (arith, odd, even, at-is))
+finds-slot start now place slot NoMemory at-is kept come = let odd = come.1 in let even = kept.even in absurd (omega (arith, odd, even, at-is))
+
+pub still-goes : (start now : RunningMachine) (place : Place) (answer : Step) → answer ≡ Went → HasCome answer start now place → HasCome Went start now place
+still-goes start now place answer went come = subst (λ (it : Step). HasCome it start now place) went come
+
+pub is-ended : (start now : RunningMachine) (place : Place) (answer : Step) → answer ≢ Went → HasCome answer start now place → Ended start now answer
+is-ended start now place Went other come = absurd (other refl)
+is-ended start now place Ecall other come = come.0
+is-ended start now place (Fault number) other come = come.0
+is-ended start now place Spent other come = come.0
+is-ended start now place NoMemory other come = come.0

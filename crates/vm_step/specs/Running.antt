@@ -1,5 +1,5 @@
 -- A machine that runs: what contracts see of it, and what a step of it does.
-use Rattle.std.specs.Prelude.{◌≡◌, ◌≢◌, ◌⊎◌, ℕ, ◌<◌, ℤ, Bool, true, false, List, Option, Some, None, IfSome, Result, Ok, Err, if◌then◌else◌}
+use Rattle.std.specs.Prelude.{◌≡◌, ◌≢◌, ◌⊎◌, ℕ, ◌%◌, ◌<◌, ◌≤◌, ℤ, Bool, true, false, List, Option, Some, None, IfSome, Result, Ok, Err, if◌then◌else◌}
 use Rattle.isa_defs.specs.declared.ins.Ins.{Ins}
 use Rattle.isa_defs.specs.declared.ins.Ins.TheVariants.{Sb, Sh, Sw, Sd}
 use Rattle.vm_defs.specs.declared.memory.MemFault.{MemFault}
@@ -11,11 +11,12 @@ use Rattle.vm_defs.specs.Step.{Machine, charged, is_spent, moved, register, step
 use Rattle.vm_step.specs.declared.place.Place.{Place}
 use Rattle.vm_mem.specs.Pages.{IsAllocated, AreAllocated, IsUnder}
 
--- the machine, which of its pages are allocated, and whether it may make another step
+-- the machine, which of its pages are allocated, whether it may make another step, and what the last one answered
 pub record RunningMachine : Type 0 where
   pub machine : Machine
   pub allocated : List Bool
   pub goes_on : Bool
+  pub last : Step
 
 -- a machine whose program counter and cycles are kept apart from it
 abbrev pub with_place : RunningMachine → Place → RunningMachine
@@ -23,6 +24,17 @@ with_place running place = record running { machine = record running.machine { p
 
 abbrev pub machine_at : RunningMachine → Place → Machine
 machine_at running place = record running.machine { pc = place.pc; cycles = place.cycles }
+
+-- A machine that ran: as long as its steps went its place is kept apart from it, and after any other answer it has it again.
+abbrev pub stands_after : Step → RunningMachine → Place → RunningMachine
+stands_after Went running place = with_place running place
+stands_after Ecall running place = running
+stands_after (Fault number) running place = running
+stands_after Spent running place = running
+stands_after NoMemory running place = running
+
+abbrev pub stands : RunningMachine → Place → RunningMachine
+stands running place = stands_after running.last running place
 
 -- the answers of a step after which the machine goes on
 abbrev pub goes_on_after : Step → Bool
@@ -122,12 +134,33 @@ Stops old new NoMemory = WantsPage old new
 
 -- ---- one instruction
 
--- An instruction: what it is to do, the bytes that it stores to, the machine before and after, and
--- the answer.
-pub record Executes (expected : Step × Machine) (range : Option ByteRange) (old new : RunningMachine) (result : Step) : Type 0 where
-  pub machine : IsStep expected old.machine new.machine result
-  pub room : HasRoom old.allocated range → result ≢ NoMemory
-  pub allocated : result ≡ Went → HasRoom new.allocated range
+-- Where the next instruction is looked up: after a step that went at the program counter, and after any other nowhere, which
+-- is an odd address. So a run ends only where no slot is found.
+abbrev pub IsNext : Step → RunningMachine → ℕ → Type 0
+IsNext Went new next = next ≡ new.machine.pc
+IsNext Ecall new next = next % 2 ≡ 1
+IsNext (Fault number) new next = next % 2 ≡ 1
+IsNext Spent new next = next % 2 ≡ 1
+IsNext NoMemory new next = next % 2 ≡ 1
+
+-- An instruction: what it is to do, the bytes that it stores to, the machine before and after, the answer, and where the
+-- next one is looked up.
+pub record Executes (expected : Step × Machine) (range : Option ByteRange) (old new : RunningMachine) (answer : Step) (next : ℕ) : Type 0 where
+  pub machine : IsStep expected old.machine new.machine answer
+  pub room : HasRoom old.allocated range → answer ≢ NoMemory
+  pub allocated : answer ≡ Went → HasRoom new.allocated range
   pub pages_kept : (page : ℕ) → IsAllocated old.allocated page → IsAllocated new.allocated page
   pub pages_added : (page : ℕ) → IsAllocated new.allocated page → IsAllocated old.allocated page ⊎ Touches range page
-  pub goes_on : new.goes_on ≡ goes_on_after result
+  pub goes_on : new.goes_on ≡ goes_on_after answer
+  pub follows : IsNext answer new next
+
+-- A step of a run: the machine before and after, the answer, and where the next instruction is looked up.
+pub record IsOneStep (old new : RunningMachine) (answer : Step) (next : ℕ) : Type 0 where
+  pub steps : IsStep (step_of old.machine) old.machine new.machine answer
+  pub goes_on : new.goes_on ≡ goes_on_after answer
+  pub within : new.goes_on ≡ true → new.machine.cycles ≤ new.machine.budget
+  pub room : HasRoom old.allocated (next_range old.machine) → answer ≢ NoMemory
+  pub allocated : answer ≡ Went → HasRoom new.allocated (next_range old.machine)
+  pub pages_kept : (page : ℕ) → IsAllocated old.allocated page → IsAllocated new.allocated page
+  pub pages_added : (page : ℕ) → IsAllocated new.allocated page → IsAllocated old.allocated page ⊎ Touches (next_range old.machine) page
+  pub follows : IsNext answer new next

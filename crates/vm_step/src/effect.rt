@@ -1,12 +1,12 @@
 // What the kinds of instructions do, once they are paid for. The bounds on registers are those that `decode` ensures.
-ghost use Rattle.std.specs.Prelude.{◌≡◌, ◌<◌, true, None};
+ghost use Rattle.std.specs.Prelude.{◌≡◌, ◌<◌, ◌≤◌, true, None};
 ghost use Rattle.std.specs.Int.{w64};
 ghost use Rattle.std.specs.Int.RustNames.{int_lt};
 ghost use Rattle.isa_defs.specs.Alu.{bits_of, signed};
 ghost use Rattle.vm_defs.specs.Memory.{byte_count};
 ghost use Rattle.vm_defs.specs.Step.{branch, jump, load, moved, past_instruction, store, write};
 ghost use Rattle.vm_step.specs.Extension.{extended};
-ghost use Rattle.vm_step.specs.Running.{Executes, machine_at, range_at, with_place};
+ghost use Rattle.vm_step.specs.Running.{Executes, machine_at, range_at, stands, with_place};
 
 use super::extension::{Extension, extended};
 use super::fault::fault_number;
@@ -43,61 +43,62 @@ pub(crate) fn is_below(a: u64, b: u64) -> bool
 impl Machine {
     /// The next instruction follows.
     #[inline(always)]
-    pub(crate) fn advance(&mut self, place: &mut Place, length: u64) -> Step
-        requires { self.old.goes_on ≡ true }
-        ensures { Executes (Step.Went, past_instruction (machine_at self.old place.old) length) None (with_place self.old place.old) (with_place self.new place.new) result }
+    pub(crate) fn advance(&mut self, place: &mut Place, length: u64)
+        requires goes_on { self.old.goes_on ≡ true }
+        requires went { self.old.last ≡ Step.Went }
+        ensures { Executes (Step.Went, past_instruction (machine_at self.old place.old) length) None (with_place self.old place.old) (stands self.new place.new) self.new.last place.new.pc }
     {
         place.pc = place.pc.wrapping_add(length);
-        Step::Went
     }
 
     /// The next instruction follows, once the caller has answered.
     #[inline(always)]
-    pub(crate) fn ecall(&mut self, place: &mut Place, length: u64) -> Step
-        requires { self.old.goes_on ≡ true }
-        ensures { Executes (Step.Ecall, past_instruction (machine_at self.old place.old) length) None (with_place self.old place.old) (with_place self.new place.new) result }
+    pub(crate) fn ecall(&mut self, place: &mut Place, length: u64)
+        requires goes_on { self.old.goes_on ≡ true }
+        requires within { place.old.cycles ≤ self.old.machine.budget }
+        ensures { Executes (Step.Ecall, past_instruction (machine_at self.old place.old) length) None (with_place self.old place.old) (stands self.new place.new) self.new.last place.new.pc }
     {
         place.pc = place.pc.wrapping_add(length);
-        Step::Ecall
+        self.end(place, Step::Ecall);
     }
 
     /// A register is written, and the next instruction follows.
     #[inline(always)]
-    pub(crate) fn write(&mut self, place: &mut Place, length: u64, rd: u8, value: u64) -> Step
+    pub(crate) fn write(&mut self, place: &mut Place, length: u64, rd: u8, value: u64)
         requires goes_on { self.old.goes_on ≡ true }
+        requires went { self.old.last ≡ Step.Went }
         requires register { rd < 32 }
-        ensures { Executes (write (machine_at self.old place.old) length rd value) None (with_place self.old place.old) (with_place self.new place.new) result }
+        ensures { Executes (write (machine_at self.old place.old) length rd value) None (with_place self.old place.old) (stands self.new place.new) self.new.last place.new.pc }
     {
         self.set_reg(rd, value);
         place.pc = place.pc.wrapping_add(length);
-        Step::Went
     }
 
     /// The target is taken before the register is written, which may be the one that it came from.
     #[inline(always)]
-    pub(crate) fn jump(&mut self, place: &mut Place, length: u64, rd: u8, target: u64) -> Step
+    pub(crate) fn jump(&mut self, place: &mut Place, length: u64, rd: u8, target: u64)
         requires goes_on { self.old.goes_on ≡ true }
+        requires went { self.old.last ≡ Step.Went }
         requires register { rd < 32 }
-        ensures { Executes (jump (machine_at self.old place.old) length rd target) None (with_place self.old place.old) (with_place self.new place.new) result }
+        ensures { Executes (jump (machine_at self.old place.old) length rd target) None (with_place self.old place.old) (stands self.new place.new) self.new.last place.new.pc }
     {
         let next = place.pc.wrapping_add(length);
         self.set_reg(rd, next);
         place.pc = target;
-        Step::Went
     }
 
     /// The instruction at the offset follows where the branch is taken, else the next one.
     #[inline(always)]
-    pub(crate) fn branch(&mut self, place: &mut Place, length: u64, taken: bool, imm: i32) -> Step
+    pub(crate) fn branch(&mut self, place: &mut Place, length: u64, taken: bool, imm: i32)
         requires goes_on { self.old.goes_on ≡ true }
-        ensures { Executes (branch (machine_at self.old place.old) length taken imm) None (with_place self.old place.old) (with_place self.new place.new) result }
+        requires went { self.old.last ≡ Step.Went }
+        ensures { Executes (branch (machine_at self.old place.old) length taken imm) None (with_place self.old place.old) (stands self.new place.new) self.new.last place.new.pc }
     {
         if taken {
             place.pc = moved(place.pc, imm);
-            return Step::Went;
+            return;
         }
         place.pc = place.pc.wrapping_add(length);
-        Step::Went
     }
 
     /// A number from memory is written to a register. A fault comes also where that is x0.
@@ -112,19 +113,20 @@ impl Machine {
         rd: u8,
         rs1: u8,
         imm: i32,
-    ) -> Step
+    )
         requires goes_on { self.old.goes_on ≡ true }
+        requires went { self.old.last ≡ Step.Went }
         requires target { rd < 32 }
         requires source { rs1 < 32 }
-        ensures { Executes (load (machine_at self.old place.old) length rd rs1 imm (byte_count width) (extended extension width)) None (with_place self.old place.old) (with_place self.new place.new) result }
+        ensures { Executes (load (machine_at self.old place.old) length rd rs1 imm (byte_count width) (extended extension width)) None (with_place self.old place.old) (stands self.new place.new) self.new.last place.new.pc }
     {
         let at = moved(self.reg(rs1), imm);
         match self.memory.load(at, width) {
             Ok(n) => {
                 let value = extended(extension, width, n);
-                self.write(place, length, rd, value)
+                self.write(place, length, rd, value);
             }
-            Err(fault) => self.stop(Step::Fault(fault_number(fault))),
+            Err(fault) => self.stop(place, Step::Fault(fault_number(fault))),
         }
     }
 
@@ -139,21 +141,21 @@ impl Machine {
         rs1: u8,
         rs2: u8,
         imm: i32,
-    ) -> Step
+    )
         requires goes_on { self.old.goes_on ≡ true }
+        requires went { self.old.last ≡ Step.Went }
         requires address { rs1 < 32 }
         requires source { rs2 < 32 }
-        ensures { Executes (store (machine_at self.old place.old) length rs1 rs2 imm (byte_count width)) (range_at (machine_at self.old place.old) rs1 imm (byte_count width)) (with_place self.old place.old) (with_place self.new place.new) result }
+        ensures { Executes (store (machine_at self.old place.old) length rs1 rs2 imm (byte_count width)) (range_at (machine_at self.old place.old) rs1 imm (byte_count width)) (with_place self.old place.old) (stands self.new place.new) self.new.last place.new.pc }
     {
         let at = moved(self.reg(rs1), imm);
         let value = self.reg(rs2);
         match self.memory.store(at, width, value) {
             Ok(()) => {
                 place.pc = place.pc.wrapping_add(length);
-                Step::Went
             }
-            Err(MemStop::Fault(fault)) => self.stop(Step::Fault(fault_number(fault))),
-            Err(MemStop::NoMemory) => self.stop(Step::NoMemory),
+            Err(MemStop::Fault(fault)) => self.stop(place, Step::Fault(fault_number(fault))),
+            Err(MemStop::NoMemory) => self.stop(place, Step::NoMemory),
         }
     }
 }

@@ -6,7 +6,7 @@ ghost use Rattle.vm_defs.specs.Memory.{byte_count};
 ghost use Rattle.vm_defs.specs.Step.{branch, by_immediate, by_registers, charged, effect, jump, load, past_instruction, store, write};
 ghost use Rattle.vm_mem.specs.Kept.{instruction_of};
 ghost use Rattle.vm_step.specs.Extension.{extended};
-ghost use Rattle.vm_step.specs.Running.{Executes, machine_at, paying, range_at, stored_range, with_place};
+ghost use Rattle.vm_step.specs.Running.{Executes, machine_at, paying, range_at, stored_range, stands, with_place};
 
 use super::costs::{ACCESS, BASE, BRANCH, DIVIDE, DOUBLE, ENVIRONMENT, JUMP, MULTIPLY};
 use super::effect::{is_below, moved, wide};
@@ -26,79 +26,82 @@ use vm_mem::Kept;
 impl Machine {
     // The next instruction follows.
     #[inline(always)]
-    fn paid_advance(&mut self, place: &mut Place, cost: u64, length: u64) -> Step
+    fn paid_advance(&mut self, place: &mut Place, cost: u64, length: u64)
         requires goes_on { self.old.goes_on ≡ true }
+        requires went { self.old.last ≡ Step.Went }
         requires bound { cost ≤ 2 ^ 40 }
         requires within { place.old.cycles ≤ self.old.machine.budget }
-        ensures { Executes (paying cost (machine_at self.old place.old) (Step.Went, past_instruction (charged (machine_at self.old place.old) cost) length)) None (with_place self.old place.old) (with_place self.new place.new) result }
+        ensures { Executes (paying cost (machine_at self.old place.old) (Step.Went, past_instruction (charged (machine_at self.old place.old) cost) length)) None (with_place self.old place.old) (stands self.new place.new) self.new.last place.new.pc }
     {
         if !self.pay(place, cost) {
-            return Step::Spent;
+            self.stop(place, Step::Spent);
+            return;
         }
         self.advance(place, length)
     }
 
     // The caller answers ECALL.
     #[inline(always)]
-    fn paid_ecall(&mut self, place: &mut Place, cost: u64, length: u64) -> Step
+    fn paid_ecall(&mut self, place: &mut Place, cost: u64, length: u64)
         requires goes_on { self.old.goes_on ≡ true }
+        requires went { self.old.last ≡ Step.Went }
         requires bound { cost ≤ 2 ^ 40 }
         requires within { place.old.cycles ≤ self.old.machine.budget }
-        ensures { Executes (paying cost (machine_at self.old place.old) (Step.Ecall, past_instruction (charged (machine_at self.old place.old) cost) length)) None (with_place self.old place.old) (with_place self.new place.new) result }
+        ensures { Executes (paying cost (machine_at self.old place.old) (Step.Ecall, past_instruction (charged (machine_at self.old place.old) cost) length)) None (with_place self.old place.old) (stands self.new place.new) self.new.last place.new.pc }
     {
         if !self.pay(place, cost) {
-            return Step::Spent;
+            self.stop(place, Step::Spent);
+            return;
         }
         self.ecall(place, length)
     }
 
     // A register is written.
     #[inline(always)]
-    fn paid_write(&mut self, place: &mut Place, cost: u64, length: u64, rd: u8, value: u64) -> Step
+    fn paid_write(&mut self, place: &mut Place, cost: u64, length: u64, rd: u8, value: u64)
         requires goes_on { self.old.goes_on ≡ true }
+        requires went { self.old.last ≡ Step.Went }
         requires bound { cost ≤ 2 ^ 40 }
         requires within { place.old.cycles ≤ self.old.machine.budget }
         requires register { rd < 32 }
-        ensures { Executes (paying cost (machine_at self.old place.old) (write (charged (machine_at self.old place.old) cost) length rd value)) None (with_place self.old place.old) (with_place self.new place.new) result }
+        ensures { Executes (paying cost (machine_at self.old place.old) (write (charged (machine_at self.old place.old) cost) length rd value)) None (with_place self.old place.old) (stands self.new place.new) self.new.last place.new.pc }
     {
         if !self.pay(place, cost) {
-            return Step::Spent;
+            self.stop(place, Step::Spent);
+            return;
         }
         self.write(place, length, rd, value)
     }
 
     // The instruction at the target follows.
     #[inline(always)]
-    fn paid_jump(&mut self, place: &mut Place, cost: u64, length: u64, rd: u8, target: u64) -> Step
+    fn paid_jump(&mut self, place: &mut Place, cost: u64, length: u64, rd: u8, target: u64)
         requires goes_on { self.old.goes_on ≡ true }
+        requires went { self.old.last ≡ Step.Went }
         requires bound { cost ≤ 2 ^ 40 }
         requires within { place.old.cycles ≤ self.old.machine.budget }
         requires register { rd < 32 }
-        ensures { Executes (paying cost (machine_at self.old place.old) (jump (charged (machine_at self.old place.old) cost) length rd target)) None (with_place self.old place.old) (with_place self.new place.new) result }
+        ensures { Executes (paying cost (machine_at self.old place.old) (jump (charged (machine_at self.old place.old) cost) length rd target)) None (with_place self.old place.old) (stands self.new place.new) self.new.last place.new.pc }
     {
         if !self.pay(place, cost) {
-            return Step::Spent;
+            self.stop(place, Step::Spent);
+            return;
         }
         self.jump(place, length, rd, target)
     }
 
     // The instruction at the offset may follow.
     #[inline(always)]
-    fn paid_branch(
-        &mut self,
-        place: &mut Place,
-        cost: u64,
-        length: u64,
-        taken: bool,
-        imm: i32,
-    ) -> Step
+    fn paid_branch(&mut self, place: &mut Place, cost: u64, length: u64, taken: bool, imm: i32)
         requires goes_on { self.old.goes_on ≡ true }
+        requires went { self.old.last ≡ Step.Went }
         requires bound { cost ≤ 2 ^ 40 }
         requires within { place.old.cycles ≤ self.old.machine.budget }
-        ensures { Executes (paying cost (machine_at self.old place.old) (branch (charged (machine_at self.old place.old) cost) length taken imm)) None (with_place self.old place.old) (with_place self.new place.new) result }
+        ensures { Executes (paying cost (machine_at self.old place.old) (branch (charged (machine_at self.old place.old) cost) length taken imm)) None (with_place self.old place.old) (stands self.new place.new) self.new.last place.new.pc }
     {
         if !self.pay(place, cost) {
-            return Step::Spent;
+            self.stop(place, Step::Spent);
+            return;
         }
         self.branch(place, length, taken, imm)
     }
@@ -115,16 +118,18 @@ impl Machine {
         rd: u8,
         rs1: u8,
         imm: i32,
-    ) -> Step
+    )
         requires goes_on { self.old.goes_on ≡ true }
+        requires went { self.old.last ≡ Step.Went }
         requires bound { cost ≤ 2 ^ 40 }
         requires within { place.old.cycles ≤ self.old.machine.budget }
         requires target { rd < 32 }
         requires source { rs1 < 32 }
-        ensures { Executes (paying cost (machine_at self.old place.old) (load (charged (machine_at self.old place.old) cost) length rd rs1 imm (byte_count width) (extended extension width))) None (with_place self.old place.old) (with_place self.new place.new) result }
+        ensures { Executes (paying cost (machine_at self.old place.old) (load (charged (machine_at self.old place.old) cost) length rd rs1 imm (byte_count width) (extended extension width))) None (with_place self.old place.old) (stands self.new place.new) self.new.last place.new.pc }
     {
         if !self.pay(place, cost) {
-            return Step::Spent;
+            self.stop(place, Step::Spent);
+            return;
         }
         self.load(place, length, width, extension, rd, rs1, imm)
     }
@@ -140,16 +145,18 @@ impl Machine {
         rs1: u8,
         rs2: u8,
         imm: i32,
-    ) -> Step
+    )
         requires goes_on { self.old.goes_on ≡ true }
+        requires went { self.old.last ≡ Step.Went }
         requires bound { cost ≤ 2 ^ 40 }
         requires within { place.old.cycles ≤ self.old.machine.budget }
         requires address { rs1 < 32 }
         requires source { rs2 < 32 }
-        ensures { Executes (paying cost (machine_at self.old place.old) (store (charged (machine_at self.old place.old) cost) length rs1 rs2 imm (byte_count width))) (range_at (machine_at self.old place.old) rs1 imm (byte_count width)) (with_place self.old place.old) (with_place self.new place.new) result }
+        ensures { Executes (paying cost (machine_at self.old place.old) (store (charged (machine_at self.old place.old) cost) length rs1 rs2 imm (byte_count width))) (range_at (machine_at self.old place.old) rs1 imm (byte_count width)) (with_place self.old place.old) (stands self.new place.new) self.new.last place.new.pc }
     {
         if !self.pay(place, cost) {
-            return Step::Spent;
+            self.stop(place, Step::Spent);
+            return;
         }
         self.store(place, length, width, rs1, rs2, imm)
     }
@@ -166,14 +173,15 @@ impl Machine {
         rd: u8,
         rs1: u8,
         rs2: u8,
-    ) -> Step
+    )
         requires goes_on { self.old.goes_on ≡ true }
+        requires went { self.old.last ≡ Step.Went }
         requires bound { cost ≤ 2 ^ 40 }
         requires within { place.old.cycles ≤ self.old.machine.budget }
         requires target { rd < 32 }
         requires first { rs1 < 32 }
         requires second { rs2 < 32 }
-        ensures { Executes (paying cost (machine_at self.old place.old) (by_registers (charged (machine_at self.old place.old) cost) length operation rd rs1 rs2)) None (with_place self.old place.old) (with_place self.new place.new) result }
+        ensures { Executes (paying cost (machine_at self.old place.old) (by_registers (charged (machine_at self.old place.old) cost) length operation rd rs1 rs2)) None (with_place self.old place.old) (stands self.new place.new) self.new.last place.new.pc }
     {
         let value = op(operation, self.reg(rs1), self.reg(rs2));
         self.paid_write(place, cost, length, rd, value)
@@ -191,13 +199,14 @@ impl Machine {
         rd: u8,
         rs1: u8,
         imm: i32,
-    ) -> Step
+    )
         requires goes_on { self.old.goes_on ≡ true }
+        requires went { self.old.last ≡ Step.Went }
         requires bound { cost ≤ 2 ^ 40 }
         requires within { place.old.cycles ≤ self.old.machine.budget }
         requires target { rd < 32 }
         requires source { rs1 < 32 }
-        ensures { Executes (paying cost (machine_at self.old place.old) (by_immediate (charged (machine_at self.old place.old) cost) length operation rd rs1 imm)) None (with_place self.old place.old) (with_place self.new place.new) result }
+        ensures { Executes (paying cost (machine_at self.old place.old) (by_immediate (charged (machine_at self.old place.old) cost) length operation rd rs1 imm)) None (with_place self.old place.old) (stands self.new place.new) self.new.last place.new.pc }
     {
         let value = op(operation, self.reg(rs1), wide(imm));
         self.paid_write(place, cost, length, rd, value)
@@ -207,16 +216,12 @@ impl Machine {
     ///
     /// `SITE` makes one of it for each place that calls it: a large function is inlined only where it is called once.
     #[inline(always)]
-    pub(crate) fn execute<const SITE: u8>(
-        &mut self,
-        place: &mut Place,
-        kept: Kept,
-        length: u64,
-    ) -> Step
+    pub(crate) fn execute<const SITE: u8>(&mut self, place: &mut Place, kept: Kept, length: u64)
         requires goes_on { self.old.goes_on ≡ true }
+        requires went { self.old.last ≡ Step.Went }
         requires within { place.old.cycles ≤ self.old.machine.budget }
         requires registers { HasRegisters (instruction_of kept) }
-        ensures { Executes (paying (cycles (instruction_of kept)) (machine_at self.old place.old) (effect (charged (machine_at self.old place.old) (cycles (instruction_of kept))) length (instruction_of kept))) (stored_range (machine_at self.old place.old) (instruction_of kept)) (with_place self.old place.old) (with_place self.new place.new) result }
+        ensures { Executes (paying (cycles (instruction_of kept)) (machine_at self.old place.old) (effect (charged (machine_at self.old place.old) (cycles (instruction_of kept))) length (instruction_of kept))) (stored_range (machine_at self.old place.old) (instruction_of kept)) (with_place self.old place.old) (stands self.new place.new) self.new.last place.new.pc }
     {
         match kept {
             Kept::Lui { rd, imm } => self.paid_write(place, BASE, length, rd, wide(imm)),

@@ -1,12 +1,12 @@
 // The machine, and what its user sees and changes of it.
 ghost use Rattle.std.specs.Borrow.{sem};
-ghost use Rattle.std.specs.Prelude.{◌≡◌, ◌≢◌, ◌⊎◌, ℕ, ◌^◌, ◌<◌, ◌≤◌, true, false, not};
+ghost use Rattle.std.specs.Prelude.{◌≡◌, ◌≢◌, ◌⊎◌, ℕ, ◌%◌, ◌^◌, ◌<◌, ◌≤◌, true, false, not, IsTrue};
 ghost use Rattle.vm_defs.specs.Program.{new_machine};
 ghost use Rattle.vm_defs.specs.Step.{charged, is_spent, register, step_of, with_register};
 ghost use Rattle.vm_mem.specs.Pages.{IsAllocated};
 ghost use Rattle.vm_mem.specs.Slots.{IsKept};
 ghost use Rattle.vm_step.specs.Lending.{LendsMemory};
-ghost use Rattle.vm_step.specs.Running.{HasRoom, IsStep, IsStoredTo, LeavesRoom, Stops, Touches, goes_on_after, machine_at, next_range};
+ghost use Rattle.vm_step.specs.Running.{HasRoom, IsOneStep, IsStep, IsStoredTo, LeavesRoom, Stops, Touches, goes_on_after, machine_at, next_range, stands, with_place};
 
 use super::fault::{NO_INSTRUCTION, fault_number};
 use super::place::Place;
@@ -28,7 +28,12 @@ pub struct Machine {
     pub(crate) place: Place,
     pub(crate) budget: u64,
     pub(crate) goes_on: bool,
+    // What the last step answered.
+    pub(crate) last: Step,
 }
+
+// An odd address, which no instruction has.
+const NOWHERE: u64 = 1;
 
 impl Model for Machine {
     ghost use Rattle.std.specs.Prelude.{◌≡◌, ◌^◌, ◌≤◌, slice_index, true};
@@ -40,6 +45,7 @@ impl Model for Machine {
       machine = record { pc = m.place.pc; registers = m.registers; memory = m.memory.memory; cycles = m.place.cycles; budget = m.budget };
       allocated = m.memory.allocated;
       goes_on = m.goes_on;
+      last = m.last;
     } };
 
     ghost invariant = { λ m. (slice_index m.registers 0 ≡ 0) × (m.budget ≤ 2 ^ 40) × (m.goes_on ≡ true → m.place.cycles ≤ m.budget) };
@@ -66,6 +72,7 @@ impl Machine {
             place: Place { pc, cycles },
             budget,
             goes_on: true,
+            last: Step::Went,
         }
     }
 
@@ -79,6 +86,7 @@ impl Machine {
         requires { self.old.goes_on ≡ true }
         ensures steps { IsStep (step_of self.old.machine) self.old.machine self.new.machine result }
         ensures goes_on { self.new.goes_on ≡ goes_on_after result }
+        ensures last { self.new.last ≡ result }
 
         // With room for what the instruction stores, NoMemory does not come. A store leaves room there. No page
         // loses its own, and none is allocated but those that the store touches.
@@ -87,10 +95,16 @@ impl Machine {
         ensures pages_kept { (page : ℕ) → IsAllocated self.old.allocated page → IsAllocated self.new.allocated page }
         ensures pages_added { (page : ℕ) → IsAllocated self.new.allocated page → IsAllocated self.old.allocated page ⊎ Touches (next_range self.old.machine) page }
     {
+        self.last = Step::Went;
         let mut place = self.place;
-        let answer = self.step_at(&mut place);
-        self.place = place;
-        answer
+        self.step_at(&mut place);
+        match self.last {
+            Step::Went => {
+                self.place = place;
+                Step::Went
+            }
+            answer => answer,
+        }
     }
 
     /// Steps up to the first whose answer is not `Went`, and that answer.
@@ -106,14 +120,16 @@ impl Machine {
         ensures pages_kept { (page : ℕ) → IsAllocated self.old.allocated page → IsAllocated self.new.allocated page }
         ensures pages_added { (page : ℕ) → IsAllocated self.new.allocated page → IsAllocated self.old.allocated page ⊎ IsStoredTo self.old.machine page }
     {
+        self.last = Step::Went;
         let mut place = self.place;
-        let mut slot = self.memory.slot(place.pc);
         'steps: loop {
-            match self.go(&mut place, slot) {
-                Step::Went => slot = self.memory.slot(place.pc),
-                answer => {
-                    self.place = place;
-                    return answer;
+            let slot = self.memory.slot(place.pc);
+            if u64::from(slot.at) == place.pc {
+                self.go(&mut place, slot);
+            } else {
+                match self.last {
+                    Step::Went => self.step_apart(&mut place),
+                    answer => return answer,
                 }
             }
         }
@@ -180,102 +196,102 @@ impl Machine {
         &mut self.memory
     }
 
-    // One step of a run, with the slot of the program counter, which is looked up at the end of the step before: so what
-    // an instruction answers is looked at where it is made. One that is kept has its effect at once, and any other step is
-    // made by `step`. The effect stands here twice, so that the next program counter waits for no length.
+    // One step of a run, by the slot that has the instruction at the program counter. Where the run ends the program
+    // counter is apart from the machine's, and odd, so that no slot has it: one test a step is of both. The effect stands
+    // here twice, so that the next program counter waits for no length.
     #[inline(always)]
-    fn go(&mut self, place: &mut Place, slot: Slot) -> Step
+    fn go(&mut self, place: &mut Place, slot: Slot)
         requires goes_on { self.old.goes_on ≡ true }
+        requires went { self.old.last ≡ Step.Went }
         requires within { place.old.cycles ≤ self.old.machine.budget }
-        requires kept { slot.at ≡ place.old.pc → IsKept self.old.machine.memory slot }
-        ensures steps { IsStep (step_of (machine_at self.old place.old)) (machine_at self.old place.old) (machine_at self.new place.new) result }
-        ensures goes_on { self.new.goes_on ≡ goes_on_after result }
-        ensures within { self.new.goes_on ≡ true → place.new.cycles ≤ self.new.machine.budget }
-        ensures room { HasRoom self.old.allocated (next_range (machine_at self.old place.old)) → result ≢ Step.NoMemory }
-        ensures allocated { result ≡ Step.Went → HasRoom self.new.allocated (next_range (machine_at self.old place.old)) }
-        ensures pages_kept { (page : ℕ) → IsAllocated self.old.allocated page → IsAllocated self.new.allocated page }
-        ensures pages_added { (page : ℕ) → IsAllocated self.new.allocated page → IsAllocated self.old.allocated page ⊎ Touches (next_range (machine_at self.old place.old)) page }
+        requires at { slot.at ≡ place.old.pc }
+        requires kept { IsKept self.old.machine.memory slot }
+        ensures { IsOneStep (with_place self.old place.old) (stands self.new place.new) self.new.last place.new.pc }
     {
-        if u64::from(slot.at) != place.pc {
-            return self.step_apart(place);
-        }
         if slot.length == 2 {
-            self.execute::<2>(place, slot.kept, 2)
+            self.execute::<2>(place, slot.kept, 2);
         } else {
-            self.execute::<4>(place, slot.kept, 4)
+            self.execute::<4>(place, slot.kept, 4);
         }
     }
 
     // One step of a run that `step` makes: what it answers goes through no memory.
     #[inline(always)]
-    fn step_apart(&mut self, place: &mut Place) -> Step
+    fn step_apart(&mut self, place: &mut Place)
         requires goes_on { self.old.goes_on ≡ true }
         requires within { place.old.cycles ≤ self.old.machine.budget }
-        ensures steps { IsStep (step_of (machine_at self.old place.old)) (machine_at self.old place.old) (machine_at self.new place.new) result }
-        ensures goes_on { self.new.goes_on ≡ goes_on_after result }
-        ensures within { self.new.goes_on ≡ true → place.new.cycles ≤ self.new.machine.budget }
-        ensures room { HasRoom self.old.allocated (next_range (machine_at self.old place.old)) → result ≢ Step.NoMemory }
-        ensures allocated { result ≡ Step.Went → HasRoom self.new.allocated (next_range (machine_at self.old place.old)) }
-        ensures pages_kept { (page : ℕ) → IsAllocated self.old.allocated page → IsAllocated self.new.allocated page }
-        ensures pages_added { (page : ℕ) → IsAllocated self.new.allocated page → IsAllocated self.old.allocated page ⊎ Touches (next_range (machine_at self.old place.old)) page }
+        ensures { IsOneStep (with_place self.old place.old) (stands self.new place.new) self.new.last place.new.pc }
     {
         self.place = *place;
-        let answer = self.step();
+        match self.step() {
+            Step::Went => {}
+            _ => {
+                place.pc = NOWHERE;
+                return;
+            }
+        }
         *place = self.place;
-        answer
     }
 
     // One step, with the place apart from the machine.
     #[inline(always)]
-    fn step_at(&mut self, place: &mut Place) -> Step
+    fn step_at(&mut self, place: &mut Place)
         requires goes_on { self.old.goes_on ≡ true }
+        requires went { self.old.last ≡ Step.Went }
         requires within { place.old.cycles ≤ self.old.machine.budget }
-        ensures steps { IsStep (step_of (machine_at self.old place.old)) (machine_at self.old place.old) (machine_at self.new place.new) result }
-        ensures goes_on { self.new.goes_on ≡ goes_on_after result }
-        ensures within { self.new.goes_on ≡ true → place.new.cycles ≤ self.new.machine.budget }
-        ensures room { HasRoom self.old.allocated (next_range (machine_at self.old place.old)) → result ≢ Step.NoMemory }
-        ensures allocated { result ≡ Step.Went → HasRoom self.new.allocated (next_range (machine_at self.old place.old)) }
-        ensures pages_kept { (page : ℕ) → IsAllocated self.old.allocated page → IsAllocated self.new.allocated page }
-        ensures pages_added { (page : ℕ) → IsAllocated self.new.allocated page → IsAllocated self.old.allocated page ⊎ Touches (next_range (machine_at self.old place.old)) page }
+        ensures { IsOneStep (with_place self.old place.old) (stands self.new place.new) self.new.last place.new.pc }
     {
         if place.pc % 2 == 1 {
-            return self.stop(Step::Fault(NO_INSTRUCTION));
+            self.stop(place, Step::Fault(NO_INSTRUCTION));
+            return;
         }
         let (ins, length) = match self.memory.instruction(place.pc) {
             Ok(Some(decoded)) => decoded,
-            Ok(None) => return self.stop(Step::Fault(NO_INSTRUCTION)),
-            Err(fault) => return self.stop(Step::Fault(fault_number(fault))),
+            Ok(None) => {
+                self.stop(place, Step::Fault(NO_INSTRUCTION));
+                return;
+            }
+            Err(fault) => {
+                self.stop(place, Step::Fault(fault_number(fault)));
+                return;
+            }
         };
-        self.execute::<0>(place, kept_form(ins), u64::from(length))
+        self.execute::<0>(place, kept_form(ins), u64::from(length));
     }
 
     // Adds what an instruction costs, and says whether the cycles are still within the budget.
     #[inline(always)]
-    pub(crate) fn pay(&mut self, place: &mut Place, cost: u64) -> bool
-        requires goes_on { self.old.goes_on ≡ true }
+    pub(crate) fn pay(&self, place: &mut Place, cost: u64) -> bool
         requires bound { cost ≤ 2 ^ 40 }
-        requires within { place.old.cycles ≤ self.old.machine.budget }
-        ensures machine { machine_at self.new place.new ≡ charged (machine_at self.old place.old) cost }
-        ensures allocated { self.new.allocated ≡ self.old.allocated }
-        ensures goes_on { self.new.goes_on ≡ result }
-        ensures within { result ≡ not (is_spent (machine_at self.new place.new)) }
+        requires within { place.old.cycles ≤ self.now.machine.budget }
+        ensures machine { machine_at self.now place.new ≡ charged (machine_at self.now place.old) cost }
+        ensures within { result ≡ not (is_spent (machine_at self.now place.new)) }
+        ensures lasts { IsTrue result → place.new.cycles ≤ self.now.machine.budget }
     {
         let budget = self.budget;
         place.cycles += cost;
-        if place.cycles > budget {
-            self.goes_on = false;
-            return false;
-        }
-        true
+        place.cycles <= budget
     }
 
     // The machine goes on no more.
-    #[inline]
-    pub(crate) fn stop(&mut self, answer: Step) -> Step
-        ensures result { result ≡ answer }
-        ensures machine { self.new ≡ record self.old { goes_on = false } }
+    #[inline(always)]
+    pub(crate) fn stop(&mut self, place: &mut Place, answer: Step)
+        ensures machine { self.new ≡ record (with_place self.old place.old) { goes_on = false; last = answer } }
+        ensures nowhere { place.new.pc % 2 ≡ 1 }
     {
         self.goes_on = false;
-        answer
+        self.end(place, answer);
+    }
+
+    // The last step answered so. The machine has its place again, and the place apart is that of no instruction.
+    #[inline(always)]
+    pub(crate) fn end(&mut self, place: &mut Place, answer: Step)
+        requires { self.old.goes_on ≡ true → place.old.cycles ≤ self.old.machine.budget }
+        ensures machine { self.new ≡ record (with_place self.old place.old) { last = answer } }
+        ensures nowhere { place.new.pc % 2 ≡ 1 }
+    {
+        self.place = *place;
+        self.last = answer;
+        place.pc = NOWHERE;
     }
 }
