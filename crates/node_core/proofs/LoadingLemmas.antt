@@ -292,3 +292,6 @@ module _ (kept : List Block) (area : Area) (entries : List Entry) (reads : Optio
       → (now : Image) → reads ≡ Some now → after + distance_to kept it.1 (tip_place kept) ≤ before + moves_by kept now (Some area)
   loaded-led (number, tip, state) is tells most now told =
       led-from kept area entries reads now before after number tip state told most (subst Tells is tells)
+
+  pub loaded-none : found ≡ None → Tells found → (now : Image) → reads ≡ Some now → newest now ≡ Some area → ⊥
+  loaded-none is tells now told newest_is = never-closed area entries reads now before after told newest_is (subst Tells is tells)

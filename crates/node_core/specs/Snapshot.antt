@@ -60,9 +60,9 @@ abbrev pub IsSettledWith : List Record → List ℕ → Option Image → (Image 
 IsSettledWith records item reads images = (ext : List ℕ) × (place : ℕ) × IsSettled place (records ++ block_record item ext ∷ []) reads images
 
 -- Memory was wanted for a snapshot that was due when so many blocks had joined: the record of the block that joined is on the disk.
-pub record LacksSnapshot (joined place : ℕ) (item : List ℕ) (stop : ReadStop) (reads_old reads_new : Option Image) (old new : Image → Type 0) : Type 0 where
+pub record LacksSnapshot (count place : ℕ) (item : List ℕ) (stop : ReadStop) (reads_old reads_new : Option Image) (old new : Image → Type 0) : Type 0 where
   pub memory : stop ≡ NoMemory
-  pub due : IsSome (snapshot_at joined)
+  pub due : IsSome (snapshot_at count)
   pub joined : (records : List Record) → IsSettled place records reads_old old → IsSettledWith records item reads_new new
 
 -- ---- Which one is loaded

@@ -1,6 +1,6 @@
 use Rattle.std.proofs.Common.{Err, ap, ◌∙◌}
 use Rattle.log_file.proofs.Exits.{same_stop}
-use Rattle.node_core.proofs.LoadingLemmas.{loaded-within, loaded-cells, loaded-led, never-closed, never-damaged, snapshot-damaged}
+use Rattle.node_core.proofs.LoadingLemmas.{loaded-within, loaded-cells, loaded-led, loaded-none, never-damaged, snapshot-damaged}
 use Rattle.node_core.proofs.snapshot.load_from.Goals as goal
 
 pub returns-in-Ok-Some-clause-within : goal.returns-in-Ok-Some-clause-within
@@ -27,4 +27,5 @@ returns-in-Err-clause-damage g c = λ now told is damage e.
 
 pub returns-in-Ok-None-clause-damage : goal.returns-in-Ok-None-clause-damage
 returns-in-Ok-None-clause-damage g c = λ now told is damage e.
-    absurd (never-closed c.args.area c.tree.result.now.entries (g.D.Disk.reads_as c.args.disk.now) now c.args.steps.now c.read.new.steps told is c.in-Ok-None.ensures.snapshot)
+    absurd (loaded-none c.args.kept.now.chain.blocks c.args.area c.tree.result.now.entries (g.D.Disk.reads_as c.args.disk.now) c.args.steps.now c.read.new.steps c.in-Ok-None.field-0
+    c.in-Ok-None.field-0-is c.in-Ok-None.ensures.snapshot now told is)

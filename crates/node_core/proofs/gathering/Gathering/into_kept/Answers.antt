@@ -38,8 +38,8 @@ invariant_of-kept c =
 pub returns-clause-cells : goal.returns-clause-cells
 returns-clause-cells c =
     let are = blocks-seen c.self.inside.blocks.stored c.args.self.stored c.args.tree.entries (ap (λ (v : RecordedValue). v.stored) c.self.view_is) c.requires in
-    cells-left c.self.inside.blocks.stored c.args.tree.entries c.self.inside.count c.self.inside.uncles c.self.inside.genesis c.self.inside.unfit c.in-Some.cells c.self.invariant are.indexed
-    (some-entries c.tip.result c.args.tree.entries c.tip.ensures.within) c.in-Some.is
+    cells-left c.self.inside.blocks.stored c.args.tree.entries c.self.inside.count c.self.inside.uncles c.self.inside.genesis c.self.inside.unfit c.in-Some-genesis.cells c.self.invariant are.indexed
+    (some-entries c.tip.result c.args.tree.entries c.tip.ensures.within) c.in-Some-genesis.is
 
 pub returns-clause-wrong : goal.returns-clause-wrong
 returns-clause-wrong c =

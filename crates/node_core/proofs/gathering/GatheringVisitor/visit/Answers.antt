@@ -16,7 +16,7 @@ invariant_of-self-2 c =
     let it : Stored = record { block = c.args.block.now; ext = c.args.ext.now } in
     let index : c.add.new.self.embedded ≡ c.self.inside.uncles.embedded ++ embedded_in c.self.inside.count it.block =
     c.add.ensures.embedded ∙ ap (λ (l : List Embedded). l ++ embedded_in c.self.inside.count c.args.block.now) c.reserve.ensures.embedded in
-    let fit : c.first_unfit.result ≡ or_unfit c.self.inside.unfit (fits_at c.self.inside.count it) c.self.inside.count =
-    c.first_unfit.ensures ∙ ap (λ (b : Bool). or_unfit c.self.inside.unfit b c.self.inside.count) c.fits-fits.ensures in
+    let fit : c.first_unfit-self-inside.result ≡ or_unfit c.self.inside.unfit (fits_at c.self.inside.count it) c.self.inside.count =
+    c.first_unfit-self-inside.ensures ∙ ap (λ (b : Bool). or_unfit c.self.inside.unfit b c.self.inside.count) c.fits-fits.ensures in
     gathered-more c.self.inside.blocks.stored c.push.new.self.stored it c.self.inside.count (c.self.inside.count + 1) c.self.inside.uncles c.add.new.self c.self.inside.genesis c.take_cells.new.cells
-    c.self.inside.unfit c.first_unfit.result c.self.invariant c.in_ok-push.ensures.pushed refl index c.in_ok-take_cells.ensures.genesis c.take_cells.ensures.later fit
+    c.self.inside.unfit c.first_unfit-self-inside.result c.self.invariant c.in_ok-push.ensures.pushed refl index c.in_ok-take_cells.ensures.genesis c.take_cells.ensures.later fit

@@ -66,8 +66,8 @@ pub returns-in-Ok-moved-2-clause-read : goal.returns-in-Ok-moved-2-clause-read
 returns-in-Ok-moved-2-clause-read g c =
     read_on (read_on c.in-Ok-moved.ensures.read c.in-Ok-judge_on.ensures.read) c.in-Ok-moved-2.ensures.read
 
-pub returns-clause-read : goal.returns-clause-read
-returns-clause-read g c = read_on (read_on c.in-Ok-moved.ensures.read c.in-Ok-judge_on.ensures.read) c.in-Err-moved.ensures.read
+pub returns-in-Err-moved-clause-read : goal.returns-in-Err-moved-clause-read
+returns-in-Err-moved-clause-read g c = read_on (read_on c.in-Ok-moved.ensures.read c.in-Ok-judge_on.ensures.read) c.in-Err-moved.ensures.read
 
 -- ---- At sight
 
@@ -123,8 +123,8 @@ returns-in-Err-judge_on-clause-undamaged g c tells live damage was =
     c.in-Err-judge_on.ensures.undamaged (tells-on c.args.self.now _ _ c.moved.ensures.read.told tells)
     (c.in-Ok-moved.ensures.cells tells (live c.tip-from.result at)) damage (ap Err (same_stop _ _ was))
 
-pub returns-clause-undamaged : goal.returns-clause-undamaged
-returns-clause-undamaged g c tells live damage was =
+pub returns-in-Err-moved-clause-undamaged : goal.returns-in-Err-moved-clause-undamaged
+returns-in-Err-moved-clause-undamaged g c tells live damage was =
     let at : tip_place c.args.self.now.chain.blocks ≡ Some c.tip-from.result =
     sym (ap (λ (v : KeptValue). tip_place v.chain.blocks) c.self.view_is)
     ∙ c.tip-from.ensures.of_blocks (blocks_of c.self.inside.blocks.stored) c.self.invariant.indexed in
@@ -141,8 +141,8 @@ pub returns-in-Err-judge_on-clause-asked : goal.returns-in-Err-judge_on-clause-a
 returns-in-Err-judge_on-clause-asked g c = λ _.
     wants-passed c.args.self.now.chain c.args.block.now c.args.entry.parent c.requires.entry.new c.requires.entry.on_kept c.in-Ok.ensures.passed.sight
 
-pub returns-clause-asked : goal.returns-clause-asked
-returns-clause-asked g c = λ _.
+pub returns-in-Err-moved-clause-asked : goal.returns-in-Err-moved-clause-asked
+returns-in-Err-moved-clause-asked g c = λ _.
     wants-passed c.args.self.now.chain c.args.block.now c.args.entry.parent c.requires.entry.new c.requires.entry.on_kept c.in-Ok.ensures.passed.sight
 
 -- ---- Nothing is read where it is answered at sight
@@ -169,6 +169,6 @@ pub returns-in-Ok-moved-2-clause-sight : goal.returns-in-Ok-moved-2-clause-sight
 returns-in-Ok-moved-2-clause-sight g c = λ none.
     absurd (takes-some c.args.self.now.chain c.args.block.now c.args.entry.parent c.in-Ok.ensures.passed.sight none)
 
-pub returns-clause-sight : goal.returns-clause-sight
-returns-clause-sight g c = λ none.
+pub returns-in-Err-moved-clause-sight : goal.returns-in-Err-moved-clause-sight
+returns-in-Err-moved-clause-sight g c = λ none.
     absurd (takes-some c.args.self.now.chain c.args.block.now c.args.entry.parent c.in-Ok.ensures.passed.sight none)

@@ -99,14 +99,14 @@ returns-then-has_room-clause-decided g c tells live =
 pub returns-then-has_room-clause-undamaged : goal.returns-then-has_room-clause-undamaged
 returns-then-has_room-clause-undamaged g c = λ _ _ _ was. no_answer _ _ was
 
-pub returns-else-has_room-clause-read : goal.returns-else-has_room-clause-read
-returns-else-has_room-clause-read g c = c.in-Ok.ensures.read
+pub returns-clause-read : goal.returns-clause-read
+returns-clause-read g c = c.in-Ok.ensures.read
 
-pub returns-else-has_room-clause-ready : goal.returns-else-has_room-clause-ready
-returns-else-has_room-clause-ready g c = refl
+pub returns-clause-ready : goal.returns-clause-ready
+returns-clause-ready g c = refl
 
-pub returns-else-has_room-clause-decided : goal.returns-else-has_room-clause-decided
-returns-else-has_room-clause-decided g c tells live =
+pub returns-clause-decided : goal.returns-clause-decided
+returns-clause-decided g c tells live =
     let stored = c.self.inside.blocks.stored in
     let told = told-stored c.self.inside.spec stored c.self.inside.tree.entries c.args.self.now _ c.self.view_is tells in
     let whole = ap (λ (v : KeptValue). v.chain) c.self.view_is in
@@ -119,5 +119,5 @@ returns-else-has_room-clause-decided g c tells live =
     c.has_room.ensures c.if-has_room.false
     (c.len.ensures.of_blocks (blocks_of stored) c.self.invariant.indexed ∙ ap (λ (v : Chain). length v.blocks) whole)
 
-pub returns-else-has_room-clause-undamaged : goal.returns-else-has_room-clause-undamaged
-returns-else-has_room-clause-undamaged g c = λ _ _ _ was. no_answer _ _ was
+pub returns-clause-undamaged : goal.returns-clause-undamaged
+returns-clause-undamaged g c = λ _ _ _ was. no_answer _ _ was
