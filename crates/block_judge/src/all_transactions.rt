@@ -14,7 +14,7 @@ ghost use Rattle.cell_defs.specs.Row.{row_after};
 ghost use Rattle.tx_defs.specs.Site.{Site};
 ghost use Rattle.tx_defs.specs.Capacity as capacity;
 ghost use Rattle.tx_rules.specs.At.{IsPlaced, IsSiteOf};
-ghost use Rattle.chain_tree.specs.Blocks.{AreRated};
+ghost use Rattle.chain_tree.specs.Blocks.{IsParent};
 ghost use Rattle.tx_rules.specs.Copying.{row_in};
 ghost use Rattle.block_defs.specs.Transactions.{transaction_rules, left_after, rules_of_transactions};
 ghost use Rattle.block_defs.specs.Ext.{ext_of, rows_spent};
@@ -225,9 +225,7 @@ pub(crate) fn judge_transactions<C: Cells, B: Blocks>(
     block: &BlockView<'_>,
     hashes: &[[u8; 32]],
 ) -> Result<Outcome, JudgeStop>
-    requires parent { context.now.parent < length context.now.tree.now.entries }
-    requires few { length context.now.tree.now.entries < 2 ^ 24 }
-    requires rated { AreRated context.now.tree.now.entries }
+    requires placed { IsParent context.now.tree.now.entries context.now.parent }
     requires counts { B.count blocks.old ≡ length context.now.tree.now.entries }
     requires some { 0 < length block.now.transactions }
     requires hashes { hashes.now ≡ map transaction_hash block.now.transactions }

@@ -5,7 +5,7 @@ ghost use Rattle.outside.specs.declared.disk.Damage.{Damage};
 ghost use Rattle.outside.specs.declared.disk.ReadStop.TheVariants.{Damaged};
 ghost use Rattle.chain_defs.specs.Branch.{branch};
 ghost use Rattle.chain_defs.specs.Hashes.{transaction_hash};
-ghost use Rattle.chain_tree.specs.Blocks.{AreRated};
+ghost use Rattle.chain_tree.specs.Blocks.{IsParent};
 ghost use Rattle.chain_tree.specs.Told.{Stored, blocks_of};
 ghost use Rattle.chain_tree.specs.Reading.{HasRead};
 ghost use Rattle.tx_defs.specs.Capacity as capacity;
@@ -45,9 +45,7 @@ pub fn judge_appended<C: Cells, S: Cells, B: Blocks>(
     hash: [u8; 32],
     left: u64,
 ) -> Result<PassedTransaction, JudgeStop>
-    requires parent { context.now.parent < length context.now.tree.now.entries }
-    requires few { length context.now.tree.now.entries < 2 ^ 24 }
-    requires rated { AreRated context.now.tree.now.entries }
+    requires placed { IsParent context.now.tree.now.entries context.now.parent }
     requires counts { B.count blocks.old ≡ length context.now.tree.now.entries }
     requires hash { hash ≡ transaction_hash tx.now }
     requires left { left ≤ 2 ^ 40 }

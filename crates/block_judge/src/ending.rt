@@ -8,7 +8,7 @@ ghost use Rattle.codec_defs.specs.Schema as schema;
 ghost use Rattle.time_defs.specs.Dao.{is_rated};
 ghost use Rattle.chain_defs.specs.Kept.{block_at};
 ghost use Rattle.chain_defs.specs.Branch.{branch};
-ghost use Rattle.chain_tree.specs.Blocks.{AreRated, IndexesBlocks};
+ghost use Rattle.chain_tree.specs.Blocks.{IsParent, IndexesBlocks};
 ghost use Rattle.chain_tree.specs.Told.{Stored, blocks_of};
 ghost use Rattle.chain_tree.specs.Reading.{HasRead, stop_of};
 ghost use Rattle.cell_defs.specs.Cell.{occupied_by};
@@ -110,9 +110,7 @@ fn pays_reward<B: Blocks>(
     parent: u32,
     block: &BlockView<'_>,
 ) -> Result<bool, ReadStop>
-    requires parent { parent < length tree.now.entries }
-    requires few { length tree.now.entries < 2 ^ 24 }
-    requires rated { AreRated tree.now.entries }
+    requires placed { IsParent tree.now.entries parent }
     requires counts { B.count blocks.old ≡ length tree.now.entries }
     requires some { 0 < length block.now.transactions }
     ensures read { HasRead B.told B.count B.loans_of B.faults B.damages blocks.old blocks.new (stop_of result) }
@@ -195,9 +193,7 @@ fn has_next_dao(
     block: &BlockView<'_>,
     outcome: &Outcome,
 ) -> bool
-    requires parent { parent < length tree.now.entries }
-    requires few { length tree.now.entries < 2 ^ 24 }
-    requires rated { AreRated tree.now.entries }
+    requires placed { IsParent tree.now.entries parent }
     ensures next { (kept : List schema.Block) → IndexesBlocks kept tree.now.entries
         → AreMoved spec.now (branch kept parent) block.now outcome.now.interest outcome.now.freed
         → result ≡ rules.has_next_dao spec.now (branch kept parent) block.now }
@@ -219,9 +215,7 @@ pub(crate) fn judge_end<C: Cells, B: Blocks>(
     block: &BlockView<'_>,
     outcome: &Outcome,
 ) -> Result<(), JudgeStop>
-    requires parent { context.now.parent < length context.now.tree.now.entries }
-    requires few { length context.now.tree.now.entries < 2 ^ 24 }
-    requires rated { AreRated context.now.tree.now.entries }
+    requires placed { IsParent context.now.tree.now.entries context.now.parent }
     requires counts { B.count blocks.old ≡ length context.now.tree.now.entries }
     requires some { 0 < length block.now.transactions }
     ensures read { HasRead B.told B.count B.loans_of B.faults B.damages blocks.old blocks.new (read_stop_of result) }

@@ -1,5 +1,5 @@
 // A block judged by all rules, and a transaction judged alone.
-ghost use Rattle.std.specs.Prelude.{◌≡◌, ◌-◌, ◌<◌, ◌^◌, List, Option, None, Some, Err, IfOk, IsTrue, length, map};
+ghost use Rattle.std.specs.Prelude.{◌≡◌, ◌-◌, ◌<◌, List, Option, None, Some, Err, IfOk, IsTrue, length, map};
 ghost use Rattle.outside.specs.declared.disk.Damage.{Damage};
 ghost use Rattle.outside.specs.declared.disk.ReadStop.TheVariants.{Damaged};
 ghost use Rattle.codec_defs.specs.Schema.{OutPoint};
@@ -14,7 +14,7 @@ ghost use Rattle.script_defs.specs.Rules.{cycles_of};
 ghost use Rattle.script_defs.specs.Scene.{scene_of};
 ghost use Rattle.tx_defs.specs.Rules.{has_form};
 ghost use Rattle.tx_rules.specs.At.{spends_rows};
-ghost use Rattle.chain_tree.specs.Blocks.{AreRated};
+ghost use Rattle.chain_tree.specs.Blocks.{IsParent};
 ghost use Rattle.block_defs.specs.Ext.{ext_of};
 ghost use Rattle.time_defs.specs.Dao.{is_rated};
 ghost use Rattle.block_defs.specs.Rules.{first_broken, broken_in_dry_run};
@@ -49,9 +49,7 @@ pub fn judge<C: Cells, B: Blocks>(
     block: &BlockView<'_>,
     hashes: &[[u8; 32]],
 ) -> Result<Ext, JudgeStop>
-    requires parent { context.now.parent < length context.now.tree.now.entries }
-    requires few { length context.now.tree.now.entries < 2 ^ 24 }
-    requires rated { AreRated context.now.tree.now.entries }
+    requires placed { IsParent context.now.tree.now.entries context.now.parent }
     requires counts { B.count blocks.old ≡ length context.now.tree.now.entries }
     requires hashes { hashes.now ≡ map transaction_hash block.now.transactions }
     requires some { 0 < length block.now.transactions }
@@ -102,9 +100,7 @@ pub fn dry_run<C: Cells, B: Blocks>(
     blocks: &mut B,
     tx: &TxView<'_>,
 ) -> Result<(u64, u64), JudgeStop>
-    requires parent { context.now.parent < length context.now.tree.now.entries }
-    requires few { length context.now.tree.now.entries < 2 ^ 24 }
-    requires rated { AreRated context.now.tree.now.entries }
+    requires placed { IsParent context.now.tree.now.entries context.now.parent }
     requires counts { B.count blocks.old ≡ length context.now.tree.now.entries }
     ensures read { HasRead B.told B.count B.loans_of B.faults B.damages blocks.old blocks.new (read_stop_of result) }
     ensures tried { (rule : Rule) → result ≡ Err (Broken rule) → IsTriedAlone (rule_number rule) }

@@ -1,5 +1,5 @@
 -- Entries that stand for kept blocks, each at its block's place.
-use Rattle.std.specs.Prelude.{◌≡◌, ℕ, ◌<◌, List, Some, IfSome, IsTrue}
+use Rattle.std.specs.Prelude.{◌≡◌, ℕ, ◌^◌, ◌<◌, List, length, Some, IfSome, IsTrue}
 use Rattle.std.specs.List.{AllZip}
 use Rattle.codec_defs.specs.Schema.{Block}
 use Rattle.time_defs.specs.Dao.{is_rated}
@@ -24,3 +24,10 @@ pub record IndexesBlocks (kept : List Block) (entries : List Entry) : Type 0 whe
 -- The DAO field of each entry is rated.
 abbrev pub AreRated : List Entry → Type 0
 AreRated entries = (place : ℕ) (entry : Entry) → entry_at entries place ≡ Some entry → IsTrue (is_rated entry.dao)
+
+-- What a caller sees to, of an entry on which a block or a transaction is judged: it is there, heights are numbers of 24 bits, and the DAO fields
+-- are rated.
+pub record IsParent (entries : List Entry) (parent : ℕ) : Type 0 where
+  pub parent : parent < length entries
+  pub few : length entries < 2 ^ 24
+  pub rated : AreRated entries

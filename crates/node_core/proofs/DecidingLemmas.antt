@@ -18,7 +18,7 @@ use Rattle.cell_defs.specs.Ext.{Ext}
 use Rattle.cell_defs.specs.Row.{Row, live_row}
 use Rattle.cell_state.specs.State.{StateValue, rows}
 use Rattle.chain_tree.specs.declared.entry.Entry.{Entry}
-use Rattle.chain_tree.specs.Blocks.{IndexesBlocks}
+use Rattle.chain_tree.specs.Blocks.{IndexesBlocks, IsParent}
 use Rattle.chain_tree.specs.Told.{Stored, blocks_of}
 use Rattle.chain_tree.proofs.BlockLemmas.{len-same}
 use Rattle.uncle_rules.specs.Embedded.{UnclesValue}
@@ -83,6 +83,11 @@ as-many stored entries index are =
 pub few-entries : (stored : List Stored) (entries : List Entry) (index : UnclesValue) → AreKept stored entries index → length entries < 2 ^ 24
 few-entries stored entries index are =
     omega (arith, few-heights (length stored) are.few, as-many stored entries index are)
+
+-- an entry of what is kept is one on which a block can be judged
+pub kept-parent : (stored : List Stored) (entries : List Entry) (index : UnclesValue) (place : ℕ) → AreKept stored entries index → place < length entries
+    → IsParent entries place
+kept-parent stored entries index place are within = record { parent = within; few = few-entries stored entries index are; rated = are.rated }
 
 -- a place of a block
 pub within-entries : (kept blocks : List Block) (entries : List Entry) (place : ℕ) → kept ≡ blocks → IndexesBlocks kept entries → place < length blocks

@@ -1,9 +1,8 @@
 -- The rules on one transaction behind the cellbase, as rows of a list, in the order in which they are tried. A row has the rule's number and
 -- whether the transaction keeps it (docs/RULES.md, "A block").
-use Rattle.std.specs.Prelude.{ℕ, Bool, ◌&&◌, ◌==◌, nat_lt, List, [], ◌∷◌, ◌++◌, map, length, Option}
+use Rattle.std.specs.Prelude.{ℕ, Bool, ◌&&◌, ◌==◌, nat_lt, List, [], ◌∷◌, map, length}
 use Rattle.codec_defs.specs.Shape.{encoded}
 use Rattle.codec_defs.specs.Schema.{Transaction, cell_dep}
-use Rattle.fold_defs.specs.First.{first_failing}
 use Rattle.chain_defs.specs.Hashes.{are_distinct}
 use Rattle.cell_defs.specs.Cell.{pairs_data}
 use Rattle.tx_defs.specs.Site.{Site}
@@ -36,7 +35,3 @@ cell_rules site t =
     ∷ (26, names_deposits site t)
     ∷ (27, balances site t)
     ∷ []
-
--- The first rule that it breaks.
-unfoldable pub broken_transaction_rule : Site → Transaction → Option ℕ
-broken_transaction_rule site t = first_failing (form_rules t ++ cell_rules site t)

@@ -1,5 +1,5 @@
 // A block that is assembled.
-ghost use Rattle.std.specs.Prelude.{◌≡◌, ◌==◌, ◌<◌, ◌≤◌, ◌^◌, ℕ, List, Option, length, map, is_some, if◌then◌else◌, Some, None, Err, IfOk, IsTrue};
+ghost use Rattle.std.specs.Prelude.{◌≡◌, ◌==◌, ◌<◌, ◌≤◌, ℕ, List, Option, length, map, is_some, if◌then◌else◌, Some, None, Err, IfOk, IsTrue};
 ghost use Rattle.std.specs.List.{All, list_any};
 ghost use Rattle.outside.specs.declared.disk.Damage.{Damage};
 ghost use Rattle.outside.specs.declared.disk.ReadStop.TheVariants.{Damaged};
@@ -10,7 +10,7 @@ ghost use Rattle.chain_defs.specs.Branch.{branch};
 ghost use Rattle.chain_defs.specs.Tip.{tip_place};
 ghost use Rattle.chain_tree.specs.Told.{Stored, blocks_of};
 ghost use Rattle.chain_tree.specs.Reading.{HasRead, stop_of};
-ghost use Rattle.chain_tree.specs.Blocks.{AreRated};
+ghost use Rattle.chain_tree.specs.Blocks.{IsParent};
 ghost use Rattle.block_defs.specs.Rules.{first_broken};
 ghost use Rattle.block_judge.specs.Standing.{StandsForAll, seen};
 ghost use Rattle.verdict_defs.specs.Chain.{verdict_over};
@@ -55,9 +55,7 @@ fn broken_by<C: Cells, B: Blocks>(
     blocks: &mut B,
     block: &BlockView<'_>,
 ) -> Result<Option<u8>, ReadStop>
-    requires parent { context.now.parent < length context.now.tree.now.entries }
-    requires few { length context.now.tree.now.entries < 2 ^ 24 }
-    requires rated { AreRated context.now.tree.now.entries }
+    requires placed { IsParent context.now.tree.now.entries context.now.parent }
     requires counts { B.count blocks.old ≡ length context.now.tree.now.entries }
     ensures read { HasRead B.told B.count B.loans_of B.faults B.damages blocks.old blocks.new (stop_of result) }
     ensures broken { (stored : List Stored) → B.told blocks.old ≡ Some stored → StandsForAll stored (seen C.rows context.now)
@@ -96,9 +94,7 @@ fn make_block<C: Cells, B: Blocks>(
     witness: &CellbaseWitnessView<'_>,
     items: &[Vec<u8>],
 ) -> Result<(Vec<Line>, Vec<u8>), ReadStop>
-    requires parent { context.now.parent < length context.now.tree.now.entries }
-    requires few { length context.now.tree.now.entries < 2 ^ 24 }
-    requires rated { AreRated context.now.tree.now.entries }
+    requires placed { IsParent context.now.tree.now.entries context.now.parent }
     requires counts { B.count blocks.old ≡ length context.now.tree.now.entries }
     requires items { length items.now ≤ most_items }
     requires bytes { All (λ item. length item.items ≤ most_bytes) items.now }
@@ -173,9 +169,7 @@ pub fn assemble<C: Cells, B: Blocks>(
     witness: &CellbaseWitnessView<'_>,
     items: &[Vec<u8>],
 ) -> Result<Assembled, ReadStop>
-    requires parent { context.now.parent < length context.now.tree.now.entries }
-    requires few { length context.now.tree.now.entries < 2 ^ 24 }
-    requires rated { AreRated context.now.tree.now.entries }
+    requires placed { IsParent context.now.tree.now.entries context.now.parent }
     requires counts { B.count blocks.old ≡ length context.now.tree.now.entries }
     requires items { length items.now ≤ most_items }
     requires bytes { All (λ item. length item.items ≤ most_bytes) items.now }

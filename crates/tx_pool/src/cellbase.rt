@@ -6,7 +6,7 @@ ghost use Rattle.codec_defs.specs.Shape.{IsA, encoded};
 ghost use Rattle.codec_defs.specs.Schema as schema;
 ghost use Rattle.chain_defs.specs.Kept.{block_at};
 ghost use Rattle.chain_defs.specs.Branch.{branch};
-ghost use Rattle.chain_tree.specs.Blocks.{AreRated, IndexesBlocks};
+ghost use Rattle.chain_tree.specs.Blocks.{IsParent, IndexesBlocks};
 ghost use Rattle.chain_tree.specs.Told.{Stored, blocks_of};
 ghost use Rattle.chain_tree.specs.Reading.{HasRead, stop_of};
 ghost use Rattle.reward_defs.specs.Payment as payment;
@@ -112,9 +112,7 @@ pub(crate) fn cellbase_after<B: Blocks>(
     parent: u32,
     witness: &CellbaseWitnessView<'_>,
 ) -> Result<Vec<u8>, ReadStop>
-    requires parent { parent < length tree.now.entries }
-    requires few { length tree.now.entries < 2 ^ 24 }
-    requires rated { AreRated tree.now.entries }
+    requires placed { IsParent tree.now.entries parent }
     requires counts { B.count blocks.old ≡ length tree.now.entries }
     requires witness { length (encoded schema.cellbase_witness witness.now) < 2 ^ 28 }
     ensures read { HasRead B.told B.count B.loans_of B.faults B.damages blocks.old blocks.new (stop_of result) }

@@ -11,7 +11,7 @@ ghost use Rattle.codec_defs.specs.Shape.{IsA, encoded};
 ghost use Rattle.codec_defs.specs.Schema as schema;
 ghost use Rattle.chain_defs.specs.Branch.{branch};
 ghost use Rattle.chain_defs.specs.Hashes as hashes;
-ghost use Rattle.chain_tree.specs.Blocks.{AreRated};
+ghost use Rattle.chain_tree.specs.Blocks.{IsParent};
 ghost use Rattle.chain_tree.specs.Told.{Stored, blocks_of};
 ghost use Rattle.chain_tree.specs.Reading.{HasRead, stop_of};
 ghost use Rattle.family_defs.specs.Cellbase as rules;
@@ -189,9 +189,7 @@ impl<'c, 'a, C: Cells> Draft<'c, 'a, C> {
         hash: &[u8; 32],
     ) -> Result<Line, ReadStop>
         requires hash { hash.now ≡ hashes.transaction_hash tx.now }
-        requires parent { context.now.parent < length context.now.tree.now.entries }
-        requires few { length context.now.tree.now.entries < 2 ^ 24 }
-        requires rated { AreRated context.now.tree.now.entries }
+        requires placed { IsParent context.now.tree.now.entries context.now.parent }
         requires counts { B.count blocks.old ≡ length context.now.tree.now.entries }
         requires fits { Fits (draft_of C.rows self.old) }
         requires room { length self.old.lines.items < most_items }
@@ -246,9 +244,7 @@ impl<'c, 'a, C: Cells> Draft<'c, 'a, C> {
         proposed: &Proposed,
         tx: &TxView<'a>,
     ) -> Result<Line, ReadStop>
-        requires parent { context.now.parent < length context.now.tree.now.entries }
-        requires few { length context.now.tree.now.entries < 2 ^ 24 }
-        requires rated { AreRated context.now.tree.now.entries }
+        requires placed { IsParent context.now.tree.now.entries context.now.parent }
         requires counts { B.count blocks.old ≡ length context.now.tree.now.entries }
         requires fits { Fits (draft_of C.rows self.old) }
         requires room { length self.old.lines.items < most_items }
@@ -288,9 +284,7 @@ impl<'c, 'a, C: Cells> Draft<'c, 'a, C> {
         proposed: &Proposed,
         item: &'a [u8],
     ) -> Result<Line, ReadStop>
-        requires parent { context.now.parent < length context.now.tree.now.entries }
-        requires few { length context.now.tree.now.entries < 2 ^ 24 }
-        requires rated { AreRated context.now.tree.now.entries }
+        requires placed { IsParent context.now.tree.now.entries context.now.parent }
         requires counts { B.count blocks.old ≡ length context.now.tree.now.entries }
         requires fits { Fits (draft_of C.rows self.old) }
         requires room { length self.old.lines.items < most_items }
@@ -321,9 +315,7 @@ impl<'c, 'a, C: Cells> Draft<'c, 'a, C> {
         proposed: &Proposed,
         item: &'a [u8],
     ) -> Result<(), ReadStop>
-        requires parent { context.now.parent < length context.now.tree.now.entries }
-        requires few { length context.now.tree.now.entries < 2 ^ 24 }
-        requires rated { AreRated context.now.tree.now.entries }
+        requires placed { IsParent context.now.tree.now.entries context.now.parent }
         requires counts { B.count blocks.old ≡ length context.now.tree.now.entries }
         requires fits { Fits (draft_of C.rows self.old) }
         requires room { length self.old.lines.items < most_items }
@@ -358,9 +350,7 @@ impl<'c, 'a, C: Cells> Draft<'c, 'a, C> {
         proposed: &Proposed,
         items: &'a [Vec<u8>],
     ) -> Result<(), ReadStop>
-        requires parent { context.now.parent < length context.now.tree.now.entries }
-        requires few { length context.now.tree.now.entries < 2 ^ 24 }
-        requires rated { AreRated context.now.tree.now.entries }
+        requires placed { IsParent context.now.tree.now.entries context.now.parent }
         requires counts { B.count blocks.old ≡ length context.now.tree.now.entries }
         requires fits { Fits (draft_of C.rows self.old) }
         requires none { self.old.lines.items ≡ [] }

@@ -3,7 +3,7 @@ ghost use Rattle.std.specs.Prelude.{◌≡◌, ◌<◌, ◌^◌, List, length, I
 ghost use Rattle.codec_defs.specs.Shape.{IsA};
 ghost use Rattle.codec_defs.specs.Schema as schema;
 ghost use Rattle.chain_defs.specs.Branch.{branch};
-ghost use Rattle.chain_tree.specs.Blocks.{AreRated, IndexesBlocks};
+ghost use Rattle.chain_tree.specs.Blocks.{IsParent, IndexesBlocks};
 ghost use Rattle.reward_defs.specs.Field as field;
 ghost use Rattle.block_judge.specs.Progress.{AreMoved};
 ghost use Rattle.pool_defs.specs.Start as start;
@@ -38,9 +38,7 @@ fn dao_after(
     interest: i128,
     freed: u128,
 ) -> Option<Dao>
-    requires parent { parent < length tree.now.entries }
-    requires few { length tree.now.entries < 2 ^ 24 }
-    requires rated { AreRated tree.now.entries }
+    requires placed { IsParent tree.now.entries parent }
     ensures { (kept : List schema.Block) → IndexesBlocks kept tree.now.entries → AreMoved spec.now (branch kept parent) block.now interest freed
         → result ≡ field.next_dao spec.now (branch kept parent) block.now }
 {
@@ -77,9 +75,7 @@ fn commitments_of(
     interest: i128,
     freed: u128,
 ) -> Result<Commitments, NoMemory>
-    requires parent { parent < length tree.now.entries }
-    requires few { length tree.now.entries < 2 ^ 24 }
-    requires rated { AreRated tree.now.entries }
+    requires placed { IsParent tree.now.entries parent }
     ensures { (kept : List schema.Block) → IndexesBlocks kept tree.now.entries → AreMoved spec.now (branch kept parent) block.now interest freed
         → IfOk result (λ commitments. commitments ≡ commitments_to spec.now (branch kept parent) block.now) }
 {
@@ -136,9 +132,7 @@ pub(crate) fn sealed(
     interest: i128,
     freed: u128,
 ) -> Result<Vec<u8>, NoMemory>
-    requires parent { parent < length tree.now.entries }
-    requires few { length tree.now.entries < 2 ^ 24 }
-    requires rated { AreRated tree.now.entries }
+    requires placed { IsParent tree.now.entries parent }
     requires size { size_with transactions.now ids.now < 2 ^ 32 }
     ensures canonical { IfOk result (λ bytes. (b : schema.Block) × IsA schema.block bytes.items b) }
     ensures sealed { (kept : List schema.Block) (b : schema.Block) → IndexesBlocks kept tree.now.entries

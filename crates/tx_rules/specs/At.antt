@@ -1,5 +1,5 @@
 -- Where a transaction is judged, as the code is handed it, and what that stands for.
-use Rattle.std.specs.Prelude.{◌≡◌, ◌⊎◌, ℕ, ◌^◌, ◌<◌, nat_lt, Bool, is_some, List, map, length, Option, Some, None, if◌then◌else◌, slice_index, IsTrue, IsSome}
+use Rattle.std.specs.Prelude.{◌≡◌, ◌⊎◌, ℕ, ◌<◌, nat_lt, Bool, is_some, List, map, length, Option, Some, None, if◌then◌else◌, slice_index, IsTrue, IsSome}
 use Rattle.std.specs.Option.{option_map}
 use Rattle.std.specs.List.{All}
 use Rattle.codec_defs.specs.Schema.{OutPoint, Transaction, Block}
@@ -7,7 +7,7 @@ use Rattle.time_defs.specs.Specification.{Specification}
 use Rattle.chain_defs.specs.Kept.{block_at}
 use Rattle.chain_defs.specs.Branch.{branch, branch_places}
 use Rattle.chain_tree.specs.declared.entry.Entry.{Entry}
-use Rattle.chain_tree.specs.Blocks.{IndexesBlocks, AreRated}
+use Rattle.chain_tree.specs.Blocks.{IndexesBlocks, IsParent}
 use Rattle.chain_tree.specs.Told.{Stored, blocks_of}
 use Rattle.cell_defs.specs.Cell.{Cell, holds_its_own}
 use Rattle.cell_defs.specs.Row.{Row, row_of, IsOutputOf}
@@ -21,11 +21,9 @@ pub record AtValue : Type 0 where
   pub parent : ℕ
   pub block : Option Block
 
--- What a caller sees to: the parent is an entry, the heights are numbers of 24 bits, and the entries are rated.
-pub record IsPlaced (at : AtValue) : Type 0 where
-  pub parent : at.parent < length at.entries
-  pub few : length at.entries < 2 ^ 24
-  pub rated : AreRated at.entries
+-- What a caller sees to of the parent.
+abbrev pub IsPlaced : AtValue → Type 0
+IsPlaced at = IsParent at.entries at.parent
 
 -- ---- What it stands for
 

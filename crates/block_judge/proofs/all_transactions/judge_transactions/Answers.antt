@@ -99,7 +99,7 @@ later-preserved g c = record {
       let site : Site = site_at c.args.context.now.spec.now (branch (blocks_of stored) c.args.context.now.parent) c.args.block.now c.later.place in
       let is = site-in_block stored at c.args.block.now c.later.place (g.C.Cells.rows c.args.context.now.cells.now)
       (rows_in g.C.Cells.rows c.later.progress.cells)
-      (ap Some (c.of_block.ensures ∙ c.from_encoding.ensures c.args.block.now c.bytes.ensures)) c.requires.parent stands c.later.invariant.rows in
+      (ap Some (c.of_block.ensures ∙ c.from_encoding.ensures c.args.block.now c.bytes.ensures)) c.requires.placed.parent stands c.later.invariant.rows in
       let proposed = proposed-here c.args.context.now.spec.now (branch (blocks_of stored) c.args.context.now.parent) c.in-Ok.proposed c.height.result
       (c.in-Ok.ensures.proposed stored tells stands.indexed) (c.height.ensures.height stored _ site is) in
       judged-more c.args.context.now.spec.now (blocks_of stored) c.args.context.now.parent c.args.block.now c.later.place c.later.progress.left c.judge_next.new.self.left
@@ -113,7 +113,7 @@ later-preserved g c = record {
       let site : Site = site_at c.args.context.now.spec.now (branch (blocks_of stored) c.args.context.now.parent) c.args.block.now c.later.place in
       let is = site-in_block stored at c.args.block.now c.later.place (g.C.Cells.rows c.args.context.now.cells.now)
       (rows_in g.C.Cells.rows c.later.progress.cells)
-      (ap Some (c.of_block.ensures ∙ c.from_encoding.ensures c.args.block.now c.bytes.ensures)) c.requires.parent stands c.later.invariant.rows in
+      (ap Some (c.of_block.ensures ∙ c.from_encoding.ensures c.args.block.now c.bytes.ensures)) c.requires.placed.parent stands c.later.invariant.rows in
       moved-more c.args.context.now.spec.now (branch (blocks_of stored) c.args.context.now.parent) c.args.block.now c.later.place c.transactions_item-tx.result
       c.later.progress.interest c.judge_next.new.self.interest c.later.progress.freed c.judge_next.new.self.freed (c.later.invariant.moved stored tells stands)
       c.transactions_item-tx.ensures (c.in-Ok-judge_next.ensures.interest stored site (c.later.invariant.read.told ∙ tells) is)
@@ -130,7 +130,7 @@ returns-in-Err-judge_next g c =
           let site : Site = site_at c.args.context.now.spec.now (branch (blocks_of stored) c.args.context.now.parent) c.args.block.now c.later.place in
           let is = site-in_block stored at c.args.block.now c.later.place (g.C.Cells.rows c.args.context.now.cells.now)
           (rows_in g.C.Cells.rows c.later.progress.cells)
-          (ap Some (c.of_block.ensures ∙ c.from_encoding.ensures c.args.block.now c.bytes.ensures)) c.requires.parent stands c.later.invariant.rows in
+          (ap Some (c.of_block.ensures ∙ c.from_encoding.ensures c.args.block.now c.bytes.ensures)) c.requires.placed.parent stands c.later.invariant.rows in
           let proposed = proposed-here c.args.context.now.spec.now (branch (blocks_of stored) c.args.context.now.parent) c.in-Ok.proposed c.height.result
           (c.in-Ok.ensures.proposed stored tells stands.indexed) (c.height.ensures.height stored _ site is) in
           judged-breaks c.args.context.now.spec.now (blocks_of stored) c.args.context.now.parent c.args.block.now c.later.place c.later.progress.left c.later.progress.ext
@@ -144,7 +144,7 @@ returns-in-Err-judge_next g c =
           let site : Site = site_at c.args.context.now.spec.now (branch (blocks_of stored) c.args.context.now.parent) c.args.block.now c.later.place in
           let is = site-in_block stored at c.args.block.now c.later.place (g.C.Cells.rows c.args.context.now.cells.now)
           (rows_in g.C.Cells.rows c.later.progress.cells)
-          (ap Some (c.of_block.ensures ∙ c.from_encoding.ensures c.args.block.now c.bytes.ensures)) c.requires.parent stands c.later.invariant.rows in
+          (ap Some (c.of_block.ensures ∙ c.from_encoding.ensures c.args.block.now c.bytes.ensures)) c.requires.placed.parent stands c.later.invariant.rows in
           c.in-Err-judge_next.ensures.undamaged stored site (c.later.invariant.read.told ∙ tells) is damage (as_step same);
     }
 

@@ -14,7 +14,7 @@ use Rattle.block_judge.proofs.ending.has_next_dao.Goals as goal
 pub next_field-requires : goal.next_field-requires
 next_field-requires c =
     subst (λ (field : DaoField). 0 < field.issued) (sym c.read.ensures.field)
-    (rated-parts c.entry-before.result.now.dao (c.requires.rated c.args.parent c.entry-before.result.now c.entry-before.ensures.entry)).0
+    (rated-parts c.entry-before.result.now.dao (c.requires.placed.rated c.args.parent c.entry-before.result.now c.entry-before.ensures.entry)).0
 
 pub returns-in-Some-clause-next : goal.returns-in-Some-clause-next
 returns-in-Some-clause-next c kept indexes moved =
@@ -30,7 +30,7 @@ pub returns-in-Some-clause-rated : goal.returns-in-Some-clause-rated
 returns-in-Some-clause-rated c same =
     let own : c.dao.result.now ≡ c.args.block.now.header.dao = c.dao.ensures.value ∙ ap (λ (header : Header). header.dao) c.header.ensures in
     let written : c.as_slice.result.now ≡ field_bytes c.in-Some.dao = c.as_slice.ensures ∙ c.write.ensures.bytes in
-    let parts = rated-parts c.entry-before.result.now.dao (c.requires.rated c.args.parent c.entry-before.result.now c.entry-before.ensures.entry) in
+    let parts = rated-parts c.entry-before.result.now.dao (c.requires.placed.rated c.args.parent c.entry-before.result.now c.entry-before.ensures.entry) in
     rated-next c.read.result c.movement_of-movement.result (Some c.in-Some.dao) c.args.block.now.header.dao (sym c.in-Some.ensures)
     (subst (λ (field : DaoField). 0 < field.issued) (sym c.read.ensures.field) parts.0) (subst (λ (field : DaoField). 0 < field.rate) (sym c.read.ensures.field) parts.1)
     (subst (λ (b : Bool). IsTrue b)

@@ -29,7 +29,7 @@ returns-in-Ok-Some-clause-pays g c stored tells indexes own =
     if-ok _ _ c.pays_at.result
     (λ pays is. pays-found c.args.spec.now (branch (blocks_of stored) c.args.parent) c.args.block.now c.transactions_item.result target c.in-Ok-Some.reward _ pays
     c.transactions_item.ensures late at (sym c.in-Ok-Some.field-0-is ∙ c.in-Ok-Some.ensures.reward stored tells indexes own)
-    (block-up (blocks_of stored) c.args.tree.now.entries c.args.parent target c.ancestor.result indexes c.requires.parent (c.ancestor.ensures.of_blocks (blocks_of stored) indexes))
+    (block-up (blocks_of stored) c.args.tree.now.entries c.args.parent target c.ancestor.result indexes c.requires.placed.parent (c.ancestor.ensures.of_blocks (blocks_of stored) indexes))
     (is ∙ ap (λ (raw : RawTransaction). are_owed (owed_to (lock_of (block_at (blocks_of stored) c.ancestor.result)) c.in-Ok-Some.reward) raw.outputs) c.raw-cellbase.ensures))
     (c.pays_at.ensures.pays stored (c.reward.ensures.read.told ∙ tells))
 

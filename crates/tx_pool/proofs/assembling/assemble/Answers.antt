@@ -27,7 +27,7 @@ returns-clause-joins g c stored tells stands top room b same unbroken =
     (λ b isa. c.in-Ok-broken_by.ensures.broken stored (c.in-Ok.ensures.read.told ∙ tells) stands
     ∙ ap (λ (it : Block). cond (is_some (place_of (blocks_of stored) (block_hash it))) (Some 2) (first_broken c.args.context.now.spec.now (branch (blocks_of stored) c.args.context.now.parent) it))
     (c.from_encoding.ensures b (bytes-as schema.block _ _ b c.deref.ensures.value isa)))
-    b same (founded (blocks_of stored) c.args.context.now.tree.now.entries c.args.context.now.parent stands.stands.indexed c.requires.parent) room unbroken
+    b same (founded (blocks_of stored) c.args.context.now.tree.now.entries c.args.context.now.parent stands.stands.indexed c.requires.placed.parent) room unbroken
 
 pub returns-clause-breaks_few : goal.returns-clause-breaks_few
 returns-clause-breaks_few g c stored tells stands top rule broke =
@@ -37,4 +37,4 @@ returns-clause-breaks_few g c stored tells stands top rule broke =
     (λ b isa. c.in-Ok-broken_by.ensures.broken stored (c.in-Ok.ensures.read.told ∙ tells) stands
     ∙ ap (λ (it : Block). cond (is_some (place_of (blocks_of stored) (block_hash it))) (Some 2) (first_broken c.args.context.now.spec.now (branch (blocks_of stored) c.args.context.now.parent) it))
     (c.from_encoding.ensures b (bytes-as schema.block _ _ b c.deref.ensures.value isa)))
-    rule (founded (blocks_of stored) c.args.context.now.tree.now.entries c.args.context.now.parent stands.stands.indexed c.requires.parent) broke
+    rule (founded (blocks_of stored) c.args.context.now.tree.now.entries c.args.context.now.parent stands.stands.indexed c.requires.placed.parent) broke

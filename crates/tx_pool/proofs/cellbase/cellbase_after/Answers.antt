@@ -30,7 +30,7 @@ returns-in-Ok-Some-clause-cellbase g c stored tells indexes own =
     (λ bytes is. subst (λ (t : Transaction). IsA transaction bytes.items t)
     (cellbase-found c.args.spec.now (branch (blocks_of stored) c.args.parent) (c.entry.result.now.number + 1) target c.in-Ok-Some.reward _ c.args.witness.now long late at
     (sym c.in-Ok-Some.field-0-is ∙ c.in-Ok-Some.ensures.reward stored tells indexes own)
-    (block-up (blocks_of stored) c.args.tree.now.entries c.args.parent target c.ancestor.result indexes c.requires.parent (c.ancestor.ensures.of_blocks (blocks_of stored) indexes))) is)
+    (block-up (blocks_of stored) c.args.tree.now.entries c.args.parent target c.ancestor.result indexes c.requires.placed.parent (c.ancestor.ensures.of_blocks (blocks_of stored) indexes))) is)
     (c.cellbase_at.ensures.cellbase stored (c.reward.ensures.read.told ∙ tells))
 
 pub returns-in-Ok-None-clause-cellbase : goal.returns-in-Ok-None-clause-cellbase

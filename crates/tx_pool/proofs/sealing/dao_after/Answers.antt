@@ -14,7 +14,7 @@ use Rattle.tx_pool.proofs.sealing.dao_after.Goals as goal
 pub next_field-requires : goal.next_field-requires
 next_field-requires c =
     subst (λ (field : DaoField). 0 < field.issued) (sym c.read.ensures.field)
-    (rated-parts c.entry-before.result.now.dao (c.requires.rated c.args.parent c.entry-before.result.now c.entry-before.ensures.entry)).0
+    (rated-parts c.entry-before.result.now.dao (c.requires.placed.rated c.args.parent c.entry-before.result.now c.entry-before.ensures.entry)).0
 
 pub returns : goal.returns
 returns c kept indexes moved =

@@ -7,13 +7,13 @@ use Rattle.verdict_defs.specs.Verdict.{joins}
 use Rattle.pool_defs.specs.Assembly.{assembled}
 use Rattle.tx_pool.specs.Assembling.{IsAssembled, chain_on}
 use Rattle.node_core.specs.Node.{KeptValue}
-use Rattle.node_core.proofs.DecidingLemmas.{few-entries, whole-at-tip, joins-made}
+use Rattle.node_core.proofs.DecidingLemmas.{kept-parent, whole-at-tip, joins-made}
 use Rattle.node_core.proofs.SourceLemmas.{told-stored, counts-entries}
 use Rattle.node_core.proofs.kept.Kept.assemble.Goals as goal
 
-pub assemble-requires-clause-few : goal.assemble-requires-clause-few
-assemble-requires-clause-few g c =
-    few-entries c.self.inside.blocks.stored c.self.inside.tree.entries c.self.inside.uncles c.self.invariant
+pub assemble-requires-clause-placed : goal.assemble-requires-clause-placed
+assemble-requires-clause-placed g c =
+    kept-parent c.self.inside.blocks.stored c.self.inside.tree.entries c.self.inside.uncles c.tip.result c.self.invariant c.tip.ensures.within
 
 pub assemble-requires-clause-counts : goal.assemble-requires-clause-counts
 assemble-requires-clause-counts g c =

@@ -8,13 +8,13 @@ use Rattle.verdict_defs.specs.declared.trial.Trial.TheVariants.{Passes, Refused}
 use Rattle.store_defs.specs.Store.{IsJoined}
 use Rattle.rule_names.specs.Number.{rule_number}
 use Rattle.node_core.specs.Node.{KeptValue, AreOfTip}
-use Rattle.node_core.proofs.DecidingLemmas.{few-entries, stands-tip, trial-refused, trial-passes-else}
+use Rattle.node_core.proofs.DecidingLemmas.{kept-parent, stands-tip, trial-refused, trial-passes-else}
 use Rattle.node_core.proofs.SourceLemmas.{told-stored, counts-entries}
 use Rattle.node_core.proofs.kept.Kept.check.Goals as goal
 
-pub dry_run-requires-clause-few : goal.dry_run-requires-clause-few
-dry_run-requires-clause-few g c =
-    few-entries c.self.inside.blocks.stored c.self.inside.tree.entries c.self.inside.uncles c.self.invariant
+pub dry_run-requires-clause-placed : goal.dry_run-requires-clause-placed
+dry_run-requires-clause-placed g c =
+    kept-parent c.self.inside.blocks.stored c.self.inside.tree.entries c.self.inside.uncles c.tip.result c.self.invariant c.tip.ensures.within
 
 pub dry_run-requires-clause-counts : goal.dry_run-requires-clause-counts
 dry_run-requires-clause-counts g c =

@@ -13,18 +13,16 @@ use Rattle.verdict_defs.specs.Chain.{Chain}
 use Rattle.verdict_defs.specs.declared.verdict.Verdict.TheVariants.{Refused}
 use Rattle.rule_names.specs.Number.{rule_number}
 use Rattle.node_core.specs.Node.{KeptValue}
-use Rattle.node_core.proofs.DecidingLemmas.{few-entries, within-entries, whole-at-hand, room-for, may-be-kept, is-judged, verdict-refused, verdict-full}
+use Rattle.node_core.proofs.DecidingLemmas.{kept-parent, within-entries, whole-at-hand, room-for, may-be-kept, is-judged, verdict-refused, verdict-full}
 use Rattle.node_core.proofs.SourceLemmas.{told-stored, counts-entries, same_stop}
 use Rattle.node_core.proofs.kept.Kept.judge_on.Goals as goal
 
-pub judge-requires-clause-parent : goal.judge-requires-clause-parent
-judge-requires-clause-parent g c =
-    within-entries (blocks_of c.self.inside.blocks.stored) c.args.self.now.chain.blocks c.self.inside.tree.entries c.args.entry.parent
+pub judge-requires-clause-placed : goal.judge-requires-clause-placed
+judge-requires-clause-placed g c =
+    kept-parent c.self.inside.blocks.stored c.self.inside.tree.entries c.self.inside.uncles c.args.entry.parent c.self.invariant
+    (within-entries (blocks_of c.self.inside.blocks.stored) c.args.self.now.chain.blocks c.self.inside.tree.entries c.args.entry.parent
     (ap (λ (v : KeptValue). v.chain.blocks) c.self.view_is) c.self.invariant.indexed
-    (place_of-below c.args.self.now.chain.blocks c.args.block.now.header.parent_hash c.args.entry.parent c.requires.entry.on_kept)
-
-pub judge-requires-clause-few : goal.judge-requires-clause-few
-judge-requires-clause-few g c = few-entries c.self.inside.blocks.stored c.self.inside.tree.entries c.self.inside.uncles c.self.invariant
+    (place_of-below c.args.self.now.chain.blocks c.args.block.now.header.parent_hash c.args.entry.parent c.requires.entry.on_kept))
 
 pub judge-requires-clause-counts : goal.judge-requires-clause-counts
 judge-requires-clause-counts g c =
