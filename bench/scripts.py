@@ -41,8 +41,8 @@ def rows(code, cycles, calls):
     output = cell_output(10 ** 12, script(ckbhash(code)))
     raw = raw_transaction([cell_input(NULL_OUT_POINT)], [output], [b''], [out_point(ckbhash(b'dep'), 0) + b'\0'])
     genesis = encoding.block(encoding.header())
-    lines = [('spec', specification(W_FAR)), ('genesis', genesis), ('blob', output), ('blob', b''), ('blob', code),
-             ('rounds', str(calls), 'ok %d' % cycles, BUDGET, encoding.transaction(raw), '0,0,0,1', '0,0,0,2', '-')]
+    lines = [('spec', specification(W_FAR)), ('genesis', genesis), ('blob', 'output', output), ('blob', 'none', b''), ('blob', 'code', code),
+             ('rounds', str(calls), 'ok %d' % cycles, BUDGET, encoding.transaction(raw), '0,0,output,none', '0,0,output,code', '-')]
     return ''.join('\t'.join(it if isinstance(it, str) else it.hex() for it in line) + '\n' for line in lines)
 
 

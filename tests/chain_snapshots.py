@@ -71,7 +71,7 @@ def must_answer_as_replayed(program, folder, chain, count, what):
 
 
 def check_snapshots_of_a_chain(program):
-    """One at each 1,000 blocks, in turns. Behind the third an opening that goes from it to another branch answers as a replay, and what
+    """One at each 1,000 blocks, in turns. After the third an opening that goes from it to another branch answers as a replay, and what
     it has then is the next snapshot."""
     chain = chain_of(4 * EVERY)
     must(chain.tip(EVERY) != EVERY and chain.tip(2 * EVERY) == 2 * EVERY, 'the first is of another block, the second of its own')

@@ -61,7 +61,7 @@ def row(output, block, transaction):
 
 
 def check_exts_of_the_log(program):
-    """Behind the blocks of the chain with a contract stand the fees that they take and the cells that they spend."""
+    """After the blocks of the chain with a contract stand the fees that they take and the cells that they spend."""
     exts = {
         3: fixvec([uint(1000, 8)]) + fixvec([row((contract.First, 1), 0, 0)]),
         5: fixvec([uint(2000, 8)]) + fixvec([row((contract.FUNDS, 0), 3, 1)]),

@@ -6,7 +6,7 @@
 They are the last of that file. A row is a word and its columns, with a tab between two,
 bytes in hex:
 
-    blob    bytes, which later rows name by their place, from 0 on
+    blob    a name, and bytes, which later rows call by that name
     spec    a specification: a new chain begins
     genesis its first block
     block   a block on one before it, with its ext
@@ -71,9 +71,12 @@ def codes(*words):
 # --------------------------------------------------------------------- rows
 
 def blob(content):
+    """The name of bytes: how many they are, and the first four bytes of their hash."""
     if content not in BLOBS:
-        BLOBS[content] = len(BLOBS)
-        LINES.append('blob\t' + content.hex())
+        name = '%d_%s' % (len(content), ckbhash(content)[:4].hex())
+        assert name not in BLOBS.values()
+        BLOBS[content] = name
+        LINES.append('blob\t%s\t%s' % (name, content.hex()))
     return BLOBS[content]
 
 
@@ -82,7 +85,7 @@ def joined(words):
 
 
 def cell_text(cell):
-    return '%d,%d,%d,%d' % (cell.block, cell.tx, blob(cell.item()), blob(cell.content))
+    return '%d,%d,%s,%s' % (cell.block, cell.tx, blob(cell.item()), blob(cell.content))
 
 
 def row(scene, wanted=None, budget=AMPLE, rounds=None):

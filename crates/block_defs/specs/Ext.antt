@@ -25,7 +25,7 @@ spent_from spec kept parent b place [] = []
 spent_from spec kept parent b place (t ∷ later) =
     rows_spent kept parent (site_at spec (branch kept parent) b place) t ++ spent_from spec kept parent b (suc place) later
 
--- Over kept blocks, of a block on the parent at a place: the fees of its transactions behind the cellbase, and the rows of the cells that they
+-- Over kept blocks, of a block on the parent at a place: the fees of its transactions after the cellbase, and the rows of the cells that they
 -- spend and that were live before it, in the order of spending.
 unfoldable pub ext_of : Specification → List Block → ℕ → Block → Ext
 ext_of spec kept parent b = record {

@@ -1,4 +1,4 @@
--- The rules on the transactions of a block behind its cellbase, J18 to J30, by transaction and then by number (docs/RULES.md, "A block").
+-- The rules on the transactions of a block after its cellbase, J18 to J30, by transaction and then by number (docs/RULES.md, "A block").
 use Rattle.std.specs.Prelude.{ℕ, suc, ◌-◌, Bool, List, [], ◌∷◌, ◌++◌, length, drop, is_some}
 use Rattle.codec_defs.specs.Schema.{Transaction, Block}
 use Rattle.time_defs.specs.Specification.{Specification}

@@ -30,7 +30,7 @@ row_after-push e done event rows o = ap (row_or e (rows o)) (last_naming-push o 
     by_test true = refl
     by_test false = refl
 
--- more events behind
+-- more events after
 pub row_after-append : (e : ℕ) (earlier later : List Event) (rows : OutPoint → Option Row) (o : OutPoint)
     → row_after e (earlier ++ later) rows o ≡ row_after e later (row_after e earlier rows) o
 unfolding row_after

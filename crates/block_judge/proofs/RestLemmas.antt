@@ -15,7 +15,7 @@ use Rattle.block_defs.specs.Transactions.{transaction_rules, left_after, rules_f
 use Rattle.tx_defs.specs.Site.{site_at}
 use Rattle.block_defs.specs.Ext.{rows_spent, spent_from}
 
--- the transaction at a place, and those behind it
+-- the transaction at a place, and those after it
 pub rest-next : (transactions : List Transaction) (place : ℕ) (t : Transaction) → slice_get transactions place ≡ Some t
     → drop place transactions ≡ t ∷ drop (place + 1) transactions
 rest-next transactions place t there =
@@ -81,7 +81,7 @@ rules-next spec on b place left t there =
     ∙ ap (λ (n : ℕ). transaction_rules (site_at spec on b place) left t
     ++ rules_from spec on b n (left_after (site_at spec on b place) left t) (drop (place + 1) b.transactions)) next
 
--- One that keeps its rules leaves those of the transactions behind it.
+-- One that keeps its rules leaves those of the transactions after it.
 pub rules-more : (spec : Specification) (on : List Block) (b : Block) (place left : ℕ) (t : Transaction) → slice_get b.transactions place ≡ Some t
     → first_failing (transaction_rules (site_at spec on b place) left t) ≡ None
     → first_failing (rules_from spec on b place left (drop place b.transactions))
@@ -100,7 +100,7 @@ rules-broken spec on b place left t rule there broken =
     let later = rules_from spec on b (place + 1) (left_after (site_at spec on b place) left t) (drop (place + 1) b.transactions) in
     ap first_failing (rules-next spec on b place left t there) ∙ first_failing-append-fails rule own later broken
 
--- Behind the last one none is left.
+-- After the last one none is left.
 pub rules-end : (spec : Specification) (on : List Block) (b : Block) (place left : ℕ) → length b.transactions ≤ place
     → first_failing (rules_from spec on b place left (drop place b.transactions)) ≡ None
 unfolding rules_from

@@ -87,7 +87,7 @@ stops-by-rows {T = T} proposed rows t (resolving.Broken rule) result named follo
     by_tried (inr (inl its)) = let bad = its.1 in absurd (not_both named bad)
     by_tried (inr (inr within)) = by_rest (rule_number rule - 20) (omega (arith, within.0))
 
--- a stop behind both
+-- a stop after both
 pub later-by-rows : (form spends : Bool) (stop : JudgeStop) → (form ≡ true) × (spends ≡ true) → ((rule : Rule) → stop ≡ Broken rule → 20 < rule_number rule)
     → StopsByRows form spends stop
 later-by-rows form spends (Broken rule) kept later = inr (kept.0, inr (later rule refl, kept.1))

@@ -24,7 +24,7 @@ use Rattle.block_judge.specs.Standing.{IsTriedAlone, IsTriedOnTransaction}
 use Rattle.block_judge.specs.Stops.{of_resolving}
 use Rattle.block_judge.proofs.Exits.{not_both}
 
--- ---- Up to J27, and the scripts behind
+-- ---- Up to J27, and the scripts after
 
 -- what a stop of resolving is answered as
 pub stops-resolving : (site : Site) (t : Transaction) (scripts : List (ℕ × Bool)) (proposed : Bool) (stop : TxStop) (rule : Rule)

@@ -9,8 +9,8 @@ use Rattle.block_judge.specs.declared.stop.JudgeStop.{JudgeStop}
 use Rattle.block_judge.specs.declared.stop.JudgeStop.TheVariants.{Broken, Read}
 
 -- The rows have one just for each cell that is live.
-abbrev pub TellLive : (OutPoint → Option Row) → (OutPoint → Option Cell) → Type 0
-TellLive rows live = (o : OutPoint) → is_some (rows o) ≡ is_some (live o)
+abbrev pub AgreeOnLive : (OutPoint → Option Row) → (OutPoint → Option Cell) → Type 0
+AgreeOnLive rows live = (o : OutPoint) → is_some (rows o) ≡ is_some (live o)
 
 -- ---- On a block that has passed at sight, by the form of its cellbase over the live cells
 

@@ -5,7 +5,7 @@ ghost use Rattle.codec_defs.specs.Schema.{OutPoint as an_out_point};
 ghost use Rattle.cell_defs.specs.Cell.{Cell};
 ghost use Rattle.chain_defs.specs.Hashes.{transaction_hash, are_distinct};
 ghost use Rattle.family_defs.specs.Cellbase as rules;
-ghost use Rattle.block_judge.specs.ByRows.{TellLive};
+ghost use Rattle.block_judge.specs.ByRows.{AgreeOnLive};
 
 use crate::known::{hash_at, hash_of};
 use cell_model::{Cells, OutPoint};
@@ -155,7 +155,7 @@ fn names_lock(tx: &TxView<'_>) -> bool
 /// the branch.
 fn is_well_formed<C: Cells>(cells: &C, number: u64, tx: &TxView<'_>, hash: [u8; 32]) -> bool
     requires { hash ≡ transaction_hash tx.now }
-    ensures { (live : an_out_point → Option Cell) → TellLive (C.rows cells.now) live
+    ensures { (live : an_out_point → Option Cell) → AgreeOnLive (C.rows cells.now) live
         → result ≡ rules.is_well_formed_cellbase live number tx.now }
 {
     let raw = tx.raw();
@@ -175,7 +175,7 @@ pub(crate) fn forms_cellbase<C: Cells>(
     hashes: &[[u8; 32]],
 ) -> bool
     requires hashes { hashes.now ≡ map transaction_hash block.now.transactions }
-    ensures { (live : an_out_point → Option Cell) → TellLive (C.rows cells.now) live
+    ensures { (live : an_out_point → Option Cell) → AgreeOnLive (C.rows cells.now) live
         → result ≡ rules.forms_cellbase live block.now }
 {
     if block.transactions_count() == 0 {

@@ -21,7 +21,7 @@ ghost use Rattle.block_defs.specs.Rules.{first_broken, broken_in_dry_run};
 ghost use Rattle.tx_defs.specs.Site.{site_after};
 ghost use Rattle.rule_names.specs.Number.{rule_number};
 ghost use Rattle.block_judge.specs.declared.stop.JudgeStop.TheVariants.{Broken, Read};
-ghost use Rattle.block_judge.specs.ByRows.{SaysByForm, SaysByRows, TellLive};
+ghost use Rattle.block_judge.specs.ByRows.{SaysByForm, SaysByRows, AgreeOnLive};
 ghost use Rattle.block_judge.specs.Standing.{PassesAtSight, IsTried, IsTriedAlone, StandsFor, StandsForAll, seen};
 ghost use Rattle.block_judge.specs.Stops.{read_stop_of};
 
@@ -57,7 +57,7 @@ pub fn judge<C: Cells, B: Blocks>(
     ensures tried { (rule : Rule) → result ≡ Err (Broken rule) → IsTried (rule_number rule) }
 
     // Over any source of blocks: J17; a fee for each transaction after the cellbase; and a DAO field that later ones can be reckoned by.
-    ensures by_rows { (live : OutPoint → Option Cell) → TellLive (C.rows context.now.cells.now) live
+    ensures by_rows { (live : OutPoint → Option Cell) → AgreeOnLive (C.rows context.now.cells.now) live
         → SaysByForm (rules.forms_cellbase live block.now) result }
     ensures fees { IfOk result (λ ext. length ext.fees ≡ length block.now.transactions - 1) }
     ensures rated { IfOk result (λ _. IsTrue (is_rated block.now.header.dao)) }

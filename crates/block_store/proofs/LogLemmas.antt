@@ -22,7 +22,7 @@ use Rattle.chain_tree.specs.Told.{Stored, blocks_of}
 use Rattle.chain_tree.specs.declared.entry.Entry.{Entry}
 use Rattle.block_store.specs.Stored.{of_length, body_at, with_ext, parts_in, beside, stored_in, stored_of, put_first, all_stored, all_in, later_record}
 use Rattle.log_file.specs.Opening.{kept_records}
-use Rattle.block_store.specs.Laws.{TellsTheRecords, ReadsItsRecord, SaysWhatIsKept, TellsTheLog, SaysWhatIsOpened, OpensTold, SaysOneMore, FollowsTheLog, AddsARecord}
+use Rattle.block_store.specs.Laws.{LogHasRecords, ReadsItsRecord, SaysWhatIsKept, LogHasBlocks, SaysWhatIsOpened, OpensTold, SaysOneMore, FollowsTheLog, AddsARecord}
 use Rattle.block_store.proofs.StoredLemmas.{put_first-at}
 
 -- ---- The first record of a log
@@ -77,8 +77,8 @@ all_told image n place (r ∷ records) (entry ∷ entries) holds named =
     let later : all_stored image (suc n) entries ≡ all_in (suc n) records = all_told image (suc n) (place + length (record_bytes r)) records entries next named.2 in
     λ i. put_first (here i) (later i)
 
-pub tells_the_records : TellsTheRecords
-tells_the_records image specification records entries names =
+pub log_has_records : LogHasRecords
+log_has_records image specification records entries names =
     let one : Record = record_of 1 specification in
     let first = first_record (drop 8 image.log) one records names.holds in
     let size : 8 + length (record_bytes one) ≡ 14 + length specification = omega (arith, record_length one) in
@@ -129,8 +129,8 @@ says_what_is_kept (genesis ∷ later) can =
     later_told 0 later (λ k it there. can.canonical (suc k) it there) (λ k d within. can.fit (suc k) d (omega (arith, within))) (λ k it there. can.forms (suc k) it (omega arith) there) in
     λ i. put_first (here i) (rest i)
 
-pub tells_the_log : TellsTheLog
-tells_the_log image specification stored entries names can = tells_the_records image specification (kept_records stored) entries names ∙ says_what_is_kept stored can
+pub log_has_blocks : LogHasBlocks
+log_has_blocks image specification stored entries names can = log_has_records image specification (kept_records stored) entries names ∙ says_what_is_kept stored can
 
 -- ---- The records of a log that is opened
 
@@ -277,7 +277,7 @@ pub opens_told : OpensTold
 opens_told image log stored entries says blocks exts named =
     let records : List Record = records_of (drop 8 image.log) in
     let its = said_by records log says in
-    tells_the_records image log.specification (record_of 2 log.genesis ∷ log.records) entries (record { holds = its.split; named = named })
+    log_has_records image log.specification (record_of 2 log.genesis ∷ log.records) entries (record { holds = its.split; named = named })
     ∙ says_what_is_opened records log stored says blocks exts
 
 -- ---- One more

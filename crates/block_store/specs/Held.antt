@@ -51,7 +51,7 @@ IsKept entries held image = (e : ℕ) (it : Stored) → Holds held e it → stor
 abbrev pub AgreesWith : List Stored → List (ℕ × Stored) → Type 0
 AgreesWith stored held = (e : ℕ) (it : Stored) → Holds held e it → slice_get stored e ≡ Some it
 
--- the entry in hand, if there is one, is one of so many, and one is held for it
+-- the current entry, if there is one, is one of so many, and one is held for it
 abbrev pub IsInHand : ℕ → List (ℕ × Stored) → Option ℕ → Type 0
 IsInHand count held hand = IfSome hand (λ e. (e < count) × IsSome (held_at held e))
 

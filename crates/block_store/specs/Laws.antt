@@ -22,8 +22,8 @@ pub record NamesTheLog (bytes specification : List ℕ) (records : List Record) 
   pub named : NameBodies (14 + length specification) records entries
 
 -- Law: what is told at the places that entries name is what the records of the log say.
-abbrev pub TellsTheRecords : Type 0
-TellsTheRecords = (image : Image) (specification : List ℕ) (records : List Record) (entries : List Entry)
+abbrev pub LogHasRecords : Type 0
+LogHasRecords = (image : Image) (specification : List ℕ) (records : List Record) (entries : List Entry)
     → NamesTheLog image.log specification records entries → told_by (Some image) entries ≡ told_in records
 
 -- Law: the body of the record of a kept block after the genesis is read as this block with its ext.
@@ -36,8 +36,8 @@ abbrev pub SaysWhatIsKept : Type 0
 SaysWhatIsKept = (stored : List Stored) → CanBeKept stored → told_in (kept_records stored) ≡ Some stored
 
 -- Law: so a log of these records tells them.
-abbrev pub TellsTheLog : Type 0
-TellsTheLog = (image : Image) (specification : List ℕ) (stored : List Stored) (entries : List Entry)
+abbrev pub LogHasBlocks : Type 0
+LogHasBlocks = (image : Image) (specification : List ℕ) (stored : List Stored) (entries : List Entry)
     → NamesTheLog image.log specification (kept_records stored) entries → CanBeKept stored → told_by (Some image) entries ≡ Some stored
 
 -- Law: the records of a log say its blocks, each with the ext beside it.

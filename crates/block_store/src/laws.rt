@@ -1,14 +1,14 @@
 // The laws of what a log tells of kept blocks.
-ghost use Rattle.block_store.specs.Laws.{TellsTheRecords, ReadsItsRecord, SaysWhatIsKept, TellsTheLog, SaysWhatIsOpened, OpensTold, AgreesAlways, KeepsAfterAppend, FollowsTheLog, SaysOneMore, AddsARecord};
+ghost use Rattle.block_store.specs.Laws.{LogHasRecords, ReadsItsRecord, SaysWhatIsKept, LogHasBlocks, SaysWhatIsOpened, OpensTold, AgreesAlways, KeepsAfterAppend, FollowsTheLog, SaysOneMore, AddsARecord};
 
 /// States that a log tells the kept blocks that its records say, or that it is opened with, where the
 /// entries name their bodies; that a cache holds what LOG has exactly where it holds what is told; and
 /// that cache and entries stay so with one block more. It does nothing.
 pub fn store_laws()
-    ensures tells_the_records { TellsTheRecords }
+    ensures log_has_records { LogHasRecords }
     ensures reads_its_record { ReadsItsRecord }
     ensures says_what_is_kept { SaysWhatIsKept }
-    ensures tells_the_log { TellsTheLog }
+    ensures log_has_blocks { LogHasBlocks }
     ensures says_what_is_opened { SaysWhatIsOpened }
     ensures opens_told { OpensTold }
     ensures agrees_always { AgreesAlways }

@@ -26,7 +26,7 @@ pub struct Store<'d, D: Disk> {
     disk: &'d mut D,
     tree: &'d Tree,
     cache: &'d mut Cache,
-    /// The place of the entry in hand, whose body the cache holds.
+    /// The place of the current entry, whose body the cache holds.
     hand: Option<u32>,
     ghost kept: { IfSome (D.reads_as disk.now) (IsKept tree.now.entries cache.now.held) } by { Prim.hlevel props },
     ghost held: { IsInHand (length tree.now.entries) cache.now.held hand } by { Prim.hlevel props },

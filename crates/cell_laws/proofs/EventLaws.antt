@@ -117,7 +117,7 @@ input-spent : (blocks : List Block) (o : OutPoint) (height : ℕ) (b : Block) �
     → Contains (events blocks) (Spends o)
 input-spent blocks o height b above there is =
     let no_genesis : (height == 0) ≡ false = ne_eqb height 0 (λ same. omega (arith, same, above)) in
-    let no_cellbase : (is.place == 0) ≡ false = ne_eqb is.place 0 (λ same. omega (arith, same, is.behind)) in
+    let no_cellbase : (is.place == 0) ≡ false = ne_eqb is.place 0 (λ same. omega (arith, same, is.later)) in
     let neither : ((height == 0) || (is.place == 0)) ≡ false =
     ap (λ (x : Bool). x || (is.place == 0)) no_genesis ∙ no_cellbase in
     among-branch blocks height is.place b is.t (Spends o) there is.there
@@ -166,7 +166,7 @@ spent-of b height place t there =
           above = above;
           is = record {
             place = place;
-            behind = behind;
+            later = behind;
             t = t;
             there = there;
             index = is.index;

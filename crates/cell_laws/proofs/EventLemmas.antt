@@ -1,4 +1,4 @@
--- Events: the last of some that names an out-point, also where more stand behind, and what holds of each cell that some make.
+-- Events: the last of some that names an out-point, also where more stand after, and what holds of each cell that some make.
 use Rattle.std.proofs.Common.{◌≡◌, ℕ, zero, suc, Bool, true, false, cond, List, [], ◌∷◌, ◌++◌, Option, Some, None, refl, sym, ap, ◌∙◌, subst, arith}
 use Rattle.std.specs.Prelude.{◌==◌}
 use Rattle.std.specs.Option.{option_or}
@@ -47,7 +47,7 @@ last_naming-step o event later = by_last (last_naming o later) refl
     by_last None is = rw is refl
     by_last (Some last) is = rw is refl
 
--- more events behind
+-- more events after
 pub last_naming-append : (o : OutPoint) (earlier later : List Event) → last_naming o (earlier ++ later) ≡ option_or (last_naming o later) (last_naming o earlier)
 unfolding last_naming
 last_naming-append o [] later = sym (or-none (last_naming o later))
@@ -57,7 +57,7 @@ last_naming-append o (event ∷ earlier) later =
     ∙ or-or (last_naming o later) (last_naming o earlier) (cond (names o event) (Some event) None)
     ∙ ap (option_or (last_naming o later)) (sym (last_naming-step o event earlier))
 
--- one event more behind
+-- one event more after
 pub last_naming-push : (o : OutPoint) (earlier : List Event) (event : Event)
     → last_naming o (earlier ++ event ∷ []) ≡ cond (names o event) (Some event) (last_naming o earlier)
 unfolding last_naming

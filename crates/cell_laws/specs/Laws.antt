@@ -11,10 +11,10 @@ use Rattle.cell_defs.specs.Row.{Row, live_row, row_after, row_left, IsOutputOf}
 
 -- ---- What blocks make and spend
 
--- a transaction of a block behind its first one has an input with an out-point
+-- a transaction of a block after its first one has an input with an out-point
 pub record IsInputOf (b : Block) (o : OutPoint) : Type 0 where
   pub place : ℕ
-  pub behind : 0 < place
+  pub later : 0 < place
   pub t : Transaction
   pub there : slice_get b.transactions place ≡ Some t
   pub index : ℕ

@@ -1,4 +1,4 @@
--- The output that a row names in the block in hand.
+-- The output that a row names in the current block.
 use Rattle.std.proofs.Common.{◌≡◌, ℕ, List, Option, Some, ap, subst, ◌∙◌}
 use Rattle.std.specs.Prelude.{IfSome, slice_get}
 use Rattle.codec_defs.specs.Schema.{OutPoint, CellOutput, Transaction, Block}
@@ -18,7 +18,7 @@ named_output stored o row cell named =
     ∙ in_transaction named.made.block named.output.t cell.transaction o.index cell.output named.output.there named.output.output
     ∙ ap (λ (content : List ℕ). Some (cell.output, content)) named.output.content
 
--- the block in hand is that of the entry that is there
+-- the current block is that of the entry that is there
 pub in-hand : (view : Block) (told : Option (List Stored)) (hand : Option ℕ) (stored : List Stored) (place : ℕ) (made : Stored) → told ≡ Some stored → hand ≡ Some place
     → slice_get stored place ≡ Some made
     → IfSome told (λ all. IfSome hand (λ e. IfSome (slice_get all e) (λ it. view ≡ it.block))) → view ≡ made.block

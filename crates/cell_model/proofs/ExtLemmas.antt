@@ -1,4 +1,4 @@
--- The fees and the rows of an ext, one behind the other.
+-- The fees and the rows of an ext, one after the other.
 use Rattle.std.proofs.Common.{◌≡◌, ℕ, zero, suc, ◌+◌, ◌-◌, ◌*◌, ◌<◌, ◌≤◌, Bool, true, false, List, [], ◌∷◌, ◌++◌, length, map, take, drop, get_or, Option, Some, None, refl, sym, ap, ◌∙◌, append_assoc, ◌^◌, arith, add-one, eqb}
 use Rattle.std.specs.Prelude.{◌&&◌, nat_le, if◌then◌else◌, is_some, IfSome}
 use Rattle.std.specs.List.{All, slice_range, concat}

@@ -180,7 +180,7 @@ ids_more blocks more_blocks ids more_ids bytes one are blocks_grow ids_grow is =
     ap id_lists ids_grow ∙ map_push (λ (v : Vec (List ℕ) Global). v.items) ids one ∙ (λ i. are i ++ is i ∷ [])
     ∙ sym (map_push (λ (v : Vec ℕ Global). ids_of (block.decoding v.items)) blocks bytes) ∙ ap all_ids (sym blocks_grow)
 
--- the entry in hand
+-- the current entry
 pub by_hand : (P : Stored → Type 0) (it : ListBlocksValue) (place : ℕ) (entry : Stored) → it.hand ≡ Some place → place < length it.stored
     → slice_get it.stored place ≡ Some entry → P entry → IfSome (current_place it) (λ e. IfSome (slice_get it.stored e) P)
 by_hand P it place entry taken within there holds =
@@ -188,7 +188,7 @@ by_hand P it place entry taken within there holds =
     ap (place_among (length it.stored)) taken ∙ ap (λ (b : Bool). if b then Some place else None) (lt-ltb place (length it.stored) within) in
     subst (λ (o : Option ℕ). IfSome o (λ e. IfSome (slice_get it.stored e) P)) (sym place_is) (at_entry P it.stored place entry there holds)
 
--- what is so of the place in hand
+-- what is so of the current place
 pub of_hand : (P : ℕ → Type 0) (it : ListBlocksValue) (place : ℕ) → it.hand ≡ Some place → place < length it.stored → IfSome (current_place it) P → P place
 of_hand P it place taken within holds =
     subst (λ (o : Option ℕ). IfSome o P)

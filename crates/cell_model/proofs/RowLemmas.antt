@@ -1,4 +1,4 @@
--- A row as its fields, one behind the other.
+-- A row as its fields, one after the other.
 use Rattle.std.proofs.Common.{◌≡◌, ℕ, suc, ◌+◌, ◌-◌, ◌≤◌, true, List, [], ◌∷◌, ◌++◌, length, take, drop, get_or, replicate, Option, Some, None, refl, sym, ap, ◌∙◌, append_assoc, arith, eqb-true}
 use Rattle.std.specs.Prelude.{◌==◌, ◌&&◌, ◌||◌}
 use Rattle.std.specs.List.{slice_range, list_all}
@@ -19,7 +19,7 @@ joined xs i j k low high =
     ap (λ (l : List ℕ). slice_range xs i j ++ l) rest ∙ sym (take-add (j - i) (k - j) (drop i xs))
     ∙ ap (λ (n : ℕ). take n (drop i xs)) (omega (arith, low, high))
 
--- one field more behind those that are the front of the bytes
+-- one field more after those that are the start of the bytes
 pub next : (xs front field : List ℕ) (j k : ℕ) → j ≤ k → field ≡ slice_range xs j k → front ≡ slice_range xs 0 j → front ++ field ≡ slice_range xs 0 k
 next xs front field j k order field_is front_is =
     (λ t. front_is t ++ field_is t) ∙ joined xs 0 j k (omega arith) order
@@ -27,7 +27,7 @@ next xs front field j k order field_is front_is =
 pub whole : (xs fields : List ℕ) (k : ℕ) → length xs ≡ k → fields ≡ slice_range xs 0 k → fields ≡ xs
 whole xs fields k long is = is ∙ ap (λ (n : ℕ). take n xs) (omega arith) ∙ take_all k xs (omega (arith, long))
 
--- one field more behind those that were put behind others
+-- one field more after those that were put after others
 pub put_more : (old between new fields piece field : List ℕ) → between ≡ old ++ fields → new ≡ between ++ piece → piece ≡ field → new ≡ old ++ (fields ++ field)
 put_more old between new fields piece field before is same = is ∙ (λ t. before t ++ same t) ∙ append_assoc old fields field
 

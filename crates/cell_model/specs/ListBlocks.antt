@@ -10,7 +10,7 @@ use Rattle.chain_defs.specs.Hashes.{proposal_id}
 use Rattle.chain_tree.specs.Told.{Stored}
 use Rattle.cell_defs.specs.Ext.{is_ext, count_at}
 
--- the blocks with their exts, and the place of the one that was taken in hand last
+-- the blocks with their exts, and the place of the one that was brought last
 pub record ListBlocksValue : Type 0 where
   pub stored : List Stored
   pub hand : Option ℕ
@@ -19,7 +19,7 @@ abbrev pub place_among : ℕ → Option ℕ → Option ℕ
 place_among len None = None
 place_among len (Some place) = if nat_lt place len then Some place else None
 
--- the place of the one in hand, which is one of them
+-- the place of the current one, which is one of them
 abbrev pub current_place : ListBlocksValue → Option ℕ
 current_place it = place_among (length it.stored) it.hand
 
@@ -67,7 +67,7 @@ all_ids blocks = map (λ v. ids_of (block.decoding v.items)) blocks
 abbrev pub id_lists : List (Vec (List ℕ) Global) → List (List (List ℕ))
 id_lists vectors = map (λ v. v.items) vectors
 
--- ---- The one in hand is one of them
+-- ---- The current one is one of them
 
 pub tested-within : (place len : ℕ) (b : Bool) → nat_lt place len ≡ b → IfSome (if b then Some place else None) (λ e. e < len)
 tested-within place len true below = ltb-true place len below

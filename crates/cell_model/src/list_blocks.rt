@@ -14,7 +14,7 @@ use std::alloc::Global;
 use std::marker::Model;
 
 /// Kept blocks with their exts, in two lists of bytes, and beside each its proposal ids. Clauses see the list of the
-/// blocks, and which is in hand. It tells them, and never fails.
+/// blocks, and which is the current one. It tells them, and never fails.
 #[derive(Drop)]
 pub struct ListBlocks {
     blocks: Vec<Vec<u8>>,

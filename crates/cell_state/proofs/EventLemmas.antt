@@ -68,7 +68,7 @@ spend-at t height place index input within there = by ((height == 0) || (place =
     by true h = absurd (omega (arith, h))
     by false h = slice_get-map (λ (i : CellInput). Spends i.previous_output) t.raw.inputs index ∙ ap (option_map (λ (i : CellInput). Spends i.previous_output)) there
 
--- behind the spends stand the makes
+-- after the spends stand the makes
 pub event-made : (t : Transaction) (height place index : ℕ) → length (spends_at t height place) ≤ index
     → slice_get (events_of t height place) index
     ≡ option_map (make t height place (index - length (spends_at t height place))) (slice_get t.raw.outputs (index - length (spends_at t height place)))
@@ -105,7 +105,7 @@ left-from transactions height place (Some t) is =
     at-found transactions height place 0 (Some t) is
     ∙ ap (λ (ts : List Transaction). events_from place ts height) (sym (drop-there transactions place t is))
 
--- all events of the transaction at a place and behind it
+-- all events of the transaction at a place and after it
 pub left-start : (transactions : List Transaction) (height place : ℕ) → events_left transactions height place 0 ≡ events_from place (drop place transactions) height
 left-start transactions height place = left-from transactions height place (slice_get transactions place) refl
 

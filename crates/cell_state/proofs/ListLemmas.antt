@@ -69,17 +69,17 @@ slot-of_listed [] o row (k, lt, is) = absurd (omega (arith, lt))
 slot-of_listed (entry ∷ later) o row has = listed-by entry.0 entry.1 later o row (slot-of_listed later o row) has
 
 -- and a live slot is listed
-behind-row : (key : List ℕ × ℕ) (slot : Slot) (later : List (OutPoint × Row)) (wanted : OutPoint × Row) → Contains later wanted → Contains (with_row key slot later) wanted
-behind-row key (Live row) later wanted has = Contains-there (out_point_by key, row) later wanted has
-behind-row key (Spent row) later wanted has = has
-behind-row key Added later wanted has = has
-behind-row key Gone later wanted has = has
+after-row : (key : List ℕ × ℕ) (slot : Slot) (later : List (OutPoint × Row)) (wanted : OutPoint × Row) → Contains later wanted → Contains (with_row key slot later) wanted
+after-row key (Live row) later wanted has = Contains-there (out_point_by key, row) later wanted has
+after-row key (Spent row) later wanted has = has
+after-row key Added later wanted has = has
+after-row key Gone later wanted has = has
 
 listed-of_slot : (entries : List ((List ℕ × ℕ) × Slot)) (o : OutPoint) (row : Row) → Contains entries (key_of o, Live row) → Contains (listed entries) (o, row)
 listed-of_slot [] o row (k, lt, is) = absurd (omega (arith, lt))
 listed-of_slot (entry ∷ later) o row has =
     ⊎_elim (λ is. subst (λ (e : (List ℕ × ℕ) × Slot). Contains (with_row e.0 e.1 (listed later)) (o, row)) (sym is) (Contains-here (o, row) (listed later)))
-    (λ there. behind-row entry.0 entry.1 (listed later) (o, row) (listed-of_slot later o row there)) (Contains-cons entry later (key_of o, Live row) has)
+    (λ there. after-row entry.0 entry.1 (listed later) (o, row) (listed-of_slot later o row there)) (Contains-cons entry later (key_of o, Live row) has)
 
 -- ---- Rows that a list has
 

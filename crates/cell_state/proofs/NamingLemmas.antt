@@ -11,7 +11,7 @@ use Rattle.cell_state.specs.declared.slots.Slot.TheVariants.{Live, Spent, Added,
 
 -- ---- The last event that names an out-point
 
--- the last of those behind, or else this one where it names it
+-- the last of those after, or else this one where it names it
 abbrev pub or_this : OutPoint → Event → Option Event → Option Event
 or_this o event None = if names o event then Some event else None
 or_this o event (Some last) = Some last
@@ -44,7 +44,7 @@ or-none : (o : OutPoint) (event : Event) (found : Option Event) → or_this o ev
 or-none o event None is = refl
 or-none o event (Some last) is = is
 
--- what names no out-point behind, and what does not before
+-- what names no out-point after, and what does not before
 pub unnamed-front : (o : OutPoint) (done later : List Event) → last_naming o (done ++ later) ≡ None → last_naming o done ≡ None
 unnamed-front o [] later is = naming-nil o
 unnamed-front o (event ∷ done) later is =

@@ -9,7 +9,7 @@ use Rattle.cell_state.specs.declared.slots.Slot.TheVariants.{Live, Spent, Added,
 abbrev pub out_point_by : List ℕ × ℕ → OutPoint
 out_point_by key = record { tx_hash = key.0; index = key.1 }
 
--- a slot's row in front, where it is live as it was before a block
+-- a slot's row first, where it is live as it was before a block
 abbrev pub with_row : List ℕ × ℕ → Slot → List (OutPoint × Row) → List (OutPoint × Row)
 with_row key (Live row) later = (out_point_by key, row) ∷ later
 with_row key (Spent row) later = later

@@ -1,4 +1,4 @@
--- Values that are looked at from the last one on, each beside those behind it.
+-- Values that are looked at from the last one on, each beside those after it.
 use Rattle.std.proofs.Common.{◌≡◌, ℕ, zero, suc, ◌+◌, Bool, true, false, cond, List, [], ◌∷◌, drop, Some, refl, sym, ap, ◌∙◌}
 use Rattle.std.specs.Prelude.{◌&&◌, ◌||◌, not, slice_get}
 use Rattle.std.specs.List.{list_any}
@@ -15,7 +15,7 @@ drop_at_get xs i x there = drop_more xs i x (slice_get_within xs i x there) ∙ 
 abbrev pub has : List (List ℕ) → List ℕ → Bool
 has values value = list_any (λ other. bytes_eq other value) values
 
--- one value more, at the front
+-- one value more, at the start
 pub has_more : (values : List (List ℕ)) (j i : ℕ) (value q : List ℕ) (before : Bool) → j + 1 ≡ i → slice_get values j ≡ Some value → before ≡ has (drop i values) q
     → cond (bytes_eq value q) true before ≡ has (drop j values) q
 has_more values j i value q before next there was =

@@ -1,4 +1,4 @@
--- Two branches fork once, and their distance counts what stands behind the fork.
+-- Two branches fork once, and their distance counts what stands after the fork.
 use Rattle.std.proofs.Common.{◌≡◌, ℕ, zero, suc, ◌+◌, ◌<◌, ◌==◌, Bool, true, false, cond, List, [], ◌∷◌, ◌++◌, length, Option, Some, None, refl, sym, ap, ◌∙◌, inl, inr, ◌⊎◌, arith}
 use Rattle.std.specs.Prelude.{slice_get, not, ◌||◌}
 use Rattle.std.specs.List.{filter, list_any}
@@ -77,7 +77,7 @@ keeps_none test (x ∷ xs) each =
     by_test false is rest = rest
     by_test true is rest = absurd (cc)
 
--- Behind what two lists share, all is outside of the other.
+-- After what two lists share, all is outside of the other.
 outside-behind : (common these those : List ℕ) → Apart common these → Apart these those → count_outside (common ++ these) (common ++ those) ≡ length these
 outside-behind common these those off apart =
     ap length (filter-append outside common these ∙ ap (λ (l : List ℕ). l ++ filter outside these) (keeps_none outside common within) ∙ keeps_all outside these alone)

@@ -13,7 +13,7 @@ abbrev pub AllFrom : ℕ → List ℕ → Type 0
 AllFrom m [] = Unit {0}
 AllFrom m (n ∷ ns) = (m ≤ n) × AllFrom m ns
 
--- each is at most those behind it
+-- each is at most those after it
 abbrev pub Rises : List ℕ → Type 0
 Rises [] = Unit {0}
 Rises (n ∷ ns) = AllFrom n ns × Rises ns

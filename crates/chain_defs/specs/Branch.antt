@@ -48,13 +48,13 @@ abbrev pub BranchesAreBranches : Type 0
 BranchesAreBranches = (kept : List Block) (place : ℕ) (blocks : List Block) → IsKept kept → place < length kept
     → (blocks ≡ branch kept place) ↔ IsBranch kept place blocks
 
--- Where two places fork: the branches of both go along the same places up to there, and none is on both behind it.
+-- Where two places fork: the branches of both go along the same places up to there, and none is on both after it.
 pub record IsFork (kept : List Block) (from to : ℕ) (common only_from only_to : List ℕ) : Type 0 where
   pub of_from : branch_places kept from ≡ common ++ only_from
   pub of_to : branch_places kept to ≡ common ++ only_to
   pub apart : (i j place : ℕ) → slice_get only_from i ≡ Some place → slice_get only_to j ≡ Some place → ⊥
 
--- Law: any two places fork, and their distance is the count of the places behind the fork, of both branches.
+-- Law: any two places fork, and their distance is the count of the places after the fork, of both branches.
 abbrev pub DistanceIsOffTheFork : Type 0
 DistanceIsOffTheFork = (kept : List Block) (from to : ℕ) → (common only_from only_to : List ℕ)
     × (IsFork kept from to common only_from only_to × (distance kept from to ≡ length only_from + length only_to))

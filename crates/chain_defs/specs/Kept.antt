@@ -52,7 +52,7 @@ pub record StandsOn (earlier : List Block) (block : Block) : Type 0 where
   pub there : block_at earlier place ≡ Some parent
   pub next : block.header.number ≡ parent.header.number + 1
 
--- A list of blocks is kept where each behind the genesis stands on an earlier one, and has a hash that no earlier one has.
+-- A list of blocks is kept where each after the genesis stands on an earlier one, and has a hash that no earlier one has.
 pub record IsKept (kept : List Block) : Type 0 where
   pub stands : (place : ℕ) (block : Block) → 0 < place → block_at kept place ≡ Some block → StandsOn (take place kept) block
   pub new : (place : ℕ) (block : Block) → block_at kept place ≡ Some block → place_of (take place kept) (block_hash block) ≡ None

@@ -11,7 +11,7 @@ pub fn kept_laws()
 
 /// States what a branch of kept blocks is: its blocks are kept, it begins with the genesis, ends with
 /// its block, has one block a height, and each is the parent of the next. No other list is so. And
-/// that the distance of two places counts the blocks behind their fork. It does nothing.
+/// that the distance of two places counts the blocks after their fork. It does nothing.
 pub fn branch_laws()
     ensures are_branches { BranchesAreBranches }
     ensures off_the_fork { DistanceIsOffTheFork }

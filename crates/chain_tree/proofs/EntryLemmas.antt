@@ -14,7 +14,7 @@ pub ancestor-parent : (entries : List Entry) (place parent other : ℕ) → pare
     → IsAncestor entries place other
 ancestor-parent entries place parent other is up = (suc up.0, ap (option_and_then (place_up entries up.0)) is ∙ up.1)
 
--- the parent behind the first of some steps
+-- the parent after the first of some steps
 pub first_step : (entries : List Entry) (steps : ℕ) (found : Option ℕ) (other : ℕ) → option_and_then (place_up entries steps) found ≡ Some other
     → (parent : ℕ) × (found ≡ Some parent) × (place_up entries steps parent ≡ Some other)
 first_step entries steps None other is = absurd (cc)
@@ -100,7 +100,7 @@ parent-there entries zero number entry tree there above =
     absurd (omega (arith, above, genesis.2, number_is))
 parent-there entries (suc place) number entry tree there above = parent-of-later entries place entry tree there
 
--- A place on the path is not behind.
+-- A place on the path is not after.
 steps-below : (steps : ℕ) (entries : List Entry) (place other : ℕ) → IsTree entries → place_up entries steps place ≡ Some other → other ≤ place
 steps-below zero entries place other tree is = let same = same_Some place other is in omega (arith, same)
 steps-below (suc steps) entries place other tree is =

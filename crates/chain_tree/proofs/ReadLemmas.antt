@@ -4,7 +4,7 @@ use Rattle.outside.specs.declared.disk.Area.TheVariants.{Log}
 use Rattle.outside.specs.declared.disk.Damage.{Damage}
 use Rattle.outside.specs.declared.disk.ReadStop.{ReadStop}
 use Rattle.outside.specs.declared.disk.ReadStop.TheVariants.{DiskFault, NoMemory, Damaged}
-use Rattle.outside.proofs.Endings.{no_fault, behind}
+use Rattle.outside.proofs.Endings.{no_fault, after_still}
 use Rattle.chain_tree.specs.Told.{Stored}
 use Rattle.chain_tree.specs.Reading.{HasRead, stop_of}
 
@@ -47,7 +47,7 @@ module _ {S L : Type 0} {tells : S → Option (List Stored)} {counts : S → ℕ
     count = after.count ∙ before.count;
     loans = after.loans ∙ before.loans;
     damage = after.damage;
-    cause = behind (before.cause.unchanged (no_stop DiskFault)) after.cause;
+    cause = after_still (before.cause.unchanged (no_stop DiskFault)) after.cause;
     found = λ undamaged. after.found undamaged ∙ before.found (λ damage is. no_stop (Damaged damage) is);
   }
 

@@ -38,7 +38,7 @@ pub fn ancestor_of(entries: &[Entry], jumps: &[u32], place: u32, number: u64) ->
     at
 }
 
-/// The jump of an entry on this parent: where the parent's jump and the one behind it go over as many numbers, both
+/// The jump of an entry on this parent: where the parent's jump and the one after it go over as many numbers, both
 /// in one, else the parent.
 pub fn jump_over(entries: &[Entry], jumps: &[u32], parent: u32) -> u32
     requires tree { IsTree entries.now }

@@ -11,7 +11,7 @@ ghost use Rattle.chain_tree.specs.Reading.{HasRead, stop_of};
 use mol_schema::BlockView;
 use outside::ReadStop;
 
-/// The kept blocks with their exts, each by its place. One entry at a time is in hand: `bring` takes it, and `block`,
+/// The kept blocks with their exts, each by its place. One entry at a time is the current one: `bring` makes it so, and `block`,
 /// `spent` and `ids` give what it has. What is damaged stands in LOG, where the kept blocks are.
 pub trait Blocks {
     /// The kept blocks with their exts, where it tells them.
@@ -20,7 +20,7 @@ pub trait Blocks {
     /// How many entries it has.
     ghost count: { Self → ℕ };
 
-    /// The place of the entry in hand.
+    /// The place of the current entry.
     ghost in_hand: { Self → Option ℕ };
 
     /// How often it has failed.
@@ -34,7 +34,7 @@ pub trait Blocks {
 
     ghost loans_of: { Self → Loans };
 
-    /// Takes an entry in hand. After an `Err` none is.
+    /// Makes an entry the current one. After an `Err` none is.
     fn bring(&mut self, e: u32) -> Result<(), ReadStop>
         requires within { e < count self.old }
         ensures read { HasRead told count loans_of faults damages self.old self.new (stop_of result) }
@@ -43,20 +43,20 @@ pub trait Blocks {
         ensures counted { (damage : Damage) → result ≡ Err (Damaged damage) → Rose (damages self.old) (damages self.new) }
         ensures undamaged { IsSome (told self.old) → (damage : Damage) → result ≡ Err (Damaged damage) → ⊥ };
 
-    /// The block of the entry in hand, the genesis included, as a view: a source checks the bytes of a block once, when
+    /// The block of the current entry, the genesis included, as a view: a source checks the bytes of a block once, when
     /// it takes them from where they lie, and a reader borrows what was checked.
     fn block(&self) -> BlockView<'_>
         requires { IsSome (in_hand self.now) }
         ensures { IfSome (told self.now) (λ stored. IfSome (in_hand self.now) (λ e. IfSome (slice_get stored e) (λ it. result ≡ it.block))) };
 
-    /// The whole ext of the entry in hand, which is not the genesis. It has the form of one, whatever is told.
+    /// The whole ext of the current entry, which is not the genesis. It has the form of one, whatever is told.
     fn spent(&self) -> &[u8]
         requires later { IfSome (in_hand self.now) (λ e. 0 < e) }
         requires in_hand { IsSome (in_hand self.now) }
         ensures form { IsTrue (is_ext result.now) }
         ensures ext { IfSome (told self.now) (λ stored. IfSome (in_hand self.now) (λ e. IfSome (slice_get stored e) (λ it. result.now ≡ it.ext))) };
 
-    /// The proposal ids of the transactions of the entry in hand after its first, in their order. A source hashes a
+    /// The proposal ids of the transactions of the current entry after its first, in their order. A source hashes a
     /// transaction once for them, when it takes its block.
     fn ids(&self) -> &[[u8; 10]]
         requires { IsSome (in_hand self.now) }
@@ -65,7 +65,7 @@ pub trait Blocks {
     /// It tells as many as it has.
     ghost told_all: { (blocks : Self) → IfSome (told blocks) (λ stored. length stored ≡ count blocks) };
 
-    /// The entry in hand is one of them.
+    /// The current entry is one of them.
     ghost hand_within: { (blocks : Self) → IfSome (in_hand blocks) (λ e. e < count blocks) };
 
     /// The last value of the count of faults.

@@ -13,7 +13,7 @@ use std::marker::Brand;
 use std::process::ExitCode;
 use std::sync::ledger::{Blank, Ledger};
 
-/// The words behind the program's name. One that is no text is in no grammar.
+/// The words after the program's name. One that is no text is in no grammar.
 fn words_of(rt: &HostRuntime) -> Result<Vec<String>, Status> {
     let mut args = match env::args(rt) {
         Ok(args) => args,

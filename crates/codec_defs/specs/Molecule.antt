@@ -66,7 +66,7 @@ items_of_fixvec size bytes = map (item_of_fixvec size bytes) (range_with_len 0 (
 unfoldable pub part_count : List ℕ → ℕ
 part_count bytes = if length bytes == 4 then 0 else header_number bytes 4 / 4 - 1
 
--- "dynvec" and "table": a part starts at its offset. Behind the last one is the end.
+-- "dynvec" and "table": a part starts at its offset. After the last one is the end.
 unfoldable pub part_start : List ℕ → ℕ → ℕ
 part_start bytes i = if nat_lt i (part_count bytes) then header_number bytes (4 + 4 * i) else length bytes
 

@@ -7,7 +7,7 @@ use Rattle.vm_defs.specs.Memory.{Memory, memory_size, new_memory}
 use Rattle.vm_defs.specs.Elf.{Program, Segment, broken_elf, broken_segment, broken_segments, contents, load_elf, program_of, segments, unless_broken, with_segment}
 use Rattle.elf_load.specs.Laws.{LastSegmentCounts, byte_of, byte_or, covers, last_covering}
 use Rattle.elf_load.proofs.InMemory.{in-memory, length-inside}
-use Rattle.vm_defs.proofs.CodeLaws.{get_or-before, get_or-behind, get_or-written, length-overwritten}
+use Rattle.vm_defs.proofs.CodeLaws.{get_or-before, get_or-after, get_or-written, length-overwritten}
 use Rattle.elf_load.proofs.Segments.{Sound, both-none, sound-of_none, sound-parts}
 
 -- ---- one segment
@@ -31,7 +31,7 @@ in-file file earlier s k sound below =
     ∙ get_or-take (s.offset + s.file_size - s.offset) (drop s.offset file) k 0 (omega (arith, size, below))
     ∙ get_or-drop s.offset file k 0
 
--- a zero behind them
+-- a zero after them
 behind-file : (file : List ℕ) (earlier : List Segment) (s : Segment) (k : ℕ) → Sound file earlier s → s.file_size ≤ k → k < s.memory_size
     → get_or (contents file s) k 0 ≡ 0
 unfolding contents
@@ -79,7 +79,7 @@ byte-with file earlier s memory at sound whole =
             ∙ content-byte file earlier s at sound from within)
         | inr behind ↦
             let test : covers at s ≡ false = grind (arith, nat_tests, behind) in
-            rw test (get_or-behind memory.bytes s.address (contents file s) at 0 start (omega (arith, behind, size)))
+            rw test (get_or-after memory.bytes s.address (contents file s) at 0 start (omega (arith, behind, size)))
       ]
     ]
 

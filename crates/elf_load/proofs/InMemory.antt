@@ -159,7 +159,7 @@ bytes-made allocated file s address bytes all inside sizes in_memory at is i bel
     let size = ap length is ∙ length-inside file s.offset s.file_size inside in
     all ((address + i) / page_size) (omega (arith, room, sizes, size, below, at))
 
--- the zeros behind the bytes
+-- the zeros after the bytes
 pub contents-stored : (file : List ℕ) (memory first : Memory) (s : Segment) (address size count : ℕ) (bytes : List ℕ) → is_inside file s.offset s.file_size ≡ true
     → s.file_size ≤ s.memory_size → is_out_of_range s.address s.memory_size ≡ false → list_any is_code (kinds_under memory s.address s.memory_size) ≡ false
     → address ≡ s.address → size ≡ s.file_size → count ≡ s.memory_size - size → bytes ≡ slice_range file s.offset (s.offset + s.file_size)

@@ -5,7 +5,7 @@ use Rattle.std.proofs.lemmas.Bool.{or_cases, or_left, or_right}
 use Rattle.std.proofs.lemmas.List.{get_or-drop, get_or-replicate, get_or-take, get_or_default, length-drop, length-replicate, length-take}
 use Rattle.std.proofs.lemmas.List.Folds.{Any-from_list_any, list_any_at}
 use Rattle.vm_defs.specs.Memory.{overwritten}
-use Rattle.vm_defs.proofs.CodeLaws.{get_or-behind, get_or-written}
+use Rattle.vm_defs.proofs.CodeLaws.{get_or-after, get_or-written}
 
 -- ---- an overwritten range
 
@@ -21,7 +21,7 @@ pub filled-behind : {X : Type 0} (xs : List X) (at count : ℕ) (x : X) (i : ℕ
     → get_or (overwritten xs at (replicate count x)) i d ≡ get_or xs i d
 filled-behind xs at count x i d h behind =
     let size = length-replicate count x in
-    get_or-behind xs at (replicate count x) i d h (omega (arith, size, behind))
+    get_or-after xs at (replicate count x) i d h (omega (arith, size, behind))
 
 -- ---- a test of the items of a range
 

@@ -110,7 +110,7 @@ pub no_code-at : (file : List ℕ) (memory : Memory) (earlier : List Segment) (s
     → list_any is_code (kinds_under memory s.address s.memory_size) ≡ false
 no_code-at file memory earlier s has none = no_code-under memory earlier s has (sound-of_none file earlier s none).apart
 
--- where all segments are sound, so is each behind the earlier ones
+-- where all segments are sound, so is each after the earlier ones
 pub sound-at : (file : List ℕ) (before earlier : List Segment) (s : Segment) (rest : List Segment)
     → broken_segments file before (earlier ++ s ∷ rest) ≡ None → broken_segment file (before ++ earlier) s ≡ None
 unfolding broken_segments

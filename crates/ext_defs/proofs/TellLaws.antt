@@ -9,11 +9,11 @@ use Rattle.std.proofs.lemmas.List.Elements.{All-head, All-tail}
 use Rattle.codec_defs.specs.Schema.{OutPoint}
 use Rattle.cell_defs.specs.Row.{Row}
 use Rattle.cell_defs.specs.Ext.{Ext, type_bytes, row_bytes, ext_bytes}
-use Rattle.ext_defs.specs.Fits.{FitsRow, FitsExt, BytesTellRows, BytesTellExts}
+use Rattle.ext_defs.specs.Fits.{FitsRow, FitsExt, BytesDetermineRows, BytesDetermineExts}
 
 -- ---- Two lists in two parts
 
--- parts of one length are the same, and so are those behind them
+-- parts of one length are the same, and so are those after them
 same-parts : (front other rest later : List ℕ) (n : ℕ) → length front ≡ n → length other ≡ n → front ++ rest ≡ other ++ later
     → (front ≡ other) × (rest ≡ later)
 same-parts front other rest later n long as_long same = (
@@ -74,7 +74,7 @@ same-row a b block transaction capacity occupied lock_hash type_hash data_hash d
 same-out-point : (a b : OutPoint) → a.tx_hash ≡ b.tx_hash → a.index ≡ b.index → a ≡ b
 same-out-point a b tx_hash index t = record { tx_hash = tx_hash t; index = index t }
 
-pub bytes-tell-rows : BytesTellRows
+pub bytes-tell-rows : BytesDetermineRows
 bytes-tell-rows (o, row) (p, other) fits as_fits same =
     let whole : fields (o, row) ≡ fields (p, other) = sym (in-fields (o, row)) ∙ same ∙ in-fields (p, other) in
     let tx_hash = same-parts o.tx_hash p.tx_hash _ _ 32 fits.tx_hash as_fits.tx_hash whole in
@@ -139,7 +139,7 @@ length-fees (fee ∷ fees) = length-append (to_le_bytes w64 fee) (concat (map (t
 regroup-ext : (a b c d : List ℕ) → a ++ b ++ c ++ d ≡ a ++ (b ++ (c ++ d))
 regroup-ext a b c d = simp append_assoc
 
-pub bytes-tell-exts : BytesTellExts
+pub bytes-tell-exts : BytesDetermineExts
 unfolding ext_bytes
 bytes-tell-exts one other fits as_fits same =
     let whole =

@@ -26,9 +26,9 @@ pub record FitsExt (ext : Ext) : Type 0 where
   pub rows : All FitsRow ext.spent
 
 -- Law: of rows that fit, no two have the same bytes.
-abbrev pub BytesTellRows : Type 0
-BytesTellRows = (one other : OutPoint × Row) → FitsRow one → FitsRow other → row_bytes one ≡ row_bytes other → one ≡ other
+abbrev pub BytesDetermineRows : Type 0
+BytesDetermineRows = (one other : OutPoint × Row) → FitsRow one → FitsRow other → row_bytes one ≡ row_bytes other → one ≡ other
 
 -- Law: of exts that fit, no two have the same bytes.
-abbrev pub BytesTellExts : Type 0
-BytesTellExts = (one other : Ext) → FitsExt one → FitsExt other → ext_bytes one ≡ ext_bytes other → one ≡ other
+abbrev pub BytesDetermineExts : Type 0
+BytesDetermineExts = (one other : Ext) → FitsExt one → FitsExt other → ext_bytes one ≡ ext_bytes other → one ≡ other

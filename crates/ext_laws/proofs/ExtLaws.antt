@@ -32,7 +32,7 @@ use Rattle.script_defs.specs.Scene.{scene_of}
 use Rattle.script_defs.specs.Rules.{script_rules}
 use Rattle.block_defs.specs.Transactions.{is_proposed, transaction_rules, left_after, rules_from}
 use Rattle.block_defs.specs.Ext.{row_before, rows_spent, spent_from, ext_of}
-use Rattle.joined_laws.proofs.RuleLemmas.{holds-front, holds-behind, transactions-unbroken}
+use Rattle.joined_laws.proofs.RuleLemmas.{holds-prefix, holds-after, transactions-unbroken}
 use Rattle.joined_laws.proofs.FitLaws.{events_from-push, what-joins-fits}
 use Rattle.ext_laws.specs.Laws.{ExtsHoldSpentRows, ExtsTakeBack}
 use Rattle.ext_laws.proofs.SpentLemmas.{left, left-at, left-append, spent-append, spent-nil, makes-none, rows_of, spent-inputs, unnamed-any, named-any}
@@ -182,8 +182,8 @@ sees kept parent done o cell at_height seen =
 live-by-rules : (site : Site) (left_cycles : ℕ) (t : Transaction) → AllHold (transaction_rules site left_cycles t) → IsTrue (spends_live_cells site t)
 live-by-rules site left_cycles t hold =
     All-head (λ rule. IsTrue rule.1) (20, spends_live_cells site t) (drop 1 (cell_rules site t))
-    (holds-front (cell_rules site t) (script_rules (scene_of site t) left_cycles)
-    (holds-behind (form_rules t ++ (19, is_proposed site.spec site.branch t) ∷ []) (cell_rules site t ++ script_rules (scene_of site t) left_cycles) hold))
+    (holds-prefix (cell_rules site t) (script_rules (scene_of site t) left_cycles)
+    (holds-after (form_rules t ++ (19, is_proposed site.spec site.branch t) ∷ []) (cell_rules site t ++ script_rules (scene_of site t) left_cycles) hold))
 
 from-rows : (spec : Specification) (kept : List Block) (parent : ℕ) (b : Block) (place cycles : ℕ) (earlier later : List Transaction) → 0 < length (branch kept parent)
     → 0 < place → b.transactions ≡ earlier ++ later → length earlier ≡ place → AllHold (rules_from spec (branch kept parent) b place cycles later)
@@ -195,13 +195,13 @@ from-rows spec kept parent b place cycles earlier [] tall later_place parts long
 from-rows spec kept parent b place cycles earlier (t ∷ later) tall later_place parts long hold =
     ap (λ (list : List (OutPoint × Row)). list ++ spent_from spec kept parent b (suc place) later)
     (transaction-rows kept parent site rows t height place seen spends
-    (live-by-rules site cycles t (holds-front (transaction_rules site cycles t) (rules_from spec (branch kept parent) b (suc place) (left_after site cycles t) later) hold)))
+    (live-by-rules site cycles t (holds-prefix (transaction_rules site cycles t) (rules_from spec (branch kept parent) b (suc place) (left_after site cycles t) later) hold)))
     ∙ ap (λ (list : List (OutPoint × Row)). spent_of (events_of t height place) rows ++ list)
     (ap (λ (n : ℕ). spent_from spec kept parent b n later) next
     ∙ from-rows spec kept parent b (place + 1) (left_after site cycles t) (earlier ++ t ∷ []) later tall (omega (arith, later_place))
     (parts ∙ sym (append_assoc earlier (t ∷ []) later)) (length_push earlier t ∙ ap (λ (n : ℕ). n + 1) long)
     (subst (λ (n : ℕ). AllHold (rules_from spec (branch kept parent) b n (left_after site cycles t) later)) next
-    (holds-behind (transaction_rules site cycles t) (rules_from spec (branch kept parent) b (suc place) (left_after site cycles t) later) hold))
+    (holds-after (transaction_rules site cycles t) (rules_from spec (branch kept parent) b (suc place) (left_after site cycles t) later) hold))
     ∙ ap (λ (found : OutPoint → Option Row). spent_of (events_from (place + 1) later height) found) more)
     ∙ sym (spent-append (events_of t height place) (events_from (place + 1) later height) rows)
   where

@@ -39,7 +39,7 @@ proposes_well spec uncle =
     nat_le (length uncle.proposals) spec.max_proposals && are_distinct uncle.proposals
     && bytes_eq uncle.header.proposals_hash (proposals_hash uncle.proposals)
 
--- an uncle of a block on a branch, behind those that stand before it
+-- an uncle of a block on a branch, after those that stand before it
 abbrev pub is_uncle : Specification → List Block → Block → List UncleBlock → UncleBlock → Bool
 is_uncle spec branch b earlier uncle =
     is_beside b.header uncle.header && stands_on (known_headers branch earlier) uncle.header && is_new (known_headers branch earlier) uncle.header

@@ -18,14 +18,14 @@ pub first_failing-none : first_failing [] ≡ None
 unfolding first_failing
 first_failing-none = refl
 
--- behind rules that are all kept
+-- after rules that are all kept
 pub first_failing-append-holds : (earlier later : List (ℕ × Bool)) → AllHold earlier → first_failing (earlier ++ later) ≡ first_failing later
 unfolding first_failing
 first_failing-append-holds [] later kept = refl
 first_failing-append-holds ((number, true) ∷ earlier) later kept = first_failing-append-holds earlier later (All-tail (λ rule. IsTrue rule.1) (number, true) earlier kept)
 first_failing-append-holds ((number, false) ∷ earlier) later kept = let broken : false ≡ true = All-head (λ rule. IsTrue rule.1) (number, false) earlier kept in cc
 
--- one that is broken is so whatever stands behind
+-- one that is broken is so whatever stands after
 pub first_failing-append-fails : (number : ℕ) (earlier later : List (ℕ × Bool)) → first_failing earlier ≡ Some number → first_failing (earlier ++ later) ≡ Some number
 unfolding first_failing
 first_failing-append-fails number [] later e = cc

@@ -26,7 +26,7 @@ pub(crate) fn reads(view: &str, bytes: &[u8]) -> Option<bool> {
     }
 }
 
-/// Whether the view reads the bytes, and none of their fronts.
+/// Whether the view reads the bytes, and none of their prefixes.
 pub(crate) fn reads_uncut(view: &str, bytes: &[u8]) -> Option<bool> {
     for n in 0..bytes.len() {
         if reads(view, &bytes[..n])? {

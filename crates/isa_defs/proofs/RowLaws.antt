@@ -128,7 +128,7 @@ option_or-none : (o : Option Ins) → option_or o None ≡ o
 option_or-none (Some i) = refl
 option_or-none None = refl
 
--- rows that the word does not match, behind others
+-- rows that the word does not match, after others
 pub encoded_in-before : (xs ys : List Row) (w : ℕ) → encoded_in ys w ≡ None → encoded_in (xs ++ ys) w ≡ encoded_in xs w
 encoded_in-before xs ys w none =
     encoded_in-append xs ys w ∙ ap (option_or (encoded_in xs w)) none ∙ option_or-none (encoded_in xs w)

@@ -25,7 +25,7 @@ module _ (limits : Limits) (items : List (List ℕ)) (all : AreItems limits 0 it
         ends = end_at-nothing (limits.item (length items)) limits.input (length (concat items));
       })
 
-  -- bytes behind them that hold no whole item
+  -- bytes after them that hold no whole item
   pub partial_no_further : (limit offset : ℕ) (given whole : List ℕ) → whole ≡ concat items ++ given → limits.item (length items) ≡ Some limit
       → offset ≡ length (concat items) → IsPartial limit limits.input offset given → ReadsNoFurther limits whole
   partial_no_further limit offset given whole whole_is limit_is offset_is partial =
@@ -40,7 +40,7 @@ module _ (limits : Limits) (items : List (List ℕ)) (all : AreItems limits 0 it
             ∙ ap (λ (n : ℕ). end_at (Some limit) limits.input n given) (sym offset_is) ∙ partial.ends;
       })
 
-  -- the reading was stopped inside the item behind them, or at its end
+  -- the reading was stopped inside the item after them, or at its end
   pub stopped_no_further : (limit offset : ℕ) (given whole : List ℕ) → whole ≡ concat items ++ given → limits.item (length items) ≡ Some limit
       → offset ≡ length (concat items) → (IsItem limit given → ReadsNoFurther limits whole)
       → IsPartial limit limits.input offset given ⊎ IsItemAt limit limits.input offset given given → ReadsNoFurther limits whole
@@ -48,7 +48,7 @@ module _ (limits : Limits) (items : List (List ℕ)) (all : AreItems limits 0 it
       partial_no_further limit offset given whole whole_is limit_is offset_is partial
   stopped_no_further limit offset given whole whole_is limit_is offset_is all_of_it (inr item) = all_of_it item.is_item
 
-  -- a byte behind them where no item is taken
+  -- a byte after them where no item is taken
   pub byte_no_further : (byte whole : List ℕ) → whole ≡ concat items ++ byte → limits.item (length items) ≡ None → length byte ≡ 1 → ReadsNoFurther limits whole
   byte_no_further byte whole whole_is none_is one =
       subst (λ (s : Split). EndsTheReading limits s) (sym split) (λ at. one ∙ sym (ap bytes_at_end none_is))

@@ -68,7 +68,7 @@ past_partial limit input offset word four least most past = record {
   word = λ at. four;
 }
 
--- the front of an item
+-- the start of an item
 front_partial : (limit : ℕ) (input : Option ℕ) (offset : ℕ) (given : List ℕ) → 4 ≤ length given → 4 ≤ size_word given → size_word given ≤ limit
     → is_past input (offset + size_word given) ≡ false → length given < size_word given → IsPartial limit input offset given
 front_partial limit input offset given long least most within short = record {
@@ -166,9 +166,9 @@ ends_at_byte offset given left one = record {
   to_end = λ e. cc;
 }
 
--- ---- An item behind its size word
+-- ---- An item after its size word
 
--- the size that a word at the front says
+-- the size that a word at the start says
 front_word : (word given : List ℕ) → length word ≡ 4 → size_word (word ++ given) ≡ from_le_bytes w32 word
 front_word word given four = size_word-append word given (omega arith) ∙ size_of_word word four
 
@@ -180,7 +180,7 @@ stopped_in_item limit input offset size word given four is least most within sho
     let long : length (word ++ given) ≡ 4 + length given = omega (arith, four, length-append word given) in
     front_partial limit input offset (word ++ given) (omega (arith, long)) (rw says least) (rw says most) (rw says within) (rw says (omega (arith, long, short)))
 
--- the bytes behind the word: the first n of what was read into the item
+-- the bytes after the word: the first n of what was read into the item
 length_read : (n : ℕ) (item : List ℕ) → n + 4 ≤ length item → length (take n (drop 4 item)) ≡ n
 length_read n item fits = length-take-le n (drop 4 item) (omega (arith, length-drop 4 item))
 

@@ -38,7 +38,7 @@ pub next_limit : (limits : List ℕ) (vectors : List (Vec ℕ Global)) (i : ℕ)
     → slice_get limits (length (map (λ (v : Vec ℕ Global). v.items) vectors)) ≡ Some (get_or limits i 0)
 next_limit limits vectors i count more = ap (slice_get limits) (count_of vectors i count) ∙ slice_get-get_or limits i 0 more
 
--- none is taken behind the last
+-- none is taken after the last
 pub last_limit : (limits : List ℕ) (items : List (List ℕ)) → length items ≡ length limits → slice_get limits (length items) ≡ None
 last_limit limits items count = slice_get_past limits (length items) (omega (arith, count))
 
@@ -169,7 +169,7 @@ module _ (limits : List ℕ) (items : List (List ℕ)) (all : AreItems (whole_li
       answer_at needed limit left vectors end (end_after needed count end) offset given whole items_are whole_is limit_is offset_is ends_here partial
       (ap (λ (n : ℕ). end_after needed n end) (ap length items_are ∙ count_of vectors.items count (sym count_is)))
 
-  -- behind the last
+  -- after the last
   pub ends_behind : (needed : ℕ) (left : Option (List ℕ)) (offset : ℕ) (given whole : List ℕ)
       → whole ≡ concat items ++ given → needed ≤ length limits → length items ≡ length limits → offset ≡ length (concat items)
       → length given ≡ 1 → EndsEarly limits needed left Extra offset whole

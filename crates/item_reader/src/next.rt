@@ -97,7 +97,7 @@ fn fill<S: Source>(input: &mut S, word: &[u8; 4], item: &mut [u8]) -> Result<usi
     requires { 4 ≤ length item.old }
     ensures read { IfOk result (λ n. n + 4 ≤ length item.old) }
     ensures given { IfOk result (λ n. Gives (S.left input.old) (S.left input.new) (take n (drop 4 item.new))) }
-    ensures front { IfOk result (λ n. take 4 item.new ≡ word.now) }
+    ensures prefix { IfOk result (λ n. take 4 item.new ≡ word.now) }
     ensures end { IfOk result (λ n. n + 4 < length item.old → IsAtEnd (S.left input.new)) }
     ensures given_before { OnErr result ((given : List ℕ) × (length given + 4 < length item.old)
         × Gives (S.left input.old) (S.left input.new) given) }

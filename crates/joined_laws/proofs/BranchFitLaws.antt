@@ -32,7 +32,7 @@ places-last most kept place = by_parent (parent_place kept place)
         let at : length (places_within most kept parent ++ place ∷ []) - 1 ≡ length (places_within most kept parent) = omega (arith, more) in
         ap (slice_get (places_within most kept parent ++ place ∷ [])) at ∙ slice_get-push (places_within most kept parent) place
 
--- a place on a branch behind another has it as its parent, whose branch ends there
+-- a place on a branch after another has it as its parent, whose branch ends there
 record IsLink (kept : List Block) (height parent place : ℕ) : Type 0 where
   on : parent_place kept place ≡ Some parent
   long : length (branch_places kept parent) ≡ height + 1

@@ -23,7 +23,7 @@ use Rattle.family_defs.specs.Cellbase.{forms_cellbase, is_first_well_formed, is_
 use Rattle.block_defs.specs.Transactions.{is_proposed, transaction_rules, left_after, rules_from}
 use Rattle.block_defs.specs.Rules.{first_broken}
 use Rattle.joined_laws.specs.Laws.{WhatJoinsFits}
-use Rattle.joined_laws.proofs.RuleLemmas.{holds-front, holds-behind, forms-unbroken, transactions-unbroken}
+use Rattle.joined_laws.proofs.RuleLemmas.{holds-prefix, holds-after, forms-unbroken, transactions-unbroken}
 use Rattle.joined_laws.proofs.EventFit.{FitAfter, FitAfter-append, all-fit}
 use Rattle.joined_laws.proofs.TransactionFit.{AllLive, all-live, NoneMade, transaction-fits, cellbase-fits}
 
@@ -54,11 +54,11 @@ fitting-rules : (site : Site) (left : ℕ) (t : Transaction) → AllHold (transa
 fitting-rules site left t hold = fitting site t
     (All-head (λ rule. IsTrue rule.1) (20, spends_live_cells site t) (drop 1 (cell_rules site t)) cells)
     (All-head (λ rule. IsTrue rule.1) (25, makes_good_cells site t) (drop 6 (cell_rules site t))
-    (holds-behind (take 5 (cell_rules site t)) (drop 5 (cell_rules site t)) cells))
+    (holds-after (take 5 (cell_rules site t)) (drop 5 (cell_rules site t)) cells))
   where
     cells : AllHold (cell_rules site t)
-    cells = holds-front (cell_rules site t) (script_rules (scene_of site t) left)
-        (holds-behind (form_rules t ++ (19, is_proposed site.spec site.branch t) ∷ []) (cell_rules site t ++ script_rules (scene_of site t) left) hold)
+    cells = holds-prefix (cell_rules site t) (script_rules (scene_of site t) left)
+        (holds-after (form_rules t ++ (19, is_proposed site.spec site.branch t) ∷ []) (cell_rules site t ++ script_rules (scene_of site t) left) hold)
 
 -- ---- One transaction after the other
 
@@ -73,7 +73,7 @@ events_from-push place (first ∷ earlier) t height =
     ∙ sym (append_assoc (events_of first height place) (events_from (place + 1) earlier height) (events_of t height ((place + 1) + length earlier)))
     ∙ ap (λ (n : ℕ). (events_of first height place ++ events_from (place + 1) earlier height) ++ events_of t height n) at
 
--- The events of transactions that keep their rules fit behind those of the earlier ones of their block.
+-- The events of transactions that keep their rules fit after those of the earlier ones of their block.
 transactions-fit : (spec : Specification) (on : List Block) (b : Block) (place left : ℕ) (earlier later : List Transaction) → b.transactions ≡ earlier ++ later
     → length earlier ≡ place → AllHold (rules_from spec on b place left later)
     → FitAfter (events on ++ events_from 0 earlier (length on)) (events_from place later (length on))
@@ -86,7 +86,7 @@ transactions-fit spec on b place left earlier (t ∷ later) parts long hold =
     (transactions-fit spec on b (place + 1) (left_after site left t) (earlier ++ t ∷ []) later (parts ∙ sym (append_assoc earlier (t ∷ []) later))
     (length_push earlier t ∙ ap (λ (n : ℕ). n + 1) long)
     (subst (λ (n : ℕ). AllHold (rules_from spec on b n (left_after site left t) later)) next
-    (holds-behind (transaction_rules site left t) (rules_from spec on b (suc place) (left_after site left t) later) hold))))
+    (holds-after (transaction_rules site left t) (rules_from spec on b (suc place) (left_after site left t) later) hold))))
   where
     height : ℕ
     height = length on
@@ -102,7 +102,7 @@ transactions-fit spec on b place left earlier (t ∷ later) parts long hold =
 
     fit : Fitting (cell_after (events on ++ events_from 0 earlier (length on))) t
     fit = subst (λ (front : List Transaction). Fitting (cell_after (events on ++ events_from 0 front (length on))) t) before
-        (fitting-rules site left t (holds-front (transaction_rules site left t) (rules_from spec on b (suc place) (left_after site left t) later) hold))
+        (fitting-rules site left t (holds-prefix (transaction_rules site left t) (rules_from spec on b (suc place) (left_after site left t) later) hold))
 
     more : events on ++ events_from 0 (earlier ++ t ∷ []) (length on) ≡ (events on ++ events_from 0 earlier (length on)) ++ events_of t (length on) place
     more = ap (λ (behind : List Event). events on ++ behind) (events_from-push 0 earlier t (length on)

@@ -22,17 +22,17 @@ use Rattle.block_defs.specs.Rules.{all_rules, first_broken}
 use Rattle.time_defs.specs.Dao.{is_rated}
 use Rattle.genesis_defs.specs.Genesis.{is_first, has_no_uncles_or_proposals, has_transactions, all_hold_capacity, genesis_rules}
 
--- ---- Rows in front and behind
+-- ---- Rows in front and after
 
-pub holds-front : (earlier later : List (ℕ × Bool)) → AllHold (earlier ++ later) → AllHold earlier
-holds-front [] later hold = All-nil (λ rule. IsTrue rule.1)
-holds-front (rule ∷ rules) later hold =
+pub holds-prefix : (earlier later : List (ℕ × Bool)) → AllHold (earlier ++ later) → AllHold earlier
+holds-prefix [] later hold = All-nil (λ rule. IsTrue rule.1)
+holds-prefix (rule ∷ rules) later hold =
     All-cons (λ rule. IsTrue rule.1) rule rules (All-head (λ rule. IsTrue rule.1) rule (rules ++ later) hold)
-    (holds-front rules later (All-tail (λ rule. IsTrue rule.1) rule (rules ++ later) hold))
+    (holds-prefix rules later (All-tail (λ rule. IsTrue rule.1) rule (rules ++ later) hold))
 
-pub holds-behind : (earlier later : List (ℕ × Bool)) → AllHold (earlier ++ later) → AllHold later
-holds-behind [] later hold = hold
-holds-behind (rule ∷ rules) later hold = holds-behind rules later (All-tail (λ rule. IsTrue rule.1) rule (rules ++ later) hold)
+pub holds-after : (earlier later : List (ℕ × Bool)) → AllHold (earlier ++ later) → AllHold later
+holds-after [] later hold = hold
+holds-after (rule ∷ rules) later hold = holds-after rules later (All-tail (λ rule. IsTrue rule.1) rule (rules ++ later) hold)
 
 -- ---- A block
 
@@ -64,7 +64,7 @@ behind-forms spec branch b unbroken = All-drop (λ rule. IsTrue rule.1) 14 (all_
 pub reward-unbroken : (spec : Specification) (branch : List Block) (b : Block) → first_broken spec branch b ≡ None → IsTrue (pays_reward spec branch b)
 reward-unbroken spec branch b unbroken =
     All-head (λ rule. IsTrue rule.1) (31, pays_reward spec branch b) ((32, has_next_dao spec branch b) ∷ [])
-    (holds-behind (rules_of_transactions spec branch b) (end_rules spec branch b) (behind-forms spec branch b unbroken))
+    (holds-after (rules_of_transactions spec branch b) (end_rules spec branch b) (behind-forms spec branch b unbroken))
 
 -- J32
 pub dao-unbroken : (spec : Specification) (branch : List Block) (b : Block) → first_broken spec branch b ≡ None → IsTrue (has_next_dao spec branch b)
@@ -72,13 +72,13 @@ dao-unbroken spec branch b unbroken =
     let last : List (ℕ × Bool) = (32, has_next_dao spec branch b) ∷ [] in
     All-head (λ rule. IsTrue rule.1) (32, has_next_dao spec branch b) []
     (All-tail (λ rule. IsTrue rule.1) (31, pays_reward spec branch b) last
-    (holds-behind (rules_of_transactions spec branch b) (end_rules spec branch b) (behind-forms spec branch b unbroken)))
+    (holds-after (rules_of_transactions spec branch b) (end_rules spec branch b) (behind-forms spec branch b unbroken)))
 
--- the rules on all its transactions behind the first
+-- the rules on all its transactions after the first
 pub transactions-unbroken : (spec : Specification) (branch : List Block) (b : Block) → first_broken spec branch b ≡ None
     → AllHold (rules_of_transactions spec branch b)
 transactions-unbroken spec branch b unbroken =
-    holds-front (rules_of_transactions spec branch b) (end_rules spec branch b) (behind-forms spec branch b unbroken)
+    holds-prefix (rules_of_transactions spec branch b) (end_rules spec branch b) (behind-forms spec branch b unbroken)
 
 -- ---- A transaction
 
@@ -98,11 +98,11 @@ hold-from spec branch b place left [] i t hold there = absurd (cc)
 hold-from spec branch b place left (first ∷ later) zero t hold there =
     subst (λ (x : Transaction). IsTrue (outputs_hold_their_own x)) (same_Some first t there)
     (hold-by-rules (site_at spec branch b place) left first
-    (holds-front (transaction_rules (site_at spec branch b place) left first)
+    (holds-prefix (transaction_rules (site_at spec branch b place) left first)
     (rules_from spec branch b (suc place) (left_after (site_at spec branch b place) left first) later) hold))
 hold-from spec branch b place left (first ∷ later) (suc i) t hold there =
     hold-from spec branch b (suc place) (left_after (site_at spec branch b place) left first) later i t
-    (holds-behind (transaction_rules (site_at spec branch b place) left first)
+    (holds-after (transaction_rules (site_at spec branch b place) left first)
     (rules_from spec branch b (suc place) (left_after (site_at spec branch b place) left first) later) hold) there
 
 -- J27: each fee is a number of eight bytes.
@@ -124,8 +124,8 @@ fees-fit spec branch b place left (t ∷ later) hold =
     let site : Site = site_at spec branch b place in
     let rest : List (ℕ × Bool) = rules_from spec branch b (suc place) (left_after site left t) later in
     All-cons (λ paid. paid < 2 ^ 64) (fee site t) (fees_from spec branch b (suc place) later)
-    (fee-fits site t (balances-by-rules site left t (holds-front (transaction_rules site left t) rest hold)))
-    (fees-fit spec branch b (suc place) (left_after site left t) later (holds-behind (transaction_rules site left t) rest hold))
+    (fee-fits site t (balances-by-rules site left t (holds-prefix (transaction_rules site left t) rest hold)))
+    (fees-fit spec branch b (suc place) (left_after site left t) later (holds-after (transaction_rules site left t) rest hold))
 
 -- ---- A genesis
 

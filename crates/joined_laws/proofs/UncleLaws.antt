@@ -172,16 +172,16 @@ NoneIsAncestor on = (height other index : ℕ) (b ancestor : Block) (uncle : Unc
 none-on : (spec : Specification) (on : List Block) (last : Block) → IsTrue (has_uncles spec on last) → NoneIsAncestor on → NoneIsAncestor (on ++ last ∷ [])
 none-on spec on last all earlier height other index b ancestor uncle there embedded above less same = by_height (slice_get-pushed on last height b there)
   where
-    in_front : other < length on → block_at on other ≡ Some ancestor
-    in_front within = sym (slice_get-before on (last ∷ []) other within) ∙ above
+    in_prefix : other < length on → block_at on other ≡ Some ancestor
+    in_prefix within = sym (slice_get-before on (last ∷ []) other within) ∙ above
 
     by_height : ((height < length on) × (slice_get on height ≡ Some b)) ⊎ ((height ≡ length on) × (last ≡ b)) → ⊥
-    by_height (inl before) = earlier height other index b ancestor uncle before.1 embedded (in_front (omega (arith, before.0, less))) less same
+    by_height (inl before) = earlier height other index b ancestor uncle before.1 embedded (in_prefix (omega (arith, before.0, less))) less same
     by_height (inr at_end) =
         let mine : slice_get last.uncles index ≡ Some uncle = ap (λ (x : Block). slice_get x.uncles index) at_end.1 ∙ embedded in
         let known = known-parts on (take index last.uncles) (uncle_hash uncle) (new-at spec on last index uncle all mine) in
         let apart : bytes_eq (block_hash ancestor) (uncle_hash uncle) ≡ false =
-        any-at (λ (x : Block). bytes_eq (block_hash x) (uncle_hash uncle)) on other ancestor known.ancestors (in_front (omega (arith, at_end.0, less))) in
+        any-at (λ (x : Block). bytes_eq (block_hash x) (uncle_hash uncle)) on other ancestor known.ancestors (in_prefix (omega (arith, at_end.0, less))) in
         let one : bytes_eq (block_hash ancestor) (uncle_hash uncle) ≡ true = (bytes_eq-Decides (block_hash ancestor) (uncle_hash uncle)).1 (sym same) in
         cc
 

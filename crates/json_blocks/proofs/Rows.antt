@@ -8,17 +8,17 @@ use Rattle.serde_json.specs.Written.{compact_text, members_text, items_text, com
 use Rattle.json_defs.specs.Form.{items}
 use Rattle.json_blocks.specs.Text.{key_text, Puts, PutsTree, PutsRow}
 
--- the members behind another one, with the end of their object
+-- the members after another one, with the end of their object
 pub record PutsFurther (old new : List ℕ) (ms : Members) : Type 0 where
   pub is : new ≡ old ++ members_text true ms
 
--- the first row of an object, and all behind it
+-- the first row of an object, and all after it
 pub first_row : {old x z key : List ℕ} {d : Data} {ms : Members}
     → PutsRow old x 123 key d → PutsFurther x z ms → PutsTree old z (object (member key d ms))
 first_row {old} {x} {z} {key} {d} {ms} here behind =
     record { is = behind.is ∙ ap (λ (l : List ℕ). l ++ members_text true ms) here.is ∙ simp append_assoc }
 
--- a further row, and all behind it
+-- a further row, and all after it
 pub next_row : {old x z key : List ℕ} {d : Data} {ms : Members}
     → PutsRow old x 44 key d → PutsFurther x z ms → PutsFurther old z (member key d ms)
 next_row {old} {x} {z} {key} {d} {ms} here behind =
@@ -65,7 +65,7 @@ list_goes_on {V} {out} {x} {y} whole tree vs i v at before comma then =
     let later : nat_lt 0 (suc i) ≡ true = lt-ltb 0 (suc i) (omega arith) in
     rw (add-one, later) (ap (λ (l : List ℕ). l ++ others) pieces ∙ tidy ∙ text)
 
--- behind the last item
+-- after the last item
 pub list_ends : {V : Type 0} (out z whole : List ℕ) (tree : V → Data) (vs : List V) (later : Bool) (i : ℕ)
     → length vs ≤ i → out ++ items_text later (items tree (drop i vs)) ≡ whole → z ≡ out ++ 93 ∷ [] → z ≡ whole
 list_ends {V} out z whole tree vs later i end before then =

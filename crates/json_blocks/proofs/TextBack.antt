@@ -77,7 +77,7 @@ list-sound n of each vs =
 
 -- ---- objects, member by member
 
--- the members put behind those found
+-- the members put after those found
 record MembersSound (n : ℕ) (found ms whole : Members) : Type 0 where
   numbers : tree.MembersHaveNumbers (members_outline ms)
   shallow : tree.members_depth (members_outline ms) ≤ n

@@ -16,7 +16,7 @@ IsPlain s = IsTrue (list_all is_plain s)
 abbrev pub key_text : ℕ → List ℕ → List ℕ
 key_text mark key = mark ∷ (quoted key ++ 58 ∷ [])
 
--- ---- what a call puts behind what was there
+-- ---- what a call puts after what was there
 
 pub record Puts (old new text : List ℕ) : Type 0 where
   pub is : new ≡ old ++ text

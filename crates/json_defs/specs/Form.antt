@@ -30,7 +30,7 @@ hex_text hex_digits = codes "0x" ++ hex_digits
 abbrev pub lower_digit : ℕ → ℕ
 lower_digit c = if nat_le 65 c && nat_le c 70 then c + 32 else c
 
--- the text, with the digits behind "0x" in lower case
+-- the text, with the digits after "0x" in lower case
 abbrev pub lowered : List ℕ → List ℕ
 lowered s = take 2 s ++ map lower_digit (drop 2 s)
 

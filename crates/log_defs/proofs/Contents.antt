@@ -39,7 +39,7 @@ says_its_records place records bytes rest =
     let test : bytes_eq (take 8 bytes) magic ≡ true = (bytes_decides (take 8 bytes) magic).1 rest.begins in
     ap (λ (b : Bool). cond b (content_of_records (records_of (drop 8 bytes))) None) test ∙ ap content_of_records rest.holds
 
--- one block more behind the others
+-- one block more after the others
 blocks-push : (kept : List Block) (records : List Record) (r : Record) (all : List Block) (b : Block) → blocks_over kept records ≡ Some all
     → block_of_record all r ≡ Some b → blocks_over kept (records ++ r ∷ []) ≡ Some (all ++ b ∷ [])
 blocks-push kept [] r all b over stands =

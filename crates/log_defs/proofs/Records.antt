@@ -14,7 +14,7 @@ use Rattle.log_defs.specs.LogLaws.{HasFittingBody, ReadsTheRecords, KeepsTheReco
 pub record_length : (r : Record) → length (record_bytes r) ≡ 6 + length r.body
 record_length r = length-append (1 ∷ r.kind ∷ to_le_bytes w32 (length r.body)) r.body
 
--- a whole record at the front, by its parts
+-- a whole record at the start, by its parts
 pub record IsRecordAt (r : Record) (bytes : List ℕ) : Type 0 where
   pub open_gate : slice_index bytes 0 ≡ 1
   pub kind : slice_index bytes 1 ≡ r.kind
@@ -56,10 +56,10 @@ parts_at bytes r is = by_test (eqb (slice_index bytes 0) 1 && ltb (6 + count_at 
         } in
         subst (λ (x : Record). IsRecordAt x bytes) (cc) parts
 
--- bytes with the same front have the same record there
-pub front_kept : (bytes other : List ℕ) (r : Record) → record_at bytes ≡ Some r → take (length (record_bytes r)) other ≡ take (length (record_bytes r)) bytes
+-- bytes with the same prefix have the same record there
+pub prefix_kept : (bytes other : List ℕ) (r : Record) → record_at bytes ≡ Some r → take (length (record_bytes r)) other ≡ take (length (record_bytes r)) bytes
     → length (record_bytes r) < length other → record_at other ≡ Some r
-front_kept bytes other r there same more =
+prefix_kept bytes other r there same more =
     let k : ℕ = length r.body in
     let n : ℕ = length (record_bytes r) in
     let long : n ≡ 6 + k = record_length r in
@@ -78,7 +78,7 @@ front_kept bytes other r there same more =
       whole = omega (arith, long, more);
     })
 
--- a record and something behind it
+-- a record and something after it
 pub record_made : (r : Record) (end : List ℕ) → HasFittingBody r → 0 < length end → record_at (record_bytes r ++ end) ≡ Some r
 record_made r end fits some = found_at (record_bytes r ++ end) r (record {
   open_gate = refl;
@@ -172,7 +172,7 @@ keeps_within (suc most) bytes other = by_found (λ here there. keeps_within most
         let both : take (n + m) other ≡ take (n + m) bytes = subst (λ (k : ℕ). take k other ≡ take k bytes) sum same in
         let first : take n other ≡ take n bytes = sym (take-take n (n + m) other (omega arith)) ∙ ap (take n) both ∙ take-take n (n + m) bytes (omega arith) in
         let later : take m (drop n other) ≡ take m (drop n bytes) = sym (drop-take n m other) ∙ ap (drop n) both ∙ drop-take n m bytes in
-        let there : record_at other ≡ Some r = front_kept bytes other r is first (omega (arith, sum, more)) in
+        let there : record_at other ≡ Some r = prefix_kept bytes other r is first (omega (arith, sum, more)) in
         let behind : records_of (drop n other) ≡ rest ++ records_of (drop m (drop n other)) =
         again (drop n bytes) (drop n other) later (omega (arith, length-drop n other, sum, more)) in
         let place : drop m (drop n other) ≡ drop (size_of_all (r ∷ rest)) other = drop-drop m n other ∙ ap (λ (k : ℕ). drop k other) (sym sum) in

@@ -1,4 +1,4 @@
--- A log at rest stays so while its front does, and with one record more it is at rest behind that one.
+-- A log at rest stays so while its front does, and with one record more it is at rest after that one.
 use Rattle.std.proofs.Common.{◌≡◌, ◌⊎◌, inl, inr, ℕ, ◌+◌, ◌<◌, ◌≤◌, List, [], ◌∷◌, ◌++◌, length, take, drop, get_or, Some, None, refl, sym, ap, ◌∙◌, subst, arith}
 use Rattle.std.specs.Prelude.{slice_index, All}
 use Rattle.std.proofs.lemmas.Bool.{cases_eq}
@@ -21,7 +21,7 @@ end_is : (records : List Record) (bytes : List ℕ) → records_of (drop 8 bytes
 unfolding end_of_log
 end_is records bytes holds = ap (λ (l : List Record). 8 + size_of_all l) holds
 
--- bytes with the same front hold the records, and then what stands behind them
+-- bytes with the same prefix hold the records, and then what stands after them
 holds_more : (place : ℕ) (records : List Record) (bytes other : List ℕ) → EndsAt place records bytes → take place other ≡ take place bytes
     → place < length other → records_of (drop 8 other) ≡ records ++ records_of (drop place other)
 holds_more place records bytes other rest same more =
@@ -69,7 +69,7 @@ rest_kept place records bytes other rest same more closed =
     let none : record_at (drop place other) ≡ None = closed_none (drop place other) (λ is. closed (sym (gate_there place other) ∙ is)) in
     closed_rest place records other (ends_kept place records bytes other (ends_at place records bytes rest) same more none) closed
 
--- a record stands behind the others, and behind it a gate that is not open
+-- a record stands after the others, and after it a gate that is not open
 pub rest_grown : (place : ℕ) (records : List Record) (r : Record) (bytes other tail : List ℕ) → IsAtRest place records bytes → HasFittingBody r
     → take place other ≡ take place bytes → drop place other ≡ record_bytes r ++ 0 ∷ tail
     → IsAtRest (place + length (record_bytes r)) (records ++ r ∷ []) other

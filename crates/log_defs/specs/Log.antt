@@ -1,4 +1,4 @@
--- The log (docs/STORE.md): its first bytes, records behind open gates, and the end.
+-- The log (docs/STORE.md): its first bytes, records after open gates, and the end.
 use Rattle.std.specs.Prelude.{ℕ, zero, suc, ◌+◌, ◌-◌, ◌==◌, ◌&&◌, not, nat_lt, nat_le, Bool, List, [], ◌∷◌, ◌++◌, codes, length, take, drop, slice_index, Option, Some, None, is_some, is_none, if◌then◌else◌}
 use Rattle.std.specs.Option.{option_map, option_and_then}
 use Rattle.std.specs.Str.{bytes_eq}
@@ -17,11 +17,11 @@ pub record Record : Type 0 where
   pub kind : ℕ
   pub body : List ℕ
 
--- An open gate is the byte 1. Behind it stand the kind, the body's length and the body.
+-- An open gate is the byte 1. After it stand the kind, the body's length and the body.
 abbrev pub record_bytes : Record → List ℕ
 record_bytes r = 1 ∷ r.kind ∷ to_le_bytes w32 (length r.body) ++ r.body
 
--- The whole record at the front of bytes: its gate is open, and at least one byte follows it.
+-- The whole record at the start of bytes: its gate is open, and at least one byte follows it.
 unfoldable pub record_at : List ℕ → Option Record
 record_at bytes =
     let size = count_at bytes 2 in
@@ -29,7 +29,7 @@ record_at bytes =
     then Some (record { kind = slice_index bytes 1; body = take size (drop 6 bytes) })
     else None
 
--- the records at the front of bytes, one after the other, at most so many of them
+-- the records at the start of bytes, one after the other, at most so many of them
 abbrev pub records_within : ℕ → List ℕ → List Record
 records_within zero bytes = []
 records_within (suc most) bytes = elim (record_at bytes) [
@@ -71,7 +71,7 @@ may_stand_on kept b =
 abbrev pub block_if : Bool → Option Block → Option Block
 block_if holds found = if holds then found else None
 
--- the block of a record that may stand behind these blocks
+-- the block of a record that may stand after these blocks
 abbrev pub block_of_parts : List Block → Option (List ℕ × List ℕ) → Option Block
 block_of_parts kept None = None
 block_of_parts kept (Some parts) =
@@ -80,7 +80,7 @@ block_of_parts kept (Some parts) =
 abbrev pub block_of_record : List Block → Record → Option Block
 block_of_record kept r = block_if (r.kind == 3) (block_of_parts kept (parts_of_body r.body))
 
--- the blocks behind these, if each record has one that may stand there
+-- the blocks after these, if each record has one that may stand there
 abbrev pub blocks_over : List Block → List Record → Option (List Block)
 blocks_over kept [] = Some kept
 blocks_over kept (r ∷ records) = option_and_then (λ b. blocks_over (kept ++ b ∷ []) records) (block_of_record kept r)
@@ -112,7 +112,7 @@ content_of_records (one ∷ two ∷ records) =
     then option_map (λ blocks. record { specification = one.body; genesis = two.body; records = records; blocks = blocks }) (blocks_over (blocks_of_item two.body) records)
     else None
 
--- The bytes of a log, if they are one. What stands behind the last whole record is not looked at.
+-- The bytes of a log, if they are one. What stands after the last whole record is not looked at.
 unfoldable pub log_of : List ℕ → Option LogContent
 log_of bytes = if bytes_eq (take 8 bytes) magic then content_of_records (records_of (drop 8 bytes)) else None
 

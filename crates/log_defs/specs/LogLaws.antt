@@ -10,15 +10,15 @@ use Rattle.log_defs.specs.Rest.{IsAtRest}
 abbrev pub HasFittingBody : Record → Type 0
 HasFittingBody r = length r.body < 2 ^ 32
 
--- Law: records one after the other, and behind them an end that is not empty and begins with no whole record, are read as just these records.
+-- Law: records one after the other, and after them an end that is not empty and begins with no whole record, are read as just these records.
 abbrev pub ReadsTheRecords : Type 0
 ReadsTheRecords = (records : List Record) (end : List ℕ) → All HasFittingBody records → 0 < length end → record_at end ≡ None
     → records_of (all_record_bytes records ++ end) ≡ records
 
--- Law: bytes with the same front, up to where the records end, and a byte more hold the same records, and then those of what stands behind them.
+-- Law: bytes with the same prefix, up to where the records end, and a byte more hold the same records, and then those of what stands after them.
 abbrev pub KeepsTheRecords : Type 0
-KeepsTheRecords = (bytes other : List ℕ) → let front = length (all_record_bytes (records_of bytes)) in
-    take front other ≡ take front bytes → front < length other → records_of other ≡ records_of bytes ++ records_of (drop front other)
+KeepsTheRecords = (bytes other : List ℕ) → let end = length (all_record_bytes (records_of bytes)) in
+    take end other ≡ take end bytes → end < length other → records_of other ≡ records_of bytes ++ records_of (drop end other)
 
 -- Law: no whole record stands where the records end.
 abbrev pub EndsTheRecords : Type 0
@@ -32,7 +32,7 @@ GivesTheParts = (item ext : List ℕ) → length item < 2 ^ 32 → parts_of_body
 abbrev pub SaysItsRecords : Type 0
 SaysItsRecords = (place : ℕ) (records : List Record) (bytes : List ℕ) → IsAtRest place records bytes → log_of bytes ≡ content_of_records records
 
--- the log with a record and its block behind the others
+-- the log with a record and its block after the others
 abbrev pub grown : LogContent → Record → Block → LogContent
 grown log r b = record { specification = log.specification; genesis = log.genesis; records = log.records ++ r ∷ []; blocks = log.blocks ++ b ∷ [] }
 

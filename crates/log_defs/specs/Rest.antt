@@ -20,7 +20,7 @@ pub record IsAtRest (place : ℕ) (records : List Record) (bytes : List ℕ) : T
   pub there : place < length bytes
   pub closed : slice_index bytes place ≢ 1
 
--- at rest before a record is put behind the others, or after
+-- at rest before a record is put after the others, or after
 abbrev pub IsBeforeOrAfter : ℕ → List Record → Record → List ℕ → Type 0
 IsBeforeOrAfter place records r bytes = IsAtRest place records bytes ⊎ IsAtRest (place + length (record_bytes r)) (records ++ r ∷ []) bytes
 
@@ -35,16 +35,16 @@ pub record IsSettled (place : ℕ) (records : List Record) (reads : Option Image
 abbrev pub HasLog : (List ℕ → Type 0) → (Image → Type 0) → Image → Type 0
 HasLog P images = ComesBy (InArea Log (λ old new. P new)) images
 
--- It is no longer than it was, or than to one byte behind this place.
+-- It is no longer than it was, or than to one byte after this place.
 abbrev pub IsNoLonger : ℕ → List ℕ → List ℕ → Type 0
 IsNoLonger place old new = length new ≤ max (length old) (place + 1)
 
--- An image with the other areas of one of these, and with a log that is no longer than it was there, or than to one byte behind this place.
+-- An image with the other areas of one of these, and with a log that is no longer than it was there, or than to one byte after this place.
 abbrev pub HasNoLonger : ℕ → (Image → Type 0) → Image → Type 0
 HasNoLonger place images = ComesBy (InArea Log (IsNoLonger place)) images
 
 -- What an append of a record leaves of a log, at each moment: it is at rest before the record or after it, and no longer than it was, or than to one
--- byte behind the record.
+-- byte after the record.
 pub record IsAppended (place : ℕ) (records : List Record) (r : Record) (old new : List ℕ) : Type 0 where
   pub rest : IsBeforeOrAfter place records r new
   pub size : IsNoLonger (place + length (record_bytes r)) old new

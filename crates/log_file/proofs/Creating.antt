@@ -122,7 +122,7 @@ settles_new place specification genesis bytes (Some old) reads1 images1 some one
       durable = subst (λ (o : Option Image). IfSome o (IsDurable Log images1)) wrote durable;
     }
 
--- bytes that were put behind others, one after the other
+-- bytes that were put after others, one after the other
 pub four_behind : (old a b c d one two three four : List ℕ) → a ≡ old ++ one → b ≡ a ++ two → c ≡ b ++ three → d ≡ c ++ four
     → d ≡ old ++ (one ++ ((two ++ (three ++ [])) ++ four))
 four_behind old a b c d one two three four first second third fourth =

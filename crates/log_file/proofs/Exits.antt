@@ -75,7 +75,7 @@ answer_counts before now value fault still = record {
 pub answer_still : {T E : Type 0} (before now : ℕ) (value : T) (fault : E) → CountsFault before now (◌≡◌ {A = Result T E} (Ok value) (Err fault)) → now ≡ before
 answer_still before now value fault counts = counts.unchanged (no_error value fault)
 
--- the count behind calls that met no fault
+-- the count after calls that met no fault
 pub counts_on : {Fault : Type 0} (before mid now : ℕ) → mid ≡ before → CountsFault mid now Fault → CountsFault before now Fault
 counts_on before mid now still counts = record {
   later = omega (arith, still, counts.later);
@@ -135,6 +135,6 @@ answered before now value still = record { later = omega (arith, still); failed 
 pub wrong_not_fault : {T : Type 0} → ◌≡◌ {A = Result T LogStop} (Err NotAStore) (Err DiskFault) → ⊥
 wrong_not_fault is = absurd (cc)
 
--- the count behind calls that met no fault, and then a stop that is none
+-- the count after calls that met no fault, and then a stop that is none
 pub no_fault_behind : {Fault : Type 0} (before now : ℕ) → now ≡ before → (Fault → ⊥) → CountsFault before now Fault
 no_fault_behind before now still never = counts_on before now now still (no_fault_counts now never)

@@ -1,4 +1,4 @@
--- The front of a log, from its first bytes to its genesis.
+-- The start of a log, from its first bytes to its genesis.
 use Rattle.std.proofs.Common.{◌≡◌, ◌+◌, true, false, take, Option, Some, None, ◌∙◌, subst}
 use Rattle.std.specs.Prelude.{IfSome}
 use Rattle.time_defs.specs.Specification.{Specification, specification_of}

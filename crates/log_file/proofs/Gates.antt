@@ -1,4 +1,4 @@
--- A log with a record behind a closed gate, and the opening of that gate.
+-- A log with a record after a closed gate, and the opening of that gate.
 use Rattle.std.proofs.Common.{◌≡◌, ◌⊎◌, ℕ, ◌+◌, ◌<◌, ◌≤◌, ◌^◌, List, [], ◌∷◌, ◌++◌, length, take, drop, get_or, Option, Some, None, refl, sym, ap, ◌∙◌, subst, inl, inr, arith}
 use Rattle.std.specs.Prelude.{slice_index, IfSome}
 use Rattle.std.specs.Option.{option_map}
@@ -24,7 +24,7 @@ piece_length r = omega (arith, record_length r, length-append (to_le_bytes w32 (
 body_fits : (r : Record) (piece : List ℕ) → piece ≡ after_gate r → length piece < 2 ^ 32 + 6 → HasFittingBody r
 body_fits r piece same short = omega (arith, ap length same, piece_length r, record_length r, short)
 
--- whatever is written behind a gate that is not open, the log is at rest
+-- whatever is written after a gate that is not open, the log is at rest
 torn_kept : (place size : ℕ) (records : List Record) (bytes other : List ℕ) → IsAtRest place records bytes → Torn (place + 1) size bytes other → IsAtRest place records other
 torn_kept place size records bytes other rest h =
     let same : take place other ≡ take place bytes =
@@ -33,7 +33,7 @@ torn_kept place size records bytes other rest h =
     sym (get_or-take (place + 1) bytes place 0 (omega arith)) ∙ ap (λ (l : List ℕ). get_or l place 0) (sym h.before) ∙ get_or-take (place + 1) other place 0 (omega arith) in
     rest_kept place records bytes other rest same (omega (arith, rest.there, h.no_shorter)) (λ is. rest.closed (gate ∙ is))
 
--- a log at rest, with a record behind the gate at its end
+-- a log at rest, with a record after the gate at its end
 record IsStaged (place : ℕ) (records : List Record) (r : Record) (bytes : List ℕ) : Type 0 where
   rest : IsAtRest place records bytes
   tail : List ℕ
@@ -176,7 +176,7 @@ ends_there place piece (Some image) reads1 reads2 there wrote opened =
     let kept : length mid ≤ length (written place (1 ∷ []) mid) = (tears_to_the_written place 0 (1 ∷ []) mid (omega (arith, long))).no_shorter in
     subst (λ (o : Option Image). IfSome o (λ image. place + length piece < length image.log)) (sym some) (omega (arith, long, kept))
 
--- and it ends one byte behind them, or where it ended before
+-- and it ends one byte after them, or where it ended before
 pub ends_no_later : (place : ℕ) (piece : List ℕ) (reads reads1 reads2 : Option Image) → IfSome reads (λ image. place < length image.log)
     → reads1 ≡ option_map (write_area Log (place + 1) piece) reads → reads2 ≡ option_map (write_area Log place (1 ∷ [])) reads1
     → IfSome reads (λ image. IfSome reads2 (λ now. IsNoLonger (place + length piece) image.log now.log))

@@ -1,4 +1,4 @@
--- Blocks that are put behind others, from their records.
+-- Blocks that are put after others, from their records.
 use Rattle.std.proofs.Common.{◌≡◌, ◌⊎◌, inl, inr, ℕ, ◌<◌, Bool, true, false, cond, drop, List, [], ◌∷◌, ◌++◌, length, Option, Some, None, refl, sym, ap, ◌∙◌, subst, arith}
 use Rattle.std.specs.Prelude.{◌==◌, is_none, slice_get, IsTrue}
 use Rattle.std.proofs.lemmas.Bool.{and_right, eqb-true}

@@ -1,4 +1,4 @@
--- A gate that stands open behind the records of a log is closed.
+-- A gate that stands open after the records of a log is closed.
 use Rattle.std.proofs.Common.{◌≡◌, ℕ, ◌<◌, ◌≤◌, Bool, true, false, cond, List, [], ◌∷◌, length, Option, Some, None, refl, sym, ap, ◌∙◌, subst, arith}
 use Rattle.std.specs.Prelude.{slice_index, IfSome, ◌==◌}
 use Rattle.std.specs.Option.{option_map}

@@ -1,4 +1,4 @@
--- A log that is read from front to back, in pieces.
+-- A log that is read from start to end, in pieces.
 use Rattle.std.proofs.Common.{◌≡◌, ◌⊎◌, ℕ, ◌+◌, ◌-◌, ◌<◌, ◌≤◌, Bool, true, false, cond, eqb, ltb, List, ◌++◌, length, take, drop, get_or, Option, Some, None, refl, sym, ap, ◌∙◌, subst, arith, length-append}
 use Rattle.std.specs.Prelude.{IfSome, slice_index, ◌&&◌}
 use Rattle.std.specs.Str.{bytes_eq}
@@ -13,11 +13,11 @@ use Rattle.outside.specs.Image.{Image}
 use Rattle.cell_defs.specs.Ext.{count_at}
 use Rattle.codec_defs.specs.Schema.{Block}
 use Rattle.log_defs.specs.Log.{Record, record_at, record_bytes, record_limit, block_of_record, magic}
-use Rattle.log_defs.proofs.Records.{record_length, IsRecordAt, parts_at, front_kept}
+use Rattle.log_defs.proofs.Records.{record_length, IsRecordAt, parts_at, prefix_kept}
 use Rattle.log_file.specs.Grammar.{record_of}
 use Rattle.log_file.specs.Reading.{ReaderValue, IsReading, IsAt, HasPassed, OfRecordHere, IsWrongHere}
 
--- bytes of which the front was there, and the next n were read behind it
+-- bytes of which the prefix was there, and the next n were read after it
 front_read : (log items front part : List ℕ) (at n : ℕ) → take (length front) items ≡ front → length front ≤ length items
     → front ≡ take (length front) (drop at log) → length part ≡ length items - length front → n ≤ length part
     → take n part ≡ take (length part) (drop (at + length front) log)
@@ -50,7 +50,7 @@ told_front (Some image) into given front part at n is long room fits read =
     let within : m ≤ length (given ++ rest) = omega (arith, length-append given rest, ap length is) in
     λ was. front_read image.log (given ++ rest) front part at n (take_at given rest m (ap length is) ∙ is) within was size fits read
 
--- more bytes from the same place on, of which a reader had the front
+-- more bytes from the same place on, of which a reader had the prefix
 pub told_filled : (reads : Option Image) (old now : ReaderValue) (front bytes : List ℕ) (need size : ℕ) → old ≡ now → front ≡ old.ahead → need ≤ size → old.at + size ≤ old.len
     → IfSome reads (λ image. front ≡ take (length front) (drop old.at image.log) → bytes ≡ take size (drop old.at image.log))
     → IfSome reads (λ image. IsReading image.log now → IsReading image.log (record { len = old.len; at = old.at; ahead = bytes }) × (need ≤ length bytes))
@@ -64,7 +64,7 @@ told_filled (Some image) old now front bytes need size same is fits within read 
 
 -- ---- The record that stands where a reader is
 
--- bytes that are the front of others have the same record there, if they are long enough for it
+-- bytes that are the start of others have the same record there, if they are long enough for it
 same_record : (ahead rest : List ℕ) → ahead ≡ take (length ahead) rest → ((r : Record) → record_at rest ≡ Some r → length (record_bytes r) < length ahead)
     → record_at ahead ≡ record_at rest
 same_record ahead rest front enough = by_found (record_at rest) refl
@@ -80,14 +80,14 @@ same_record ahead rest front enough = by_found (record_at rest) refl
     none nothing (Some r) is =
         let n : ℕ = length (record_bytes r) in
         let whole : n < length ahead = omega (arith, (parts_at ahead r is).whole, record_length r) in
-        let there : record_at rest ≡ Some r = front_kept ahead rest r is (sym (same n (omega (arith, whole)))) (omega (arith, whole, short)) in
+        let there : record_at rest ≡ Some r = prefix_kept ahead rest r is (sym (same n (omega (arith, whole)))) (omega (arith, whole, short)) in
         absurd (cc)
 
     by_found : (o : Option Record) → record_at rest ≡ o → record_at ahead ≡ record_at rest
     by_found None is = none is (record_at ahead) refl ∙ sym is
     by_found (Some r) is =
         let whole : length (record_bytes r) < length ahead = enough r is in
-        front_kept rest ahead r is (same (length (record_bytes r)) (omega (arith, whole))) whole ∙ sym is
+        prefix_kept rest ahead r is (same (length (record_bytes r)) (omega (arith, whole))) whole ∙ sym is
 
 -- the size that the record here says to have
 says_its_size : (ahead rest : List ℕ) (size : ℕ) (r : Record) → ahead ≡ take (length ahead) rest → 7 ≤ length ahead → record_at rest ≡ Some r
@@ -156,7 +156,7 @@ told_whole (Some image) later old mid new left need size at_end at seven says sa
     subst (λ (o : Option Image). IfSome o (λ image. IsReading image.log mid → IsReading image.log new × (size + 1 ≤ length new.ahead))) same more in
     λ reading. as_long image.log old mid left need size at_end at (read reading).0 seven (read reading).1 says new at_new (again (read reading).0).0 (again (read reading).0).1
 
--- ---- The record at the front of bytes
+-- ---- The record at the start of bytes
 
 pub none_unless : (bytes : List ℕ) → ((r : Record) → IsRecordAt r bytes → ⊥) → record_at bytes ≡ None
 none_unless bytes never = by_found (record_at bytes) refl

@@ -87,7 +87,7 @@ first_says one two is_one is_two =
     let test : (are_first one two && leb 0 record_limit) ≡ true = and_from (are_first one two) (leb 0 record_limit) first (le-leb 0 record_limit (omega arith)) in
     ap (λ (t : Bool). cond t (Some (first_content one two)) None) test
 
--- a record that is wrong behind records that are not
+-- a record that is wrong after records that are not
 blocks_none : (kept : List Block) (records : List Record) (r : Record) (more : List Record) (all : List Block) → blocks_over kept records ≡ Some all
     → block_of_record all r ≡ None → blocks_over kept (records ++ (r ∷ more)) ≡ None
 blocks_none kept [] r more all over wrong =
@@ -165,7 +165,7 @@ names-push place (first ∷ records) (e ∷ es) r entry so_far last =
 abbrev record_of_stored : Stored → Record
 record_of_stored it = block_record (encoded shapes.block it.block) it.ext
 
--- one block more behind a genesis
+-- one block more after a genesis
 kept-push : (first : Record) (records : List Record) (stored : List Stored) (it : Stored) → first ∷ records ≡ kept_records stored
     → first ∷ (records ++ record_of_stored it ∷ []) ≡ kept_records (stored ++ it ∷ [])
 kept-push first records [] it held = absurd (cc)
@@ -173,7 +173,7 @@ kept-push first records (genesis ∷ later) it held =
     ap (λ (l : List Record). l ++ record_of_stored it ∷ []) held
     ∙ ap (λ (l : List Record). record_of 2 (encoded shapes.block genesis.block) ∷ l) (sym (map_push record_of_stored later it))
 
--- ---- From front to back
+-- ---- From start to end
 
 -- what the two first records are opened as
 opened_first : (one two : Record) (at : ℕ) (blocks : BlocksValue) → IsGenesisOf at two blocks → AreBlocks blocks.stored blocks.entries → at ≡ 14 + length one.body + 6

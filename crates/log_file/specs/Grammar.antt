@@ -45,18 +45,18 @@ pub record HoldsBlock (r : Record) (block : Block) (ext : List ℕ) : Type 0 whe
   pub is : r ≡ block_record (encoded shapes.block block) ext
   pub beside : ext ≡ ext_in r
 
--- It is the record of this block with this ext, and the block may stand behind these with this entry.
-pub record IsBehind (at : ℕ) (r : Record) (kept : List Block) (block : Block) (ext : List ℕ) (entry : Entry) : Type 0 where
+-- It is the record of this block with this ext, and the block may stand after these with this entry.
+pub record IsNextBlock (at : ℕ) (r : Record) (kept : List Block) (block : Block) (ext : List ℕ) (entry : Entry) : Type 0 where
   pub is : block_of_record kept r ≡ Some block
   pub holds : HoldsBlock r block ext
   pub described : Describes block entry
   pub parent : place_of kept block.header.parent_hash ≡ Some entry.parent
   pub named : NamesBody at r entry
 
--- a record's block with its ext, and the block's entry, or nothing where it is none of a block that may stand behind these
+-- a record's block with its ext, and the block's entry, or nothing where it is none of a block that may stand after these
 abbrev pub IsJudged : ℕ → Record → List Block → Option ((Block × List ℕ) × Entry) → Type 0
 IsJudged at r kept None = block_of_record kept r ≡ None
-IsJudged at r kept (Some found) = IsBehind at r kept found.0.0 found.0.1 found.1
+IsJudged at r kept (Some found) = IsNextBlock at r kept found.0.0 found.0.1 found.1
 
 -- ---- The blocks of a log
 

@@ -29,7 +29,7 @@ kept_records [] = []
 kept_records (genesis ∷ later) = record_of 2 (encoded block genesis.block) ∷ map (λ it. block_record (encoded block it.block) it.ext) later
 
 -- What the records of a log say, as it is opened: its blocks with their exts, of which no byte stands for that of the genesis, and their entries. The
--- first record that an entry names, that of the genesis, stands behind the start and the record of the specification; and each that is named holds its
+-- first record that an entry names, that of the genesis, stands after the start and the record of the specification; and each that is named holds its
 -- block's bytes and its ext.
 pub record AreOpened (log : LogContent) (stored : List Stored) (entries : List Entry) : Type 0 where
   pub blocks : blocks_of stored ≡ log.blocks

@@ -11,7 +11,7 @@ use Rattle.log_file.specs.declared.log.Rec.{Rec}
 abbrev pub block_record : List ℕ → List ℕ → Record
 block_record item ext = record { kind = 3; body = body_of_parts item ext }
 
--- What is written behind a record's gate: the record, and behind it a gate that is not open.
+-- What is written after a record's gate: the record, and after it a gate that is not open.
 abbrev pub after_gate : Record → List ℕ
 after_gate r = r.kind ∷ (to_le_bytes w32 (length r.body) ++ (r.body ++ 0 ∷ []))
 

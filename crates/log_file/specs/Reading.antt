@@ -1,4 +1,4 @@
--- A log that is read from front to back.
+-- A log that is read from start to end.
 use Rattle.std.specs.Prelude.{◌≡◌, ◌⊎◌, ℕ, ◌+◌, ◌<◌, List, length, take, drop, Some, None}
 use Rattle.codec_defs.specs.Schema.{Block}
 use Rattle.log_defs.specs.Log.{Record, record_bytes, record_at, record_limit, block_of_record}
@@ -31,7 +31,7 @@ pub record HasPassed (log : List ℕ) (P : Record → Type 0) (old new : ReaderV
 abbrev pub OfRecordHere : List ℕ → ReaderValue → (Record → Type 0) → Type 0
 OfRecordHere log reader P = (r : Record) → record_at (drop reader.at log) ≡ Some r → P r
 
--- A record stands here that is none of a block that may stand behind these, or there are as many as may be.
+-- A record stands here that is none of a block that may stand after these, or there are as many as may be.
 pub record IsWrongHere (log : List ℕ) (kept : List Block) (reader : ReaderValue) : Type 0 where
   pub r : Record
   pub there : record_at (drop reader.at log) ≡ Some r

@@ -12,7 +12,7 @@ use crate::body::Body;
 use crate::log::{Log, Rec};
 use outside::{Area, Disk, Failed, write_durably};
 
-/// How the record of `body` is named once it stands behind the others.
+/// How the record of `body` is named once it stands after the others.
 pub fn next_rec(log: &Log, body: &Body) -> Rec
     requires limit { log.now.place ≤ 2 ^ 61 }
     requires filled { 6 ≤ length body.now }
@@ -26,8 +26,8 @@ pub fn next_rec(log: &Log, body: &Body) -> Rec
     }
 }
 
-/// Puts the record of `body` behind the others, in four calls of the disk: the record and a closed gate behind it are
-/// written and synced, and then its own gate is opened and synced. LOG ends one byte behind the record, or where it
+/// Puts the record of `body` after the others, in four calls of the disk: the record and a closed gate after it are
+/// written and synced, and then its own gate is opened and synced. LOG ends one byte after the record, or where it
 /// ended before. It takes no memory.
 pub fn append<D: Disk>(log: Log, disk: &mut D, body: &Body) -> Result<(Log, Rec), Failed>
     requires limit { log.place ≤ 2 ^ 61 }
@@ -35,7 +35,7 @@ pub fn append<D: Disk>(log: Log, disk: &mut D, body: &Body) -> Result<(Log, Rec)
     requires there { IfSome (D.reads_as disk.old) (λ image. log.place < length image.log) }
 
     // Whatever records the log holds: at each moment a crash leaves those, or those and the new one, and nothing but
-    // what was there and one byte behind them; and after `Ok` the latter.
+    // what was there and one byte after them; and after `Ok` the latter.
     ensures settled { (records : List Record) (r : Record) → body.now ≡ after_gate r → IsSettled log.place records (D.reads_as disk.old) (D.images disk.old)
         → IfOk result (λ answer. IsSettled answer.0.place (records ++ r ∷ []) (D.reads_as disk.new) (D.images disk.new)) }
     ensures moments { (records : List Record) (r : Record) → body.now ≡ after_gate r → IsSettled log.place records (D.reads_as disk.old) (D.images disk.old)

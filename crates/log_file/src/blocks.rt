@@ -47,7 +47,7 @@ fn entry_of(block: &BlockView<'_>, parent: u32, at: u64, len: u32) -> Entry
     }
 }
 
-/// The entry of a block that may stand behind those of a tree: its parent is there, its number is that one's plus 1,
+/// The entry of a block that may stand after those of a tree: its parent is there, its number is that one's plus 1,
 /// and its hash is new.
 fn next_entry(tree: &Tree, block: &BlockView<'_>, at: u64, len: u32) -> Option<Entry>
     requires { length tree.now.entries < 2 ^ 32 }
@@ -78,7 +78,7 @@ struct Found<'a> {
     entry: Entry,
 }
 
-/// The block in the body of a record with its ext, and its entry, if it may stand behind those of a tree.
+/// The block in the body of a record with its ext, and its entry, if it may stand after those of a tree.
 fn judged<'a>(tree: &Tree, kind: u8, body: &'a [u8], at: u64) -> Option<Found<'a>>
     requires few { length tree.now.entries < 2 ^ 32 }
     requires fits { length body.now < 2 ^ 32 }
@@ -151,7 +151,7 @@ pub(crate) fn begin<V: Visitor>(
     }
 }
 
-/// Shows the block of a record behind the others, and adds its entry. The record's body begins at `at`.
+/// Shows the block of a record after the others, and adds its entry. The record's body begins at `at`.
 pub(crate) fn put<V: Visitor>(
     alloc: Global,
     visitor: &mut V,

@@ -11,7 +11,7 @@ use outside::NoMemory;
 use std::alloc::Global;
 use std::marker::Model;
 
-/// The block and the ext in the body of a block's record. None comes exactly where the length at the front is
+/// The block and the ext in the body of a block's record. None comes exactly where the length at the start is
 /// missing, or reaches past the body.
 pub fn parts(body: &[u8]) -> Option<(&[u8], &[u8])>
     ensures parts { option_map (λ p. (p.0.now, p.1.now)) result ≡ parts_of_body body.now }
@@ -27,7 +27,7 @@ pub fn parts(body: &[u8]) -> Option<(&[u8], &[u8])>
     Some((&body[4..end], &body[end..]))
 }
 
-/// A kind and a length behind what is there.
+/// A kind and a length after what is there.
 pub(crate) fn put_header(bytes: &mut Vec<u8>, kind: u8, len: u32) -> Result<(), NoMemory>
     ensures { OnOk result (bytes.new.items ≡ bytes.old.items ++ kind ∷ to_le_bytes w32 len) }
 {
@@ -36,7 +36,7 @@ pub(crate) fn put_header(bytes: &mut Vec<u8>, kind: u8, len: u32) -> Result<(), 
     Ok(())
 }
 
-/// The record of a block with its ext, and a closed gate, behind what is there.
+/// The record of a block with its ext, and a closed gate, after what is there.
 fn put_block(piece: &mut Vec<u8>, block: &[u8], ext: &[u8]) -> Result<(), NoMemory>
     requires { 4 + length block.now + length ext.now < 2 ^ 32 }
     ensures { OnOk result (piece.new.items ≡ piece.old.items ++ after_gate (block_record block.now ext.now)) }
@@ -49,7 +49,7 @@ fn put_block(piece: &mut Vec<u8>, block: &[u8], ext: &[u8]) -> Result<(), NoMemo
     Ok(())
 }
 
-/// What [`append`](crate::append) writes behind a gate. Clauses see these bytes; there are none before the first
+/// What [`append`](crate::append) writes after a gate. Clauses see these bytes; there are none before the first
 /// `fill`.
 #[derive(Drop)]
 pub struct Body {
@@ -94,7 +94,7 @@ impl Body {
         }
     }
 
-    /// What is written behind the gate.
+    /// What is written after the gate.
     pub(crate) fn piece(&self) -> &[u8]
         ensures value { result.now ≡ self.now }
         ensures fits { length result.now < 2 ^ 32 + 6 }

@@ -17,7 +17,7 @@ use crate::log::Log;
 use outside::{Area, Disk, Failed, NoMemory, WriteStop, write_durably};
 use std::alloc::Global;
 
-/// A record with its open gate behind what is there.
+/// A record with its open gate after what is there.
 fn put_record(bytes: &mut Vec<u8>, kind: u8, body: &[u8]) -> Result<(), NoMemory>
     requires { length body.now < 2 ^ 32 }
     ensures { OnOk result (bytes.new.items ≡ bytes.old.items ++ record_bytes (record_of kind body.now)) }
@@ -28,7 +28,7 @@ fn put_record(bytes: &mut Vec<u8>, kind: u8, body: &[u8]) -> Result<(), NoMemory
     Ok(())
 }
 
-/// The bytes of a new log behind what is there.
+/// The bytes of a new log after what is there.
 fn put_new_log(bytes: &mut Vec<u8>, spec: &[u8], genesis: &[u8]) -> Result<(), NoMemory>
     requires spec { length spec.now < 2 ^ 32 }
     requires genesis { length genesis.now < 2 ^ 32 }

@@ -41,7 +41,7 @@ fn are_rows(bytes: &[u8], count: usize) -> bool
 }
 
 /// Whether the bytes have the form of an ext (docs/STORE.md, "The ext"): a count of fees and the fees, a count of
-/// rows and the rows, and nothing behind them. Which block it is of is not looked at.
+/// rows and the rows, and nothing after them. Which block it is of is not looked at.
 pub fn ext_form(b: &[u8]) -> bool
     ensures { result ≡ form.is_ext b.now }
 {

@@ -9,7 +9,7 @@ ghost use Rattle.log_file.specs.Grammar.{record_of, is_specification};
 use crate::number::read_count;
 use epochs::Spec;
 
-/// The kind and the body of the whole record at the front, if there is one.
+/// The kind and the body of the whole record at the start, if there is one.
 pub(crate) fn record_at(bytes: &[u8]) -> Option<(u8, &[u8])>
     ensures found { option_map (λ found. record_of found.0 found.1.now) result ≡ form.record_at bytes.now }
     ensures within { IfSome result (λ found. 6 + length found.1.now < length bytes.now) }

@@ -1,4 +1,4 @@
-//! The log on the disk (docs/STORE.md): it is created, records are put behind others in it, and it is opened, so
+//! The log on the disk (docs/STORE.md): it is created, records are put after others in it, and it is opened, so
 //! that a crash at any moment leaves the records that were there, or those and the new one.
 //!
 //! The contract of use: [`create`], [`append`] and [`open`] say of each moment what a crash may leave, in the words

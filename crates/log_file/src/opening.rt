@@ -43,7 +43,7 @@ fn synced_len<D: Disk>(disk: &mut D) -> Result<u64, Failed>
     Ok(len)
 }
 
-/// Reads a log of this length, and judges it. Answers beside it whether an open gate stands behind its records.
+/// Reads a log of this length, and judges it. Answers beside it whether an open gate stands after its records.
 fn read_log<D: Disk, V: Visitor>(
     alloc: Global,
     disk: &mut D,
@@ -64,7 +64,7 @@ fn read_log<D: Disk, V: Visitor>(
 {
     let mut reader = Reader::new(alloc, len);
     let (spec, mut tree) = match read_head(alloc, disk, &mut reader, visitor) {
-        Ok(front) => front,
+        Ok(head) => head,
         Err(stop) => return Err(stop),
     };
     match read_blocks(alloc, disk, &mut reader, visitor, &mut tree) {
@@ -106,8 +106,8 @@ fn mend<D: Disk>(disk: &mut D, place: u64, open_gate: bool) -> Result<(), Failed
     Ok(())
 }
 
-/// Reads the log from front to back, once, and judges it (docs/STORE.md, "Opening"). The visitor is shown each block as
-/// it is read, also where the log is none in the end. Where a gate stands open behind its records, which a crash may
+/// Reads the log from start to end, once, and judges it (docs/STORE.md, "Opening"). The visitor is shown each block as
+/// it is read, also where the log is none in the end. Where a gate stands open after its records, which a crash may
 /// leave, it is closed; nothing else is written.
 pub fn open<D: Disk, V: Visitor>(
     alloc: Global,

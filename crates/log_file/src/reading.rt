@@ -1,4 +1,4 @@
-// The log from front to back.
+// The log from start to end.
 
 ghost use Rattle.std.specs.Prelude.{◌≡◌, ◌≢◌, ◌+◌, ◌<◌, ◌≤◌, ◌^◌, List, ℕ, Err, length, take, drop, slice_index, IfSome, IfOk, OnOk, IfErr};
 ghost use Rattle.outside.specs.Causes.{HasCause, CountsFault};
@@ -21,19 +21,19 @@ const PIECE: u64 = 1 << 18;
 fn read_after<D: Disk>(
     disk: &mut D,
     at: u64,
-    front: &[u8],
+    prefix: &[u8],
     into: &mut [u8],
 ) -> Result<usize, Failed>
-    requires within { length front.now ≤ length into.old }
+    requires within { length prefix.now ≤ length into.old }
     requires limit { at + length into.old < 2 ^ 64 }
     ensures fits { IfOk result (λ n. n ≤ length into.new) }
-    ensures bytes { IfSome (D.reads_as disk.old) (λ image. front.now ≡ take (length front.now) (drop at image.log)
+    ensures bytes { IfSome (D.reads_as disk.old) (λ image. prefix.now ≡ take (length prefix.now) (drop at image.log)
         → IfOk result (λ n. take n into.new ≡ take (length into.new) (drop at image.log))) }
     ensures as_before { IsAsBefore D.reads_as D.images D.moment D.left_since disk.old disk.new }
     ensures cause { HasCause (D.faults disk.old) (D.faults disk.new) result }
 {
-    let there = front.len();
-    into[..there].copy_from_slice(front);
+    let there = prefix.len();
+    into[..there].copy_from_slice(prefix);
     let n = disk.read(Area::Log, at + there as u64, &mut into[there..])?;
     Ok(there + n)
 }
@@ -43,13 +43,13 @@ fn read_piece<D: Disk>(
     alloc: Global,
     disk: &mut D,
     at: u64,
-    front: &[u8],
+    prefix: &[u8],
     size: usize,
 ) -> Result<Vec<u8>, LogStop>
-    requires within { length front.now ≤ size }
+    requires within { length prefix.now ≤ size }
     requires limit { at + size < 2 ^ 64 }
     ensures fits { IfOk result (λ bytes. length bytes.items ≤ size) }
-    ensures bytes { IfSome (D.reads_as disk.old) (λ image. front.now ≡ take (length front.now) (drop at image.log)
+    ensures bytes { IfSome (D.reads_as disk.old) (λ image. prefix.now ≡ take (length prefix.now) (drop at image.log)
         → IfOk result (λ bytes. bytes.items ≡ take size (drop at image.log))) }
     ensures as_before { IsAsBefore D.reads_as D.images D.moment D.left_since disk.old disk.new }
     ensures reads { IfErr result (λ stop. stop ≢ LogStop.NotAStore) }
@@ -59,7 +59,7 @@ fn read_piece<D: Disk>(
         Ok(bytes) => bytes,
         Err(_) => return Err(LogStop::NoMemory),
     };
-    match read_after(disk, at, front, &mut bytes) {
+    match read_after(disk, at, prefix, &mut bytes) {
         Ok(n) => {
             bytes.truncate(n);
             Ok(bytes)
@@ -68,7 +68,7 @@ fn read_piece<D: Disk>(
     }
 }
 
-/// The bytes that the record at the front says to have, or none where no open gate stands there.
+/// The bytes that the record at the start says to have, or none where no open gate stands there.
 fn record_size(bytes: &[u8]) -> u64
     ensures size { 7 ≤ length bytes.now → slice_index bytes.now 0 ≡ 1 → result ≡ 6 + count_at bytes.now 2 }
     ensures fits { result < 2 ^ 33 }
@@ -79,7 +79,7 @@ fn record_size(bytes: &[u8]) -> u64
     6 + u64::from(read_count(bytes, 2))
 }
 
-/// Reads LOG from front to back, in pieces. Clauses see a `ReaderValue`.
+/// Reads LOG from start to end, in pieces. Clauses see a `ReaderValue`.
 #[derive(Drop)]
 pub(crate) struct Reader {
     len: u64,
@@ -102,7 +102,7 @@ impl Model for Reader {
 }
 
 impl Reader {
-    /// At the front of a log of this length.
+    /// At the start of a log of this length.
     pub(crate) fn new(alloc: Global, len: u64) -> Reader
         ensures at { IsAt len 0 result }
         ensures reading { (log : List ℕ) → len ≡ length log → IsReading log result }

@@ -1,4 +1,4 @@
-// The records of a log, from front to back.
+// The records of a log, from start to end.
 
 ghost use Rattle.std.specs.Prelude.{◌≡◌, ◌≢◌, ◌+◌, ◌*◌, ◌<◌, ◌≤◌, ◌^◌, List, [], Ok, Err, None, length, take, drop, IfSome, IfOk, OnOk, true, false};
 ghost use Rattle.outside.specs.Causes.{CountsFault};
@@ -105,7 +105,7 @@ fn read_genesis<D: Disk, V: Visitor>(
     Ok(tree)
 }
 
-/// Reads the front of a log, up to its genesis.
+/// Reads the start of a log, up to its genesis.
 pub(crate) fn read_head<D: Disk, V: Visitor>(
     alloc: Global,
     disk: &mut D,
@@ -114,11 +114,11 @@ pub(crate) fn read_head<D: Disk, V: Visitor>(
 ) -> Result<(Spec, Tree), LogStop>
     requires start { reader.old.at ≡ 0 }
     requires none { V.visited visitor.old ≡ [] }
-    ensures place { IfOk result (λ front. reader.new.at ≤ 2 ^ 33 * (length (V.visited visitor.new) + 1)) }
-    ensures blocks { IfOk result (λ front. AreBlocks (V.visited visitor.new) front.1.entries) }
-    ensures start { IfSome (D.reads_as disk.old) (λ image. IsReading image.log reader.old → IfOk result (λ front. take 8 image.log ≡ magic)) }
-    ensures found { IfSome (D.reads_as disk.old) (λ image. IsReading image.log reader.old → IfOk result (λ front.
-        HasRead image.log front.0 reader.new (blocks_with (V.visited visitor.new) front.1.entries))) }
+    ensures place { IfOk result (λ head. reader.new.at ≤ 2 ^ 33 * (length (V.visited visitor.new) + 1)) }
+    ensures blocks { IfOk result (λ head. AreBlocks (V.visited visitor.new) head.1.entries) }
+    ensures start { IfSome (D.reads_as disk.old) (λ image. IsReading image.log reader.old → IfOk result (λ head. take 8 image.log ≡ magic)) }
+    ensures found { IfSome (D.reads_as disk.old) (λ image. IsReading image.log reader.old → IfOk result (λ head.
+        HasRead image.log head.0 reader.new (blocks_with (V.visited visitor.new) head.1.entries))) }
     ensures wrong { IfSome (D.reads_as disk.old) (λ image. IsReading image.log reader.old → result ≡ Err LogStop.NotAStore → log_of image.log ≡ None) }
     ensures as_before { IsAsBefore D.reads_as D.images D.moment D.left_since disk.old disk.new }
     ensures cause { CountsFault (D.faults disk.old) (D.faults disk.new) (result ≡ Err LogStop.DiskFault) }

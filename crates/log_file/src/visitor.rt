@@ -16,7 +16,7 @@ pub trait Visitor {
     /// The blocks that it was shown, each with its ext; no byte stands for the ext of the genesis.
     ghost visited: { Self → List Stored };
 
-    /// Takes a block that is one of the log, before any byte behind its record is judged.
+    /// Takes a block that is one of the log, before any byte after its record is judged.
     fn visit(
         &mut self,
         alloc: Global,

@@ -9,7 +9,7 @@ pub record IsLaidOut (bytes : List ℕ) : Type 0 where
   pub header : part_start bytes 0 ≡ 4 + 4 * part_count bytes
   pub rises : (i : ℕ) → i < part_count bytes → part_start bytes i ≤ part_start bytes (i + 1)
 
--- A fixvec is a count and so many items, with nothing behind them.
+-- A fixvec is a count and so many items, with nothing after them.
 pub record IsCounted (size : ℕ) (bytes : List ℕ) : Type 0 where
   pub whole : 4 ≤ length bytes
   pub count : length bytes ≡ 4 + header_number bytes 0 * size

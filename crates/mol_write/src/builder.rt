@@ -49,7 +49,7 @@ impl Builder {
         (4 + 4 * self.lengths.len() + self.content.len()) as u32
     }
 
-    /// Puts a field, as its encoding, behind the others. The whole has to stay below 2^32 bytes: a field
+    /// Puts a field, as its encoding, after the others. The whole has to stay below 2^32 bytes: a field
     /// takes its bytes and an offset.
     pub fn push(&mut self, field: &[u8]) -> Result<(), NoMemory>
         requires { full_size self.old + 4 + length field.now < 2 ^ 32 }

@@ -1,4 +1,4 @@
--- What a disk has of the kept blocks once one more is kept, and its record stands behind the others.
+-- What a disk has of the kept blocks once one more is kept, and its record stands after the others.
 use Rattle.std.proofs.Common.{◌≡◌, ℕ, suc, ◌+◌, ◌<◌, List, [], ◌∷◌, ◌++◌, length, drop, Option, Some, None, refl, sym, ap, ◌∙◌, subst, arith}
 use Rattle.std.specs.Prelude.{is_some, IfSome, IsSome, IsTrue}
 use Rattle.std.specs.Option.{option_map}

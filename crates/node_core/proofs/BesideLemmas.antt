@@ -22,8 +22,8 @@ use Rattle.log_file.specs.Opening.{kept_records}
 use Rattle.block_store.specs.Laws.{NamesTheLog}
 use Rattle.snapshot_defs.specs.Snapshot.{area_of}
 use Rattle.store_defs.specs.Store.{StandsFor}
-use Rattle.node_core.specs.Node.{NodeValue, kept_in, stored_of, IsOf, IsItsOwn, IsOn, IsOnlyImage, IsLeftByImport, IsSettledAfter, AreRecordsBehind}
-use Rattle.node_core.specs.Snapshot.{OnlySnapshotReads, OthersReadBut, IsSettledBehind, with_log_and}
+use Rattle.node_core.specs.Node.{NodeValue, kept_in, stored_of, IsOf, IsItsOwn, IsOn, IsOnlyImage, IsLeftByImport, IsSettledAfter, AreRecordsWith}
+use Rattle.node_core.specs.Snapshot.{OnlySnapshotReads, OthersReadBut, IsSettledWith, with_log_and}
 use Rattle.node_core.proofs.OpenLemmas.{not_ok}
 use Rattle.node_core.proofs.SnapshotLemmas.{log-beside, none-log}
 
@@ -117,10 +117,10 @@ module _ {D : Type 0} (reads_as : D → Option Image) (images : D → Image → 
 
   -- the record of the block that joined is there
   pub behind-beside : (records : List Record) (item : List ℕ) (verdict : Verdict) (place : ℕ) → joins verdict ≡ true
-      → IsSettledAfter records item verdict place (reads_as mid) (images mid) → IsSettledBehind records item (reads_as new) (images new)
-  behind-beside records item verdict place joined (later, are, settled) = from (subst (AreRecordsBehind records item later) joined are)
+      → IsSettledAfter records item verdict place (reads_as mid) (images mid) → IsSettledWith records item (reads_as new) (images new)
+  behind-beside records item verdict place joined (later, are, settled) = from (subst (AreRecordsWith records item later) joined are)
     where
-      from : AreRecordsBehind records item later true → IsSettledBehind records item (reads_as new) (images new)
+      from : AreRecordsWith records item later true → IsSettledWith records item (reads_as new) (images new)
       from (ext, is) = (ext, place, subst (λ (rs : List Record). IsSettled place rs (reads_as new) (images new)) is (settled-beside place later settled))
 
   pub keeps-beside : (old : D) (place : ℕ) (records : List Record) (item : List ℕ) → LeavesOnly moment left_since old mid (IsLeftByImport place records item (images old))

@@ -57,7 +57,7 @@ module _ (chain : Chain) (reads : Option Image) (images : Image → Type 0) (onl
     stands_so bytes (inr after) = inr (stands_after_an_item chain item only.now bytes place (place + length (record_bytes (record_over chain item)))
         records only.stands can short form rests after)
 
-    -- while its record is put behind the others
+    -- while its record is put after the others
     pub stands_either : (image : Image) → HasAppended place records (record_over chain item) images image
         → StandsFor chain image ⊎ StandsFor (chain_after chain item) image
     stands_either image (before, left, (bytes, appended, is)) =

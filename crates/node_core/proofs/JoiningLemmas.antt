@@ -22,7 +22,7 @@ use Rattle.cell_defs.specs.Row.{Row, live_row}
 use Rattle.cell_defs.specs.Fit.{are_live, AllFit}
 use Rattle.cell_model.specs.ListBlocks.{IsExtFor}
 use Rattle.cell_state.specs.State.{StateValue, rows, Grows}
-use Rattle.reorg.proofs.RowLemmas.{live_row-front}
+use Rattle.reorg.proofs.RowLemmas.{live_row-prefix}
 use Rattle.cell_laws.proofs.FitLemmas.{row-where-cell, all-same}
 use Rattle.chain_tree.specs.declared.entry.Entry.{Entry}
 use Rattle.chain_tree.specs.Entries.{entry_at, place_of_hash, FollowsParent}
@@ -47,7 +47,7 @@ use Rattle.node_core.specs.Judging.{IsReady, IsOnParent, is_above, becomes_tip, 
 
 -- ---- A block that is ready
 
--- its number is the next behind its parent's
+-- its number is the next after its parent's
 next-number : (kept : List Block) (b : Block) (joining : Joining) (parent : Block) → IsReady kept b joining → block_at kept joining.entry.parent ≡ Some parent
     → b.header.number ≡ parent.header.number + 1
 next-number kept b joining parent ready there =
@@ -134,7 +134,7 @@ module _ (kept : List Block) (b : Block) (at : ℕ) (top : Block) (found : tip_p
   stays_at cells low live place now o =
       let same : at ≡ place = same_Some at place (sym (next_tip false low) ∙ now) in
       subst (λ (p : ℕ). cells o ≡ live_row (kept ++ b ∷ []) p o) same
-      (live at found o ∙ sym (live_row-front kept (b ∷ []) at o (tip_place-below kept at found)))
+      (live at found o ∙ sym (live_row-prefix kept (b ∷ []) at o (tip_place-below kept at found)))
 
   -- those of a block that becomes the tip
   moves_to : (place : ℕ) (cells next : StateValue) → IsKept kept → place ≡ length kept → becomes_tip kept (Joins joining) ≡ true

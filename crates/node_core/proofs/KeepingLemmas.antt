@@ -3,14 +3,14 @@ use Rattle.std.proofs.Common.{◌≡◌, ◌⊎◌, ℕ, false, true, List, [], 
 use Rattle.std.specs.Prelude.{IfSome, is_some}
 use Rattle.outside.specs.declared.disk.Area.{Area}
 use Rattle.outside.specs.Image.{Image}
-use Rattle.outside.specs.Disk.{NoneNew, OthersRead, LeavesOnly, TellsAsBefore}
+use Rattle.outside.specs.Disk.{NoneNew, OthersRead, LeavesOnly, IsKnownAsBefore}
 use Rattle.outside.proofs.Moments.{started}
 use Rattle.verdict_defs.specs.declared.verdict.Verdict.{Verdict}
 use Rattle.verdict_defs.specs.Verdict.{joins}
 use Rattle.log_defs.specs.Log.{Record, log_of, records_of}
 use Rattle.log_defs.specs.Rest.{IsAtRest, IsSettled, IsAppended, HasAppended, HasLog}
 use Rattle.log_file.specs.Pieces.{block_record}
-use Rattle.node_core.specs.Node.{IsLeftByOpening, IsLeftByImport, AreRecordsBehind, IsSettledAfter}
+use Rattle.node_core.specs.Node.{IsLeftByOpening, IsLeftByImport, AreRecordsWith, IsSettledAfter}
 
 -- what opening leaves where the snapshots were synced before
 pub left_by_opening : (bytes : List ℕ) (images images1 : Image → Type 0) → NoneNew images images1
@@ -31,7 +31,7 @@ left_there place records item ext reads images settled image left =
     let appended : IsAppended place records (block_record item ext) image.log image.log = record { rest = inl rest; size = omega arith } in
     (ext, (image, left, appended))
 
--- while its record is put behind the others
+-- while its record is put after the others
 pub left_appended : (place : ℕ) (records : List Record) (item ext : List ℕ) (images : Image → Type 0) (image : Image)
     → HasAppended place records (block_record item ext) images image → IsLeftByImport place records item images image
 left_appended place records item ext images image (before, left, (bytes, appended, is)) =
@@ -47,16 +47,16 @@ started_import moment left_since images only_now place records item reads disk s
 -- an item that stays out
 pub settled_still : (records : List Record) (item : List ℕ) (verdict : Verdict) (place : ℕ) (reads : Option Image) (images : Image → Type 0) → joins verdict ≡ false
     → IsSettled place records reads images → IsSettledAfter records item verdict place reads images
-settled_still records item verdict place reads images stays settled = (records, subst (AreRecordsBehind records item records) (sym stays) refl, settled)
+settled_still records item verdict place reads images stays settled = (records, subst (AreRecordsWith records item records) (sym stays) refl, settled)
 
 -- an item that joined
 pub settled_grown : (records : List Record) (item ext : List ℕ) (verdict : Verdict) (place : ℕ) (reads : Option Image) (images : Image → Type 0) → joins verdict ≡ true
     → IsSettled place (records ++ block_record item ext ∷ []) reads images → IsSettledAfter records item verdict place reads images
 settled_grown records item ext verdict place reads images joined settled =
     let later : List Record = records ++ block_record item ext ∷ [] in
-    (later, subst (AreRecordsBehind records item later) (sym joined) (ext, refl), settled)
+    (later, subst (AreRecordsWith records item later) (sym joined) (ext, refl), settled)
 
 -- where one area alone may read otherwise, the disk tells as before
-pub tells_as_before : (area : Area) (old new : Option Image) → OthersRead area old new → TellsAsBefore old new
-tells_as_before area None new (bytes, is) = ap is_some is
-tells_as_before area (Some image) new (bytes, is) = ap is_some is
+pub known_as_before : (area : Area) (old new : Option Image) → OthersRead area old new → IsKnownAsBefore old new
+known_as_before area None new (bytes, is) = ap is_some is
+known_as_before area (Some image) new (bytes, is) = ap is_some is

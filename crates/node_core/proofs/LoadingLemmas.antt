@@ -31,7 +31,7 @@ use Rattle.reorg_laws.proofs.HeldLaws.{snapshot-rows-are-kept}
 use Rattle.snapshot_defs.specs.Snapshot.{Snapshot, body_bytes, snapshot_bytes, has_open_gate, Holds, IsOfBlocks, IsSoundArea, HoldsSound}
 use Rattle.snapshot_defs.proofs.AreaLaws.{sound-holds-its-own, sound-has-its-number, tells-its-rows}
 use Rattle.snapshot_defs.proofs.SnapshotLaws.{opens-its-gate}
-use Rattle.snapshots.specs.Reading.{TellsNumber, TellsSnapshot, IsRead, IsDamaged, IsOfTree, has_hash, has_tip, row_count, AreWithin}
+use Rattle.snapshots.specs.Reading.{AnswersNumber, AnswersSnapshot, IsRead, IsDamaged, IsOfTree, has_hash, has_tip, row_count, AreWithin}
 use Rattle.snapshots.specs.Rows.{IsHeld}
 use Rattle.store_defs.specs.Store.{IsJoined}
 use Rattle.store_defs.specs.SnapshotLaws.{HasSoundAreas}
@@ -43,31 +43,31 @@ true-false is = cc
 
 -- ---- The number in an area
 
-number-told : (area : Area) (bytes : List ℕ) (found : Option ℕ) → TellsNumber area bytes (Ok found) → found ≡ number_in bytes
+number-told : (area : Area) (bytes : List ℕ) (found : Option ℕ) → AnswersNumber area bytes (Ok found) → found ≡ number_in bytes
 number-told area bytes None closed = sym (ap (λ (b : Bool). cond b (Some (count_at bytes 1)) None) closed)
 number-told area bytes (Some number) told =
     ap (λ (n : ℕ). Some n) told.2 ∙ sym (ap (λ (b : Bool). cond b (Some (count_at bytes 1)) None) told.0)
 
 pub newest-told : (reads mid : Option Image) (a b : Option ℕ) (found : Option Area) → mid ≡ reads
-    → IfSome reads (λ image. TellsNumber SnapA (content SnapA image) (Ok a)) → IfSome mid (λ image. TellsNumber SnapB (content SnapB image) (Ok b))
+    → IfSome reads (λ image. AnswersNumber SnapA (content SnapA image) (Ok a)) → IfSome mid (λ image. AnswersNumber SnapB (content SnapB image) (Ok b))
     → found ≡ area_with a b → IfSome reads (λ now. found ≡ newest now)
 newest-told None mid a b found same first second is = tt
 newest-told (Some now) mid a b found same first second is =
-    let later : TellsNumber SnapB now.snap_b (Ok b) = subst (λ (o : Option Image). IfSome o (λ image. TellsNumber SnapB (content SnapB image) (Ok b))) same second in
+    let later : AnswersNumber SnapB now.snap_b (Ok b) = subst (λ (o : Option Image). IfSome o (λ image. AnswersNumber SnapB (content SnapB image) (Ok b))) same second in
     is ∙ (λ t. area_with (number-told SnapA now.snap_a a first t) (number-told SnapB now.snap_b b later t))
 
 -- the number of a sound area is not damaged
-number-sound : (kept : List Block) (area : Area) (bytes : List ℕ) (damage : Damage) → IsSoundArea kept area bytes → TellsNumber area bytes (Err (Damaged damage)) → ⊥
+number-sound : (kept : List Block) (area : Area) (bytes : List ℕ) (damage : Damage) → IsSoundArea kept area bytes → AnswersNumber area bytes (Err (Damaged damage)) → ⊥
 number-sound kept area bytes damage sound told =
     let long = (sound-has-its-number kept area bytes sound told.0).1 in
     let short = told.1 in
     absurd (omega (arith, long, short))
 
 pub number-undamaged : (kept : List Block) (area : Area) (reads mid : Option Image) (now : Image) (stop : ReadStop) (damage : Damage) → mid ≡ reads → reads ≡ Some now
-    → IsSoundArea kept area (content area now) → IfSome mid (λ image. TellsNumber area (content area image) (Err stop)) → stop ≡ Damaged damage → ⊥
+    → IsSoundArea kept area (content area now) → IfSome mid (λ image. AnswersNumber area (content area image) (Err stop)) → stop ≡ Damaged damage → ⊥
 number-undamaged kept area reads mid now stop damage same told sound tells is =
-    let here : TellsNumber area (content area now) (Err stop) = subst (λ (o : Option Image). IfSome o (λ image. TellsNumber area (content area image) (Err stop))) (same ∙ told) tells in
-    number-sound kept area (content area now) damage sound (subst (λ (s : ReadStop). TellsNumber area (content area now) (Err s)) is here)
+    let here : AnswersNumber area (content area now) (Err stop) = subst (λ (o : Option Image). IfSome o (λ image. AnswersNumber area (content area image) (Err stop))) (same ∙ told) tells in
+    number-sound kept area (content area now) damage sound (subst (λ (s : ReadStop). AnswersNumber area (content area now) (Err s)) is here)
 
 -- ---- The area that is loaded
 
@@ -123,21 +123,21 @@ rows-of-sound kept area entries bytes before after number tip state s sound is o
 
 pub rows-loaded : (kept : List Block) (area : Area) (entries : List Entry) (reads : Option Image) (now : Image) (before after number tip : ℕ) (state : StateValue)
     → reads ≡ Some now → newest now ≡ Some area → HasSoundAreas kept now
-    → IfSome reads (λ image. TellsSnapshot area entries (content area image) before after (Ok (Some (number, tip, state)))) → AreOf kept tip (rows state)
+    → IfSome reads (λ image. AnswersSnapshot area entries (content area image) before after (Ok (Some (number, tip, state)))) → AreOf kept tip (rows state)
 rows-loaded kept area entries reads now before after number tip state told is both tells = from here
   where
-    here : TellsSnapshot area entries (content area now) before after (Ok (Some (number, tip, state)))
-    here = subst (λ (o : Option Image). IfSome o (λ image. TellsSnapshot area entries (content area image) before after (Ok (Some (number, tip, state))))) told tells
+    here : AnswersSnapshot area entries (content area now) before after (Ok (Some (number, tip, state)))
+    here = subst (λ (o : Option Image). IfSome o (λ image. AnswersSnapshot area entries (content area image) before after (Ok (Some (number, tip, state))))) told tells
 
-    from : TellsSnapshot area entries (content area now) before after (Ok (Some (number, tip, state))) → AreOf kept tip (rows state)
+    from : AnswersSnapshot area entries (content area now) before after (Ok (Some (number, tip, state))) → AreOf kept tip (rows state)
     from (s, read) = rows-of-sound kept area entries (content area now) before after number tip state s ((is-newest now area is).sound kept both) read
 
 -- its gate is not closed
 pub never-closed : (area : Area) (entries : List Entry) (reads : Option Image) (now : Image) (before after : ℕ) → reads ≡ Some now → newest now ≡ Some area
-    → IfSome reads (λ image. TellsSnapshot area entries (content area image) before after (Ok None)) → ⊥
+    → IfSome reads (λ image. AnswersSnapshot area entries (content area image) before after (Ok None)) → ⊥
 never-closed area entries reads now before after told is tells =
-    let here : TellsSnapshot area entries (content area now) before after (Ok None) =
-    subst (λ (o : Option Image). IfSome o (λ image. TellsSnapshot area entries (content area image) before after (Ok None))) told tells in
+    let here : AnswersSnapshot area entries (content area now) before after (Ok None) =
+    subst (λ (o : Option Image). IfSome o (λ image. AnswersSnapshot area entries (content area image) before after (Ok None))) told tells in
     true-false (sym (is-newest now area is).gate ∙ here.0)
 
 -- ---- A sound area is not damaged
@@ -171,20 +171,20 @@ of-tree chain entries s indexed joined canonical of = record {
 pub never-damaged : (chain : Chain) (area : Area) (entries : List Entry) (reads : Option Image) (now : Image) (before after : ℕ) (result : Result (Option (ℕ × ℕ × StateValue)) ReadStop)
     (damage : Damage) → IndexesBlocks chain.blocks entries → AreCanonical chain.blocks → IsJoined chain
     → reads ≡ Some now → newest now ≡ Some area → HasSoundAreas chain.blocks now
-    → IfSome reads (λ image. TellsSnapshot area entries (content area image) before after result) → result ≡ Err (Damaged damage) → ⊥
+    → IfSome reads (λ image. AnswersSnapshot area entries (content area image) before after result) → result ≡ Err (Damaged damage) → ⊥
 never-damaged chain area entries reads now before after result damage indexed canonical joined told is both tells at =
     from here.0 ((is-newest now area is).sound chain.blocks both (is-newest now area is).gate)
   where
-    here : TellsSnapshot area entries (content area now) before after (Err (Damaged damage))
-    here = subst (TellsSnapshot area entries (content area now) before after) at
-        (subst (λ (o : Option Image). IfSome o (λ image. TellsSnapshot area entries (content area image) before after result)) told tells)
+    here : AnswersSnapshot area entries (content area now) before after (Err (Damaged damage))
+    here = subst (AnswersSnapshot area entries (content area now) before after) at
+        (subst (λ (o : Option Image). IfSome o (λ image. AnswersSnapshot area entries (content area image) before after result)) told tells)
 
     from : IsDamaged entries (content area now) → (s : Snapshot) × HoldsSound chain.blocks area (content area now) s → ⊥
     from damaged (s, sound) = damaged.none s sound.holds (of-tree chain entries s indexed joined canonical sound.of_blocks)
 
 -- ---- Steps
 
--- the place of the tip stands behind the number
+-- the place of the tip stands after the number
 tip-held : (s : Snapshot) (after : List ℕ) → s.number < 2 ^ 32 → s.tip < 2 ^ 32 → tip_in (snapshot_bytes s ++ after) ≡ s.tip
 unfolding body_bytes
 tip-held s after fits small = from_le_bytes-to_le_bytes_4 s.tip small
@@ -194,17 +194,17 @@ tip-of bytes s holds = ap tip_in holds.parts ∙ tip-held s holds.after holds.fo
 
 pub led-from : (kept : List Block) (area : Area) (entries : List Entry) (reads : Option Image) (now : Image) (before after number tip : ℕ) (state : StateValue)
     → reads ≡ Some now → IfSome reads (λ image. after ≤ before + row_count (content area image))
-    → IfSome reads (λ image. TellsSnapshot area entries (content area image) before after (Ok (Some (number, tip, state))))
+    → IfSome reads (λ image. AnswersSnapshot area entries (content area image) before after (Ok (Some (number, tip, state))))
     → after + distance_to kept tip (tip_place kept) ≤ before + moves_by kept now (Some area)
 led-from kept area entries reads now before after number tip state told most tells = from here
   where
     few : after ≤ before + row_count (content area now)
     few = subst (λ (o : Option Image). IfSome o (λ image. after ≤ before + row_count (content area image))) told most
 
-    here : TellsSnapshot area entries (content area now) before after (Ok (Some (number, tip, state)))
-    here = subst (λ (o : Option Image). IfSome o (λ image. TellsSnapshot area entries (content area image) before after (Ok (Some (number, tip, state))))) told tells
+    here : AnswersSnapshot area entries (content area now) before after (Ok (Some (number, tip, state)))
+    here = subst (λ (o : Option Image). IfSome o (λ image. AnswersSnapshot area entries (content area image) before after (Ok (Some (number, tip, state))))) told tells
 
-    from : TellsSnapshot area entries (content area now) before after (Ok (Some (number, tip, state)))
+    from : AnswersSnapshot area entries (content area now) before after (Ok (Some (number, tip, state)))
         → after + distance_to kept tip (tip_place kept) ≤ before + moves_by kept now (Some area)
     from (s, read) =
         let same : tip ≡ tip_in (content area now) = read.tip_is ∙ sym (tip-of (content area now) s read.holds) in
@@ -220,7 +220,7 @@ most-from kept area reads now before after told most =
 
 module _ (kept : List Block) (area : Area) (entries : List Entry) (reads : Option Image) (before after : ℕ) (found : Option (ℕ × ℕ × StateValue)) where
   abbrev Tells : Option (ℕ × ℕ × StateValue) → Type 0
-  Tells answer = IfSome reads (λ image. TellsSnapshot area entries (content area image) before after (Ok answer))
+  Tells answer = IfSome reads (λ image. AnswersSnapshot area entries (content area image) before after (Ok answer))
 
   pub loaded-within : (it : ℕ × ℕ × StateValue) → found ≡ Some it → IndexesBlocks kept entries → IfSome found (λ it. AreWithin entries it.1 it.2) → it.1 < length kept
   loaded-within it is indexed within =

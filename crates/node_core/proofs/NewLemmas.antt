@@ -45,7 +45,7 @@ module _ {D : Type 0} (images : D → Image → Type 0) (moment : D → ℕ) (le
       let start : LeavesOnly moment left_since old old (ComesBy cut (images old)) = started moment left_since old (ComesBy cut (images old)) (λ image left. uncut old image (only_now old image left)) in
       goes_on moment left_since old old new (ComesBy cut (images old)) (images new) start time follows
 
-  -- and a sync behind it
+  -- and a sync after it
   pub moments_of_clear : ((disk : D) (image : Image) → left_since disk (moment disk) image → images disk image)
       → (old mid new : D) → Follows cut (images old) (images mid) → Elapses (moment old) (moment mid) (left_since old) (left_since mid) (images mid)
       → NoneNew (images mid) (images new) → Elapses (moment mid) (moment new) (left_since mid) (left_since new) (images new)

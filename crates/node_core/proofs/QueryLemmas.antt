@@ -60,7 +60,7 @@ pub has-none : (kept : List Block) (place height : ℕ) → place < length kept 
     → block_at (best_branch kept) height ≡ None → ⊥
 has-none kept place height within same none = no-block kept place within (same ∙ none)
 
--- the block in hand of a source that tells the stored blocks, once that of a place was taken
+-- the current block of a source that tells the stored blocks, once that of a place was taken
 pub block-told : (stored : List Stored) (kept : List Block) (place : ℕ) (b : Block) (told : Option (List Stored)) (hand : Option ℕ) → blocks_of stored ≡ kept
     → place < length kept → told ≡ Some stored → hand ≡ Some place
     → IfSome told (λ all. IfSome hand (λ e. IfSome (slice_get all e) (λ it. b ≡ it.block))) → block_at kept place ≡ Some b

@@ -86,7 +86,7 @@ module _ {D : Type 0} (reads_as : D → Option Image) (images : D → Image → 
       → LeavesOnly moment left_since old mid (ComesBy (InArea area (IsTaken New)) (images old))
   moments-first old mid area New first = leaves_also moment left_since old mid _ _ first (taken-first area New (images old))
 
-  -- and where the snapshot was written behind it
+  -- and where the snapshot was written after it
   pub moments-then : (old mid new : D) (area : Area) (New : List ℕ → Type 0)
       → LeavesOnly moment left_since old mid (ComesBy (InArea area IsAsItWasOrClosed) (images old))
       → (IsSome (reads_as old) → LeavesOnly moment left_since mid new (HasArea area (IsClosedOr New) (images mid)))

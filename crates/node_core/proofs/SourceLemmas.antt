@@ -16,18 +16,18 @@ use Rattle.chain_tree.proofs.BlockLemmas.{len-same}
 use Rattle.store_defs.specs.Store.{AreJoined}
 use Rattle.block_store.specs.Stored.{told_by}
 use Rattle.block_store.specs.Held.{CacheValue, IsKept}
-use Rattle.block_store.proofs.LogLemmas.{tells_the_log}
+use Rattle.block_store.proofs.LogLemmas.{log_has_blocks}
 use Rattle.block_store.proofs.AgreeLemmas.{agrees_always}
-use Rattle.node_core.specs.Node.{KeptValue, kept_of, stored_of, TellsJoined, IsReadBy, HasOnlyRead}
+use Rattle.node_core.specs.Node.{KeptValue, kept_of, stored_of, HoldsJoined, IsReadBy, HasOnlyRead}
 use Rattle.node_core.proofs.RecordedLemmas.{tells-stored}
 
 pub told-stored : (spec : Specification) (stored : List Stored) (entries : List Entry) (kept : KeptValue) (told : Option (List Stored))
-    → kept_of spec stored entries ≡ kept → TellsJoined kept told → told ≡ Some stored
+    → kept_of spec stored entries ≡ kept → HoldsJoined kept told → told ≡ Some stored
 told-stored spec stored entries kept told whole tells =
     tells-stored spec stored entries kept told whole tells.all
 
 -- it tells the same after it was read
-pub tells-on : (kept : KeptValue) (before now : Option (List Stored)) → now ≡ before → TellsJoined kept before → TellsJoined kept now
+pub tells-on : (kept : KeptValue) (before now : Option (List Stored)) → now ≡ before → HoldsJoined kept before → HoldsJoined kept now
 tells-on kept before now same tells = record { all = same ∙ tells.all; joined = tells.joined }
 
 -- as many as there are entries
@@ -42,7 +42,7 @@ same_stop first second is = cc
 
 module _ (kept : KeptValue) (image : Image) (held : List (ℕ × Stored)) (read : IsReadBy kept held image) where
   told_at : told_by (Some image) kept.entries ≡ Some (stored_of kept)
-  told_at = tells_the_log image read.specification (stored_of kept) kept.entries read.names read.can
+  told_at = log_has_blocks image read.specification (stored_of kept) kept.entries read.names read.can
 
   -- what is held in memory is what LOG has
   kept_at : IsKept kept.entries held image
@@ -79,7 +79,7 @@ tells-kept kept entries held reads before same rests own told =
     ap (λ (o : Option Image). told_by o entries) rests ∙ ap (told_by before) same ∙ tells-all kept held before own told
 
 pub tells-joined : (kept : KeptValue) (entries : List Entry) (held : List (ℕ × Stored)) (reads before : Option Image) → entries ≡ kept.entries → reads ≡ before
-    → IfSome before (IsReadBy kept held) → IsSome before → AreJoined kept.chain kept.exts → TellsJoined kept (told_by reads entries)
+    → IfSome before (IsReadBy kept held) → IsSome before → AreJoined kept.chain kept.exts → HoldsJoined kept (told_by reads entries)
 tells-joined kept entries held reads before same rests own told joined =
     record { all = tells-kept kept entries held reads before same rests own told; joined = joined }
 

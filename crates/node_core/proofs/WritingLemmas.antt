@@ -1,4 +1,4 @@
--- What is put behind a log for a block: the bytes of its ext, and its record.
+-- What is put after a log for a block: the bytes of its ext, and its record.
 use Rattle.std.proofs.Common.{◌≡◌, ℕ, ◌<◌, ◌≤◌, ◌^◌, List, length, ap, ◌∙◌, arith}
 use Rattle.std.proofs.lemmas.Nat.{from_le_bytes-to_le_bytes_4}
 use Rattle.cell_defs.specs.Ext.{Ext, ext_bytes, count_at}
@@ -7,7 +7,7 @@ use Rattle.log_defs.proofs.Records.{record_length}
 use Rattle.log_file.specs.Pieces.{after_gate}
 use Rattle.log_file.proofs.Gates.{piece_length}
 
--- the count at the front is that of the fees
+-- the count at the start is that of the fees
 pub counts_fees : (ext : Ext) (bytes : List ℕ) → bytes ≡ ext_bytes ext → length ext.fees < 2 ^ 32 → count_at bytes 0 ≡ length ext.fees
 unfolding ext_bytes
 counts_fees ext bytes is few = ap (λ (l : List ℕ). count_at l 0) is ∙ from_le_bytes-to_le_bytes_4 (length ext.fees) few

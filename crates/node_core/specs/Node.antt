@@ -120,7 +120,7 @@ abbrev pub IsItsOwn : NodeValue → Option Image → (Image → Type 0) → Type
 IsItsOwn node reads images = IfSome reads (λ _. IsOf node reads images)
 
 -- What is kept has joined, and a source of blocks tells it.
-pub record TellsJoined (kept : KeptValue) (told : Option (List Stored)) : Type 0 where
+pub record HoldsJoined (kept : KeptValue) (told : Option (List Stored)) : Type 0 where
   pub all : told ≡ Some (stored_of kept)
   pub joined : AreJoined kept.chain kept.exts
 
@@ -238,13 +238,13 @@ IsLeftByImport place records item images image =
     (ext : List ℕ) × ComesBy (λ old new. IsAppended place records (block_record item ext) old.log new.log) images image
 
 -- with the record of an item after them where it joined, and some ext in it, and else the same
-abbrev pub AreRecordsBehind : List Record → List ℕ → List Record → Bool → Type 0
-AreRecordsBehind records item later false = later ≡ records
-AreRecordsBehind records item later true = (ext : List ℕ) × (later ≡ records ++ block_record item ext ∷ [])
+abbrev pub AreRecordsWith : List Record → List ℕ → List Record → Bool → Type 0
+AreRecordsWith records item later false = later ≡ records
+AreRecordsWith records item later true = (ext : List ℕ) × (later ≡ records ++ block_record item ext ∷ [])
 
 -- The records after an item of this verdict.
 abbrev pub AreRecordsAfter : List Record → List ℕ → Verdict → List Record → Type 0
-AreRecordsAfter records item verdict later = AreRecordsBehind records item later (joins verdict)
+AreRecordsAfter records item verdict later = AreRecordsWith records item later (joins verdict)
 
 -- The log is settled with the records after an item of this verdict.
 abbrev pub IsSettledAfter : List Record → List ℕ → Verdict → ℕ → Option Image → (Image → Type 0) → Type 0

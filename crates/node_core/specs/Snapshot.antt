@@ -56,18 +56,18 @@ pub record HasSnapshot (kept : List Block) (number : ℕ) (now : Image) : Type 0
   pub of_blocks : IsOfBlocks kept s
 
 -- the log is settled with the record of an item after these, and some ext in it
-abbrev pub IsSettledBehind : List Record → List ℕ → Option Image → (Image → Type 0) → Type 0
-IsSettledBehind records item reads images = (ext : List ℕ) × (place : ℕ) × IsSettled place (records ++ block_record item ext ∷ []) reads images
+abbrev pub IsSettledWith : List Record → List ℕ → Option Image → (Image → Type 0) → Type 0
+IsSettledWith records item reads images = (ext : List ℕ) × (place : ℕ) × IsSettled place (records ++ block_record item ext ∷ []) reads images
 
 -- Memory was wanted for a snapshot that was due when so many blocks had joined: the record of the block that joined is on the disk.
 pub record LacksSnapshot (joined place : ℕ) (item : List ℕ) (stop : ReadStop) (reads_old reads_new : Option Image) (old new : Image → Type 0) : Type 0 where
   pub memory : stop ≡ NoMemory
   pub due : IsSome (snapshot_at joined)
-  pub behind : (records : List Record) → IsSettled place records reads_old old → IsSettledBehind records item reads_new new
+  pub joined : (records : List Record) → IsSettled place records reads_old old → IsSettledWith records item reads_new new
 
 -- ---- Which one is loaded
 
--- the number behind an open gate
+-- the number after an open gate
 abbrev pub number_in : List ℕ → Option ℕ
 number_in bytes = if has_open_gate bytes then Some (count_at bytes 1) else None
 
@@ -81,6 +81,6 @@ area_with (Some a) (Some b) = if nat_lt a b then Some SnapB else Some SnapA
 abbrev pub newest : Image → Option Area
 newest image = area_with (number_in image.snap_a) (number_in image.snap_b)
 
--- the place of the tip, as it stands behind the number
+-- the place of the tip, as it stands after the number
 abbrev pub tip_in : List ℕ → ℕ
 tip_in bytes = count_at bytes 5

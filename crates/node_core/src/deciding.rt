@@ -19,13 +19,14 @@ ghost use Rattle.verdict_defs.specs.Chain.{verdict_over};
 ghost use Rattle.verdict_defs.specs.Verdict.{joins};
 ghost use Rattle.pool_defs.specs.Assembly.{assembled};
 ghost use Rattle.pool_defs.specs.Laws.{breakable};
-ghost use Rattle.tx_pool.specs.Assembling.{IsAssembled, most_items, most_bytes};
+ghost use Rattle.pool_defs.specs.Size.{most_items, most_bytes};
+ghost use Rattle.tx_pool.specs.Assembling.{IsAssembled};
 ghost use Rattle.node_core.specs.Steps.{moves_on, moves_of_block, moves_for};
 ghost use Rattle.cell_state.specs.State.{rows};
 ghost use Rattle.reorg.specs.Moves.{AreOf};
 ghost use Rattle.chain_tree.specs.Reading.{HasRead, stop_of};
 ghost use Rattle.block_judge.specs.Stops.{read_stop_of};
-ghost use Rattle.node_core.specs.Node.{TellsJoined, AreOfFound, AreOfTip};
+ghost use Rattle.node_core.specs.Node.{HoldsJoined, AreOfFound, AreOfTip};
 ghost use Rattle.node_core.specs.Judging.{IsEntryOn, IsOnParent, HasPassed, IsDecidedBlock, IsDecided, IsReadyBlock, IsReadyItem, WantsMemory, MayWantMemory, becomes_tip, place_for};
 
 use crate::entry::{entry_on, hash_of, parent_hash};
@@ -84,9 +85,9 @@ impl Kept {
         requires to { to < length self.now.chain.blocks }
         requires counts { B.count blocks.old ≡ length self.now.chain.blocks }
         ensures read { HasRead B.told B.count B.loans_of B.faults B.damages blocks.old blocks.new (stop_of result) }
-        ensures cells { TellsJoined self.now (B.told blocks.old) → AreOf self.now.chain.blocks from (rows state)
+        ensures cells { HoldsJoined self.now (B.told blocks.old) → AreOf self.now.chain.blocks from (rows state)
             → IfOk result (λ there. AreOf self.now.chain.blocks to (rows there)) }
-        ensures undamaged { TellsJoined self.now (B.told blocks.old) → AreOf self.now.chain.blocks from (rows state)
+        ensures undamaged { HoldsJoined self.now (B.told blocks.old) → AreOf self.now.chain.blocks from (rows state)
             → (damage : Damage) → result ≡ Err (Damaged damage) → ⊥ }
         ensures steps { OnOk result (steps.new ≡ steps.old + distance self.now.chain.blocks from to) }
         ensures most { steps.new ≤ steps.old + distance self.now.chain.blocks from to }
@@ -133,9 +134,9 @@ impl Kept {
         ensures read { HasRead B.told B.count B.loans_of B.faults B.damages blocks.old blocks.new (stop_of result) }
         ensures ready { IfOk result (IsReadyBlock self.now.chain block.now) }
         ensures on { IfOk result (IsOnParent entry.parent) }
-        ensures decided { TellsJoined self.now (B.told blocks.old) → AreOf self.now.chain.blocks entry.parent (rows state.now)
+        ensures decided { HoldsJoined self.now (B.told blocks.old) → AreOf self.now.chain.blocks entry.parent (rows state.now)
             → IfOk result (IsDecidedBlock self.now.chain block.now) }
-        ensures undamaged { TellsJoined self.now (B.told blocks.old) → AreOf self.now.chain.blocks entry.parent (rows state.now)
+        ensures undamaged { HoldsJoined self.now (B.told blocks.old) → AreOf self.now.chain.blocks entry.parent (rows state.now)
             → (damage : Damage) → result ≡ Err (Damaged damage) → ⊥ }
     {
         let parent = entry.parent;
@@ -184,11 +185,11 @@ impl Kept {
         requires counts { B.count blocks.old ≡ length self.now.chain.blocks }
         ensures read { HasRead B.told B.count B.loans_of B.faults B.damages blocks.old blocks.new (stop_of result) }
         ensures ready { IfOk result (λ it. IsReadyBlock self.now.chain block.now it.1) }
-        ensures cells { TellsJoined self.now (B.told blocks.old) → AreOfTip self.now.chain.blocks (rows state)
+        ensures cells { HoldsJoined self.now (B.told blocks.old) → AreOfTip self.now.chain.blocks (rows state)
             → IfOk result (λ it. AreOfFound self.now.chain.blocks (place_for self.now.chain.blocks it.1) (rows it.0)) }
-        ensures decided { TellsJoined self.now (B.told blocks.old) → AreOfTip self.now.chain.blocks (rows state)
+        ensures decided { HoldsJoined self.now (B.told blocks.old) → AreOfTip self.now.chain.blocks (rows state)
             → IfOk result (λ it. IsDecidedBlock self.now.chain block.now it.1) }
-        ensures undamaged { TellsJoined self.now (B.told blocks.old) → AreOfTip self.now.chain.blocks (rows state)
+        ensures undamaged { HoldsJoined self.now (B.told blocks.old) → AreOfTip self.now.chain.blocks (rows state)
             → (damage : Damage) → result ≡ Err (Damaged damage) → ⊥ }
         ensures asked { result ≡ Err NoMemory → WantsMemory self.now.chain block.now }
         ensures most { steps.new ≤ steps.old + (moves_on self.now.chain block.now (Some entry.parent) - 1) }
@@ -241,11 +242,11 @@ impl Kept {
         requires counts { B.count blocks.old ≡ length self.now.chain.blocks }
         ensures read { HasRead B.told B.count B.loans_of B.faults B.damages blocks.old blocks.new (stop_of result) }
         ensures ready { IfOk result (λ it. IsReadyBlock self.now.chain block.now it.1) }
-        ensures cells { TellsJoined self.now (B.told blocks.old) → AreOfTip self.now.chain.blocks (rows state)
+        ensures cells { HoldsJoined self.now (B.told blocks.old) → AreOfTip self.now.chain.blocks (rows state)
             → IfOk result (λ it. AreOfFound self.now.chain.blocks (place_for self.now.chain.blocks it.1) (rows it.0)) }
-        ensures decided { TellsJoined self.now (B.told blocks.old) → AreOfTip self.now.chain.blocks (rows state)
+        ensures decided { HoldsJoined self.now (B.told blocks.old) → AreOfTip self.now.chain.blocks (rows state)
             → IfOk result (λ it. IsDecidedBlock self.now.chain block.now it.1) }
-        ensures undamaged { TellsJoined self.now (B.told blocks.old) → AreOfTip self.now.chain.blocks (rows state)
+        ensures undamaged { HoldsJoined self.now (B.told blocks.old) → AreOfTip self.now.chain.blocks (rows state)
             → (damage : Damage) → result ≡ Err (Damaged damage) → ⊥ }
         ensures asked { result ≡ Err NoMemory → WantsMemory self.now.chain block.now }
         ensures most { steps.new ≤ steps.old + (moves_of_block self.now.chain block.now - 1) }
@@ -277,11 +278,11 @@ impl Kept {
         requires counts { B.count blocks.old ≡ length self.now.chain.blocks }
         ensures read { HasRead B.told B.count B.loans_of B.faults B.damages blocks.old blocks.new (stop_of result) }
         ensures ready { IfOk result (λ it. IsReadyItem self.now.chain item.now it.1) }
-        ensures cells { TellsJoined self.now (B.told blocks.old) → AreOfTip self.now.chain.blocks (rows state)
+        ensures cells { HoldsJoined self.now (B.told blocks.old) → AreOfTip self.now.chain.blocks (rows state)
             → IfOk result (λ it. AreOfFound self.now.chain.blocks (place_for self.now.chain.blocks it.1) (rows it.0)) }
-        ensures decided { TellsJoined self.now (B.told blocks.old) → AreOfTip self.now.chain.blocks (rows state)
+        ensures decided { HoldsJoined self.now (B.told blocks.old) → AreOfTip self.now.chain.blocks (rows state)
             → IfOk result (λ it. IsDecided self.now.chain item.now it.1) }
-        ensures undamaged { TellsJoined self.now (B.told blocks.old) → AreOfTip self.now.chain.blocks (rows state)
+        ensures undamaged { HoldsJoined self.now (B.told blocks.old) → AreOfTip self.now.chain.blocks (rows state)
             → (damage : Damage) → result ≡ Err (Damaged damage) → ⊥ }
         ensures asked { result ≡ Err NoMemory → MayWantMemory self.now.chain item.now }
         ensures most { steps.new ≤ steps.old + (moves_for self.now.chain item.now - 1) }
@@ -303,10 +304,10 @@ impl Kept {
     ) -> Result<(u64, u64), JudgeStop>
         requires counts { B.count blocks.old ≡ length self.now.chain.blocks }
         ensures read { HasRead B.told B.count B.loans_of B.faults B.damages blocks.old blocks.new (read_stop_of result) }
-        ensures passes { TellsJoined self.now (B.told blocks.old) → AreOfTip self.now.chain.blocks (rows state.now) → IfOk result (λ it. trial_on self.now.chain.spec (best_branch self.now.chain.blocks) tx.now ≡ Passes it.0 it.1) }
-        ensures broken { TellsJoined self.now (B.told blocks.old) → AreOfTip self.now.chain.blocks (rows state.now) → (rule : Rule) → result ≡ Err (Broken rule)
+        ensures passes { HoldsJoined self.now (B.told blocks.old) → AreOfTip self.now.chain.blocks (rows state.now) → IfOk result (λ it. trial_on self.now.chain.spec (best_branch self.now.chain.blocks) tx.now ≡ Passes it.0 it.1) }
+        ensures broken { HoldsJoined self.now (B.told blocks.old) → AreOfTip self.now.chain.blocks (rows state.now) → (rule : Rule) → result ≡ Err (Broken rule)
             → trial_on self.now.chain.spec (best_branch self.now.chain.blocks) tx.now ≡ Refused (rule_number rule) }
-        ensures undamaged { TellsJoined self.now (B.told blocks.old) → AreOfTip self.now.chain.blocks (rows state.now) → (damage : Damage) → result ≡ Err (Read (Damaged damage)) → ⊥ }
+        ensures undamaged { HoldsJoined self.now (B.told blocks.old) → AreOfTip self.now.chain.blocks (rows state.now) → (damage : Damage) → result ≡ Err (Read (Damaged damage)) → ⊥ }
     {
         let context = Context {
             spec: &self.spec,
@@ -332,13 +333,13 @@ impl Kept {
         requires witness { length (encoded schema.cellbase_witness witness.now) ≤ most_bytes }
         requires counts { B.count blocks.old ≡ length self.now.chain.blocks }
         ensures read { HasRead B.told B.count B.loans_of B.faults B.damages blocks.old blocks.new (stop_of result) }
-        ensures assembled { TellsJoined self.now (B.told blocks.old) → AreOfTip self.now.chain.blocks (rows state.now)
+        ensures assembled { HoldsJoined self.now (B.told blocks.old) → AreOfTip self.now.chain.blocks (rows state.now)
             → IfOk result (IsAssembled (assembled self.now.chain witness.now (map (λ item. item.items) items.now))) }
-        ensures joins { TellsJoined self.now (B.told blocks.old) → AreOfTip self.now.chain.blocks (rows state.now) → length self.now.chain.blocks < kept_limit
+        ensures joins { HoldsJoined self.now (B.told blocks.old) → AreOfTip self.now.chain.blocks (rows state.now) → length self.now.chain.blocks < kept_limit
             → IfOk result (λ made. made.broken ≡ None → joins (verdict_over self.now.chain made.block.items) ≡ true) }
-        ensures breaks_few { TellsJoined self.now (B.told blocks.old) → AreOfTip self.now.chain.blocks (rows state.now)
+        ensures breaks_few { HoldsJoined self.now (B.told blocks.old) → AreOfTip self.now.chain.blocks (rows state.now)
             → IfOk result (λ made. (rule : ℕ) → made.broken ≡ Some rule → IsTrue (list_any (λ other. other == rule) breakable)) }
-        ensures undamaged { TellsJoined self.now (B.told blocks.old) → AreOfTip self.now.chain.blocks (rows state.now)
+        ensures undamaged { HoldsJoined self.now (B.told blocks.old) → AreOfTip self.now.chain.blocks (rows state.now)
             → (damage : Damage) → result ≡ Err (Damaged damage) → ⊥ }
     {
         let context = Context {

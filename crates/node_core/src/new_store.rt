@@ -3,7 +3,7 @@ ghost use Rattle.std.specs.Prelude.{◌≡◌, ◌<◌, ◌^◌, ℕ, Err, None,
 ghost use Rattle.codec_defs.specs.Shape.{decoded};
 ghost use Rattle.codec_defs.specs.Schema as schema;
 ghost use Rattle.outside.specs.Causes.{CountsFault};
-ghost use Rattle.outside.specs.Disk.{LeavesOnly, TellsAsBefore};
+ghost use Rattle.outside.specs.Disk.{LeavesOnly, IsKnownAsBefore};
 ghost use Rattle.outside.specs.declared.disk.WriteStop.TheVariants.{DiskFault};
 ghost use Rattle.time_defs.specs.Specification.{broken_specification_rule};
 ghost use Rattle.genesis_defs.specs.Genesis.{broken_genesis_rule};
@@ -104,7 +104,7 @@ impl<'a> NewStore<'a> {
         ensures made { IsSome (D.reads_as disk.old) → OnOk result (IsNew self.now.specification self.now.genesis (D.reads_as disk.new) (D.images disk.new)) }
         ensures unmade { result ≡ Err WriteStop.NoMemory → KeepsLog (D.reads_as disk.old) (D.reads_as disk.new) (D.images disk.old) (D.images disk.new) }
         ensures moments { IsSome (D.reads_as disk.old) → LeavesOnly D.moment D.left_since disk.old disk.new (HasOldLogOrNoSnapshots (D.images disk.old)) }
-        ensures told { TellsAsBefore (D.reads_as disk.old) (D.reads_as disk.new) }
+        ensures told { IsKnownAsBefore (D.reads_as disk.old) (D.reads_as disk.new) }
         ensures cause { CountsFault (D.faults disk.old) (D.faults disk.new) (result ≡ Err DiskFault) }
     {
         match clear(disk, Area::SnapA) {

@@ -31,7 +31,8 @@ ghost use Rattle.verdict_defs.specs.Trial.{trial_on};
 ghost use Rattle.verdict_defs.specs.declared.trial.Trial.TheVariants.{Passes, Refused};
 ghost use Rattle.pool_defs.specs.Assembly.{assembled};
 ghost use Rattle.pool_defs.specs.Laws.{breakable};
-ghost use Rattle.tx_pool.specs.Assembling.{IsAssembled, most_items, most_bytes};
+ghost use Rattle.pool_defs.specs.Size.{most_items, most_bytes};
+ghost use Rattle.tx_pool.specs.Assembling.{IsAssembled};
 ghost use Rattle.log_defs.specs.Log.{Record, records_of};
 ghost use Rattle.log_defs.specs.LogLaws.{HasFittingBody};
 ghost use Rattle.log_defs.specs.Rest.{IsSettled};
@@ -293,7 +294,7 @@ fn join<D: Disk, L: Ledger>(
 }
 
 impl Node {
-    /// Opens the store on a disk. LOG is read once, from front to back; then the live cells go to the tip, from the open
+    /// Opens the store on a disk. LOG is read once, from start to end; then the live cells go to the tip, from the open
     /// snapshot with the greater number or from the genesis, by the blocks on the way. After `Ok` a crash leaves each area as it reads. Also a log whose blocks have not joined may
     /// be answered as no store. Whatever is answered, a crash leaves what it might have left before, or a log that says what
     /// it said. `held` is how many blocks the node holds in memory at most, those that were used last.

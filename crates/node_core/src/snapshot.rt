@@ -43,7 +43,7 @@ fn due(joined: u32) -> Option<u32>
     }
 }
 
-/// Closes the gate of the area of a snapshot, and writes the snapshot behind it.
+/// Closes the gate of the area of a snapshot, and writes the snapshot after it.
 fn put<D: Disk>(
     alloc: Global,
     disk: &mut D,

@@ -1,5 +1,5 @@
 -- What `assemble` reads, and what it says of what was assembled.
-use Rattle.std.proofs.Common.{◌≡◌, inl, inr, ℕ, suc, ◌+◌, ◌*◌, ◌^◌, ◌≤◌, ◌<◌, List, [], ◌∷◌, ◌++◌, length, map, get_or, take, drop, sum, replicate, slice_get, Vec, Global, refl, ap, sym, ◌∙◌, subst, arith, append_assoc}
+use Rattle.std.proofs.Common.{◌≡◌, inl, inr, ℕ, suc, ◌+◌, ◌*◌, ◌≤◌, ◌<◌, List, [], ◌∷◌, ◌++◌, length, map, get_or, drop, sum, replicate, slice_get, Vec, Global, refl, ap, sym, ◌∙◌, subst, arith, append_assoc}
 use Rattle.std.specs.Prelude.{Option, Some, None, Result, Ok, Err, IfOk, string_bytes}
 use Rattle.std.specs.List.{All, concat}
 use Rattle.std.proofs.lemmas.Bool.Decides.{leb_tells}
@@ -13,8 +13,8 @@ use Rattle.codec_defs.specs.Schema.{CellbaseWitness, cellbase_witness}
 use Rattle.verdict_defs.specs.Chain.{Chain}
 use Rattle.pool_defs.specs.Assembly as pool
 use Rattle.pool_defs.specs.Assembly.{assembled}
+use Rattle.pool_defs.specs.Size.{most_items, most_bytes}
 use Rattle.pool_defs.specs.declared.line.Line.{Line}
-use Rattle.tx_pool.specs.Assembling as limits
 use Rattle.tx_pool.specs.Assembling.{IsAssembled}
 use Rattle.tx_pool.specs.declared.assembling.Assembled.{Assembled}
 use Rattle.report_defs.specs.declared.command.Question.TheVariants.{Assemble}
@@ -22,7 +22,7 @@ use Rattle.report_defs.specs.declared.status.Status.{Status}
 use Rattle.report_defs.specs.declared.status.Status.TheVariants.{Done, SomeRefused}
 use Rattle.report_defs.specs.Status.{IsOneOf}
 use Rattle.report_defs.specs.Items.{AreItems, IsTaken, whole_limits}
-use Rattle.report_defs.specs.Assembly.{most_items, assembly_items, pool_line, no_block_line, block_line, status_of_lines}
+use Rattle.report_defs.specs.Assembly.{assembly_items, pool_line, no_block_line, block_line, status_of_lines}
 use Rattle.report_defs.specs.Report.{item_limit, text_of, report_with_witness}
 use Rattle.item_reader.proofs.WholeLemmas.{few_items}
 use Rattle.node_run.specs.Question.{IsAnswerTo}
@@ -35,13 +35,8 @@ most_items-is : most_items ≡ 1000
 unfolding most_items
 most_items-is = refl
 
--- as the node counts them
-most-assembled : limits.most_items ≡ 1000
-unfolding limits.most_items
-most-assembled = refl
-
-most-bytes : limits.most_bytes ≡ 1048576
-unfolding limits.most_bytes
+most-bytes : most_bytes ≡ 1048576
+unfolding most_bytes
 most-bytes = refl
 
 one_more : (n m limit : ℕ) → m ≡ n + 1 → replicate m limit ≡ limit ∷ replicate n limit
@@ -95,12 +90,12 @@ all-within place (vector ∷ vectors) all =
 
 module _ (vectors : List (Vec ℕ Global)) (all : AreItems (whole_limits (assembly_items item_limit)) 0 (map (λ (v : Vec ℕ Global). v.items) vectors)) where
   -- those after the witness
-  pub few-enough : (rest : List (Vec ℕ Global)) → rest ≡ drop 1 vectors → 1 ≤ length vectors → length rest ≤ limits.most_items
+  pub few-enough : (rest : List (Vec ℕ Global)) → rest ≡ drop 1 vectors → 1 ≤ length vectors → length rest ≤ most_items
   few-enough rest rest_is some =
       let most = few_items (assembly_items item_limit) 0 (map (λ (v : Vec ℕ Global). v.items) vectors) all (omega arith) in
-      omega (arith, most, count-of-limits item_limit, most-assembled, some, ap length rest_is, length-map vectors (λ (v : Vec ℕ Global). v.items), length-drop 1 vectors)
+      omega (arith, most, count-of-limits item_limit, most_items-is, some, ap length rest_is, length-map vectors (λ (v : Vec ℕ Global). v.items), length-drop 1 vectors)
 
-  pub short-enough : (rest : List (Vec ℕ Global)) → rest ≡ drop 1 vectors → All (λ (v : Vec ℕ Global). length v.items ≤ limits.most_bytes) rest
+  pub short-enough : (rest : List (Vec ℕ Global)) → rest ≡ drop 1 vectors → All (λ (v : Vec ℕ Global). length v.items ≤ most_bytes) rest
   short-enough rest rest_is =
       subst (λ (most : ℕ). All (λ (v : Vec ℕ Global). length v.items ≤ most) rest) (sym most-bytes)
       (subst (λ (them : List (Vec ℕ Global)). All (λ (v : Vec ℕ Global). length v.items ≤ 1048576) them) (sym rest_is)
@@ -117,7 +112,7 @@ first-and-rest (a ∷ more) vector item some vector_is item_is =
 pub witness-fits : (vectors : List (Vec ℕ Global)) (vector : Vec ℕ Global) (item : List ℕ) (witness : CellbaseWitness)
     → AreItems (whole_limits (assembly_items item_limit)) 0 (map (λ (v : Vec ℕ Global). v.items) vectors)
     → 1 ≤ length vectors → vector ≡ get_or vectors 0 vector → item ≡ vector.items → IsA cellbase_witness item witness
-    → length (encoded cellbase_witness witness) ≤ limits.most_bytes
+    → length (encoded cellbase_witness witness) ≤ most_bytes
 witness-fits vectors vector item witness all some vector_is item_is is =
     let short = all-within 0 vectors all 0 vector (omega (arith, some)) in
     let same : length (get_or vectors 0 vector).items ≡ length item = ap (λ (v : Vec ℕ Global). length v.items) (sym vector_is) ∙ ap length (sym item_is) in

@@ -7,7 +7,7 @@ use Rattle.outside.specs.Streams.{Gives}
 use Rattle.outside.proofs.Streams.{gives_more}
 use Rattle.verdict_defs.specs.Verdict.{joins}
 use Rattle.verdict_defs.specs.Chain.{Chain, verdict_over, chain_after, chain_over}
-use Rattle.outside.specs.Disk.{TellsAsBefore}
+use Rattle.outside.specs.Disk.{IsKnownAsBefore}
 use Rattle.store_defs.specs.Store.{Keeps, store_of, StandsFor, IsSound}
 use Rattle.report_defs.specs.Items.{Split, split_of}
 use Rattle.report_defs.specs.Report.{item_limit, input_limit, import_limits}
@@ -31,7 +31,7 @@ given_also P items rest given are has = subst (λ (s : Split). P s.items) (sym (
 module _ (chain : Chain) (offset : ℕ) (left_old left left_new taken_old taken : Option (List ℕ)) (now : Chain) (refused : Bool)
     (were_sound are_sound was_on is_on : Type 0) (leaves : (Image → Type 0) → Type 0) (steps_old steps_now : ℕ)
     (whole : Whole chain offset left_old left taken_old taken now refused were_sound are_sound was_on is_on leaves steps_old steps_now) where
-  -- What has P of the items, where no whole one stands behind them.
+  -- What has P of the items, where no whole one stands after them.
   pub part_also : (P : List (List ℕ) → Type 0) → P whole.items → (given : List ℕ) → Gives left left_new given
       → IsPartial item_limit (Some input_limit) offset given → Gave left_old left_new (λ given. P (split_of import_limits given).items)
   part_also P has given gives partial = (
@@ -45,7 +45,7 @@ module _ (chain : Chain) (offset : ℕ) (left_old left left_new taken_old taken 
     }) has,
   )
 
-  -- where an item stands behind them
+  -- where an item stands after them
   pub item_also : (P : List (List ℕ) → Type 0) (item given : List ℕ) → IsItemAt item_limit (Some input_limit) offset item given → Gives left left_new given
       → P (whole.items ++ item ∷ []) → Gave left_old left_new (λ given. P (split_of import_limits given).items)
   item_also P item given at gives has = (
@@ -77,12 +77,12 @@ module _ (chain : Chain) (offset : ℕ) (left_old left left_new taken_old taken 
         subst (λ (k : Chain). steps_new ≤ steps_now + moves_for k item) (whole.kept_now sound) most,
       )
 
-  -- what stands behind them holds no whole item
+  -- what stands after them holds no whole item
   pub counted_to_part : (given : List ℕ) → Gives left left_new given → IsPartial item_limit (Some input_limit) offset given
       → Gave left_old left_new (λ given. were_sound → steps_now ≤ steps_old + steps_over chain (split_of import_limits given).items)
   counted_to_part given gives partial = part_also (λ xs. were_sound → steps_now ≤ steps_old + steps_over chain xs) whole.steps given gives partial
 
-  -- an item stands behind them
+  -- an item stands after them
   pub counted_to_item : (steps_new : ℕ) (item given : List ℕ) → IsItemAt item_limit (Some input_limit) offset item given → Gives left left_new given
       → steps_new ≤ steps_now + moves_for now item
       → Gave left_old left_new (λ given. were_sound → steps_new ≤ steps_old + steps_over chain (split_of import_limits given).items)
@@ -111,7 +111,7 @@ stays_there chain now items item is stays = ap (λ (k : Chain). joins (verdict_o
 
 -- the chain that was opened is the one that the disk read as, and the node is sound
 pub opened_over : (before after : Option Image) (opened : NodeValue) (chain : Chain) (now : Image)
-    → IfSome before (λ image. store_of image ≡ Keeps opened.chain) → TellsAsBefore before after → (IsSound now → IsSoundNode opened) → before ≡ Some now → StandsFor chain now
+    → IfSome before (λ image. store_of image ≡ Keeps opened.chain) → IsKnownAsBefore before after → (IsSound now → IsSoundNode opened) → before ≡ Some now → StandsFor chain now
     → (opened.chain ≡ chain) × IsSoundOn opened after
 opened_over before after opened chain now kept as_before sound told stands = (
   same_chain opened.chain chain (sym (if_told before (λ image. store_of image ≡ Keeps opened.chain) now kept told) ∙ store_of_stands chain now stands),
@@ -122,7 +122,7 @@ pub none_over : (opened chain : Chain) (items : List (List ℕ)) → opened ≡ 
 none_over opened chain items same none = subst (λ (k : Chain). NoneJoins k items) (sym same) none
 
 pub counted_over : (before after : Option Image) (opened : NodeValue) (chain : Chain) (now : Image) (items : List (List ℕ)) (steps_old steps_now steps_new : ℕ)
-    → IfSome before (λ image. store_of image ≡ Keeps opened.chain) → TellsAsBefore before after → (IsSound now → IsSoundNode opened) → before ≡ Some now → StandsFor chain now
+    → IfSome before (λ image. store_of image ≡ Keeps opened.chain) → IsKnownAsBefore before after → (IsSound now → IsSoundNode opened) → before ≡ Some now → StandsFor chain now
     → steps_now ≤ steps_old + moves_to_open now → (IsSoundOn opened after → steps_new ≤ steps_now + steps_over opened.chain items)
     → steps_new ≤ steps_old + moves_to_open now + steps_over chain items
 counted_over before after opened chain now items steps_old steps_now steps_new kept as_before sound told stands most counts =

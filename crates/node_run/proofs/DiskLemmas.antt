@@ -2,7 +2,7 @@
 use Rattle.std.proofs.Common.{◌≡◌, ℕ, ap, ◌∙◌}
 use Rattle.std.specs.Prelude.{Option, Some, is_some, IsSome, IfSome}
 use Rattle.outside.specs.Image.{Image}
-use Rattle.outside.specs.Disk.{IsAsBefore, IsOnlyRead, TellsAsBefore}
+use Rattle.outside.specs.Disk.{IsAsBefore, IsOnlyRead, IsKnownAsBefore}
 use Rattle.outside.proofs.Moments.{leaves_also, leaves_then}
 use Rattle.store_defs.specs.Store.{Store, Keeps, store_of, IsSound}
 use Rattle.report_defs.specs.Promise.{IsSoundStoreOf}
@@ -12,23 +12,23 @@ use Rattle.node_run.proofs.StoreLemmas.{opened_store}
 -- ---- A node that is sound
 
 -- a disk that told tells
-tells_too : (before after : Option Image) → TellsAsBefore before after → IsSome before → IsSome after
+tells_too : (before after : Option Image) → IsKnownAsBefore before after → IsSome before → IsSome after
 tells_too before after as_before told = as_before ∙ told
 
 told_some : (reads : Option Image) (now : Image) → reads ≡ Some now → IsSome reads
 told_some reads now told = ap is_some told
 
 -- a node is sound on a disk that tells as before
-pub sound_after : (node : NodeValue) (before after : Option Image) → IsSome before → TellsAsBefore before after → IsSoundNode node → IsSoundOn node after
+pub sound_after : (node : NodeValue) (before after : Option Image) → IsSome before → IsKnownAsBefore before after → IsSoundNode node → IsSoundOn node after
 sound_after node before after told as_before sound = record { sound = sound; told = tells_too before after as_before told }
 
 -- and one that was opened
-pub opened_sound : (node : NodeValue) (before after : Option Image) (now : Image) → TellsAsBefore before after → (IsSound now → IsSoundNode node) → before ≡ Some now
+pub opened_sound : (node : NodeValue) (before after : Option Image) (now : Image) → IsKnownAsBefore before after → (IsSound now → IsSoundNode node) → before ≡ Some now
     → IsSound now → IsSoundOn node after
 opened_sound node before after now as_before sound told is = sound_after node before after (told_some before now told) as_before (sound is)
 
 -- of a sound store that a command finds
-pub found_sound : (node : NodeValue) (before after : Option Image) (store : Store) → IfSome before (λ now. store_of now ≡ Keeps node.chain) → TellsAsBefore before after
+pub found_sound : (node : NodeValue) (before after : Option Image) (store : Store) → IfSome before (λ now. store_of now ≡ Keeps node.chain) → IsKnownAsBefore before after
     → ((now : Image) → before ≡ Some now → IsSound now → IsSoundNode node) → IsSoundStoreOf before store → IsSoundOn node after
 found_sound node before after store kept as_before sound found =
     opened_sound node before after found.0 as_before (sound found.0 found.1) found.1 (node.chain, found.3 node.chain (opened_store before node.chain store kept found))

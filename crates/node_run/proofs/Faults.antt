@@ -2,7 +2,7 @@
 use Rattle.std.proofs.Common.{◌≡◌, ℕ, Bool, true, false, List, refl, sym, subst, inl, inr}
 use Rattle.std.specs.Prelude.{Err, if◌then◌else◌}
 use Rattle.outside.specs.Causes.{HasCause, CountsFault}
-use Rattle.outside.proofs.Endings.{counts-as, behind}
+use Rattle.outside.proofs.Endings.{counts-as, after_still}
 use Rattle.report_defs.specs.declared.end.End.{End}
 use Rattle.report_defs.specs.declared.end.End.TheVariants.{AtEnd, Cut, BadSize, Extra}
 use Rattle.report_defs.specs.declared.status.Status.{Status}
@@ -21,7 +21,7 @@ failed_counts before now error cause fault = record {
 -- a count that was unchanged, and then counts the same fault
 pub then_counts : {First Fault : Type 0} (before still now : ℕ) → still ≡ before → CountsFault still now First → (Fault → First) → (First → Fault)
     → CountsFault before now Fault
-then_counts before still now unchanged counts there back = behind unchanged (counts-as counts there back)
+then_counts before still now unchanged counts there back = after_still unchanged (counts-as counts there back)
 
 -- ---- What an input that ended is answered
 

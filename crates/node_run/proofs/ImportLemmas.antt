@@ -106,7 +106,7 @@ module _ {D : Type 0} (images : D → Image → Type 0) (moment : D → ℕ) (le
       (leaves_also moment left_since mid new (λ image. StandsFor now image ⊎ StandsFor (chain_after now item) image) (KeepsSome chain (items ++ item ∷ [])) second
       (λ image either. keeps_either chain items item image (keeps_item chain now items item image is either)))
 
-  -- the images behind it
+  -- the images after it
   pub exit_of_item : (mid new : D) (chain now : Chain) (items : List (List ℕ)) (item : List ℕ) → now ≡ chain_over chain items
       → LeavesOnly moment left_since mid new (λ image. StandsFor now image ⊎ StandsFor (chain_after now item) image)
       → Each (images new) (λ image. StandsFor (chain_over chain items) image ⊎ StandsFor (chain_over chain (items ++ item ∷ [])) image)
@@ -132,7 +132,7 @@ known_limits most all one two offset left result given next =
 pub cut_before_line : (verdict : Verdict) (status : Status) → IsOneOf (DiskFault ∷ NoMemory ∷ []) status → IsCutShort (line verdict) status []
 cut_before_line verdict status one = record {
   stop = disk_stops status one;
-  part = record { front = (line verdict, refl); shorter = line_some verdict };
+  part = record { prefix = (line verdict, refl); shorter = line_some verdict };
   silent = λ early. refl;
 }
 
@@ -237,7 +237,7 @@ whole_more chain offset left_old left left_new taken_old taken taken_new now new
 
 -- ---- The exits
 
--- the reading ended behind whole items
+-- the reading ended after whole items
 pub imported_to_end : (chain : Chain) (offset : ℕ) (left_old left left_new taken_old taken : Option (List ℕ)) (now : Chain) (ended : Ended)
     (were_sound are_sound was_on is_on : Type 0) (images : Image → Type 0) (leaves : (Image → Type 0) → Type 0) (steps_old steps_now : ℕ) (given : List ℕ)
     → Whole chain offset left_old left taken_old taken now ended.refused were_sound are_sound was_on is_on leaves steps_old steps_now → Gives left left_new given
@@ -273,7 +273,7 @@ imported_to_end chain offset left_old left left_new taken_old taken now ended we
   },
 )
 
--- the reading was stopped behind whole items
+-- the reading was stopped after whole items
 pub imported_to_fault : (chain : Chain) (offset : ℕ) (left_old left left_new taken_old taken : Option (List ℕ)) (now : Chain) (refused : Bool)
     (were_sound are_sound was_on is_on : Type 0) (images : Image → Type 0) (leaves : (Image → Type 0) → Type 0) (steps_old steps_now : ℕ) (status : Status) (given : List ℕ)
     → (whole : Whole chain offset left_old left taken_old taken now refused were_sound are_sound was_on is_on leaves steps_old steps_now) → Gives left left_new given → IsReadingStop status
@@ -332,7 +332,7 @@ imported_to_fault chain offset left_old left left_new taken_old taken now refuse
         refl,
         refl,
         record {
-          front = (line_over (chain_over chain whole.items) given, refl);
+          prefix = (line_over (chain_over chain whole.items) given, refl);
           shorter = line_some (verdict_over (chain_over chain whole.items) given);
         },
       );

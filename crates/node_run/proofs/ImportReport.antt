@@ -13,13 +13,13 @@ use Rattle.report_defs.specs.Status.{IsOneOf}
 use Rattle.report_defs.specs.Items.{Split, split_of, end_offset}
 use Rattle.report_defs.specs.Report.{Report, text_of, item_limit, import_limits, lines_over, closing_of_end, status_of_end, status_of_verdicts, report_of_import}
 use Rattle.report_defs.specs.Promise.{IsPrefix, WritesInOrder, AreWholeLines, ImportsInOrder, IsStoppedBeforeTheSink, all_but_last}
-use Rattle.report_defs.specs.Survival.{Each, IsFront, KeepsStore}
+use Rattle.report_defs.specs.Survival.{Each, IsKeptPrefix, KeepsStore}
 use Rattle.report_defs.proofs.ItemLemmas.{split_of-is, split_of-append}
 use Rattle.item_reader.proofs.Reading.{few_partial}
 use Rattle.node_run.specs.Output.{MatchesReportOf, IsPartOf, IsWrittenAnswer}
 use Rattle.node_run.specs.Import.{AreGiven, KeepsSome, IsEnded, IsStopped, IsStop, line_over, text_over}
 use Rattle.node_run.specs.declared.import.Ended.{Ended}
-use Rattle.node_run.proofs.LineLemmas.{prefix_refl, prefix_trans, prefix_front, prefix_behind, lines-push, lines-append, lines_front, but_the_last, take_all, take_front, front_of_all, front_of_part}
+use Rattle.node_run.proofs.LineLemmas.{prefix_refl, prefix_trans, prefix_front, prefix_behind, lines-push, lines-append, lines_front, but_the_last, take_all, take_prefix, prefix_of_all, prefix_of_part}
 use Rattle.node_run.proofs.StoreLemmas.{keeps_imported}
 use Rattle.node_run.proofs.Statuses.{stop_not_reported, stop_not_done, stop_not_ended, not_early, end_not_early, of_end, only_at_end}
 
@@ -41,7 +41,7 @@ split_is items rest given are = split_of-is import_limits given (record { items 
 parted : (items : List (List ℕ)) (rest given more : List ℕ) → AreGiven items rest given → given ++ more ≡ concat items ++ (rest ++ more)
 parted items rest given more are = ap (λ bs. bs ++ more) are.whole ∙ append_assoc (concat items) rest more
 
--- the lines of what was given stand at the front of the report's text, whatever follows
+-- the lines of what was given stand at the start of the report's text, whatever follows
 lines_begin : (chain : Chain) (items : List (List ℕ)) (rest given more : List ℕ) → AreGiven items rest given
     → IsPrefix (text_over chain items) (text_of (report_on chain (given ++ more)))
 lines_begin chain items rest given more are =
@@ -66,7 +66,7 @@ module _ (chain : Chain) (status : Status) (items before : List (List ℕ)) (res
         ap (λ bs. text_over chain before ++ bs) none.1 ∙ append-nil (text_over chain before) ∙ sym (ap (text_over chain) none.0) in
         subst (IsPrefix (text_over chain before ++ stopped.part)) all (prefix_refl (text_over chain before ++ stopped.part))
     | inr last ↦
-        rw (last.1, lines-push) (prefix_behind (text_over chain before) stopped.part (line_over (chain_over chain before) last.0) last.3.front)
+        rw (last.1, lines-push) (prefix_behind (text_over chain before) stopped.part (line_over (chain_over chain before) last.0) last.3.prefix)
   ])
 
   stopped_writes : IsStopped chain status items before rest taken → WritesInOrder chain items rest taken
@@ -85,13 +85,13 @@ module _ (chain : Chain) (status : Status) (items before : List (List ℕ)) (res
   pub stopped_take : IsStopped chain status items before rest taken → take (length before) items ≡ before
   stopped_take stopped = elim stopped.last [
     | inl none ↦ ap (take (length before)) none.0 ∙ take_all before
-    | inr last ↦ ap (take (length before)) last.1 ∙ take_front before (last.0 ∷ [])
+    | inr last ↦ ap (take (length before)) last.1 ∙ take_prefix before (last.0 ∷ [])
   ]
 
-  pub stopped_acknowledges : IsStopped chain status items before rest taken → IsFront chain items taken (length before)
+  pub stopped_acknowledges : IsStopped chain status items before rest taken → IsKeptPrefix chain items taken (length before)
   stopped_acknowledges stopped = elim stopped.last [
-    | inl none ↦ subst (λ xs. IsFront chain items taken (length xs)) none.0 (front_of_all chain items taken (inl (taken_front stopped)))
-    | inr last ↦ rw (stopped.taken_is, last.1) (front_of_part chain before last.0 stopped.part last.3)
+    | inl none ↦ subst (λ xs. IsKeptPrefix chain items taken (length xs)) none.0 (prefix_of_all chain items taken (inl (taken_front stopped)))
+    | inr last ↦ rw (stopped.taken_is, last.1) (prefix_of_part chain before last.0 stopped.part last.3)
   ]
 
   whole_lines : IsStopped chain status items before rest taken → IsStoppedBeforeTheSink status → AreWholeLines chain items taken
@@ -106,7 +106,7 @@ pub stopped_import : (chain : Chain) (items before : List (List ℕ)) (rest give
 stopped_import chain items before rest given taken left status are stopped =
     let split = split_is items rest given are in (
       record {
-        front = λ more is. prefix_trans taken (text_over chain items) (text_of (report_on chain (given ++ more)))
+        prefix = λ more is. prefix_trans taken (text_over chain items) (text_of (report_on chain (given ++ more)))
             (taken_front chain status items before rest taken stopped) (lines_begin chain items rest given more are);
         whole_text = λ more is told. absurd (stop_not_reported status stopped.stop told);
         same_status = λ more is told. absurd (stop_not_reported status stopped.stop told);
@@ -120,7 +120,7 @@ stopped_import chain items before rest given taken left status are stopped =
       },
     )
 
--- ---- Behind the items
+-- ---- After the items
 
 module _ (chain : Chain) (left : Option (List ℕ)) (ended : Ended) (items : List (List ℕ)) (rest given taken : List ℕ)
     (are : AreGiven items rest given) (end : IsEnded chain left ended items rest taken) where
@@ -172,7 +172,7 @@ module _ (chain : Chain) (left : Option (List ℕ)) (ended : Ended) (items : Lis
       sym (ap (λ (r : Report). text_of r) (says more known)) in
       let begins : IsPrefix (text_over chain items ++ written) (text_over chain items ++ closing_of_end (length (concat items)) ended.end) =
       prefix_behind (text_over chain items) written (closing_of_end (length (concat items)) ended.end)
-      (subst (λ n. IsPrefix written (closing_of_end n ended.end)) end.offset part.front) in
+      (subst (λ n. IsPrefix written (closing_of_end n ended.end)) end.offset part.prefix) in
       subst (IsPrefix (taken ++ written)) is (subst (λ bs. IsPrefix (bs ++ written) (text_over chain items ++ closing_of_end (length (concat items)) ended.end)) (sym end.lines) begins)
 
   abbrev pub last_status : Status
@@ -186,7 +186,7 @@ module _ (chain : Chain) (left : Option (List ℕ)) (ended : Ended) (items : Lis
   ended_import written status (inl told) =
       let split = split_is items rest given are in (
         record {
-          front = λ more is. ([], sym (whole_report written told.0 more is) ∙ sym (append-nil (taken ++ written)));
+          prefix = λ more is. ([], sym (whole_report written told.0 more is) ∙ sym (append-nil (taken ++ written)));
           whole_text = λ more is reported. whole_report written told.0 more is;
           same_status = λ more is reported.
               told.1 ∙ ap (λ b. status_of_end (if b then SomeRefused else Done) ended.end) end.refused ∙ sym (ap (λ (r : Report). r.status) (says more is));
@@ -203,7 +203,7 @@ module _ (chain : Chain) (left : Option (List ℕ)) (ended : Ended) (items : Lis
       let split = split_is items rest given are in
       let stop : IsStop status = subst IsStop (sym short.1) tt in (
         record {
-          front = λ more is. front_report written short.0 more is;
+          prefix = λ more is. front_report written short.0 more is;
           whole_text = λ more is told. absurd (stop_not_reported status stop told);
           same_status = λ more is told. absurd (stop_not_reported status stop told);
         },
@@ -222,7 +222,7 @@ module _ {D : Type 0} (images : D → Image → Type 0) (moment : D → ℕ) (le
     (counts_now : (disk : D) (t : ℕ) (image : Image) → t ≤ moment disk → images disk image → left_since disk t image) where
   -- of the items that were given
   pub keeps_given : (old mid new : D) (chain : Chain) (items before : List (List ℕ)) (rest given taken : List ℕ) (status : Status) → AreGiven items rest given
-      → IsFront chain items taken (length before) → take (length before) items ≡ before
+      → IsKeptPrefix chain items taken (length before) → take (length before) items ≡ before
       → LeavesOnly moment left_since old mid (λ image. images old image ⊎ StandsFor chain image)
       → Each (images new) (λ image. StandsFor (chain_over chain before) image ⊎ StandsFor (chain_over chain items) image)
       → LeavesOnly moment left_since mid new (KeepsSome chain items)
@@ -239,7 +239,7 @@ module _ {D : Type 0} (images : D → Image → Type 0) (moment : D → ℕ) (le
       → LeavesOnly moment left_since mid new (KeepsSome chain items)
       → KeepsStore chain (split_of import_limits given).items taken status (images old) (images new) (left_since new (moment old))
   keeps_all_given old mid new chain items before rest given taken status are same written answered opened exit moments =
-      keeps_given old mid new chain items items rest given taken status are (front_of_all chain items taken (inr (written, answered))) (take_all items) opened
+      keeps_given old mid new chain items items rest given taken status are (prefix_of_all chain items taken (inr (written, answered))) (take_all items) opened
       (subst (λ xs. Each (images new) (λ image. StandsFor (chain_over chain xs) image ⊎ StandsFor (chain_over chain items) image)) (sym same) exit) moments
 
 -- the order of a run that was stopped before a byte was read

@@ -209,7 +209,7 @@ alone_of specification genesis one two reads images both new =
     subst (λ (s : List ℕ). StandsAlone s genesis images) both.0
     (subst (λ (g : List ℕ). StandsAlone one g images) both.1 (new_image one two, new.one, new.stands, refl))
 
--- ---- The statuses behind which the disk is as before
+-- ---- The statuses after which the disk is as before
 
 abbrev IsNewStatus : Status → Type 0
 IsNewStatus Done = Unit {0}

@@ -1,4 +1,4 @@
--- The lines of items, and which of them stand at the front of a text.
+-- The lines of items, and which of them stand at the start of a text.
 use Rattle.std.proofs.Common.{◌≡◌, inl, inr, ℕ, zero, suc, ◌-◌, ◌≤◌, ◌<◌, List, [], ◌∷◌, ◌++◌, length, map, take, drop, refl, ap, sym, subst, ◌∙◌, arith, append_assoc, append-nil, length-append, take-append-drop}
 use Rattle.std.specs.List.{concat}
 use Rattle.std.proofs.lemmas.List.{map-append}
@@ -12,7 +12,7 @@ use Rattle.fold_defs.proofs.FoldLemmas.{verdicts-append, verdicts-push}
 use Rattle.report_defs.specs.Text.{line}
 use Rattle.report_defs.specs.Report.{lines_over}
 use Rattle.report_defs.specs.Promise.{IsPrefix, all_but_last}
-use Rattle.report_defs.specs.Survival.{Agrees, IsFront}
+use Rattle.report_defs.specs.Survival.{Agrees, IsKeptPrefix}
 use Rattle.node_run.specs.Output.{IsPartOf}
 use Rattle.node_run.specs.Import.{line_over, text_over}
 
@@ -76,8 +76,8 @@ but_the_last items last =
 pub take_all : (items : List (List ℕ)) → take (length items) items ≡ items
 take_all items = grind (arith, common_steps)
 
-pub take_front : (items more : List (List ℕ)) → take (length items) (items ++ more) ≡ items
-take_front items more = grind (arith, common_steps)
+pub take_prefix : (items more : List (List ℕ)) → take (length items) (items ++ more) ≡ items
+take_prefix items more = grind (arith, common_steps)
 
 -- ---- Which items are acknowledged
 
@@ -93,22 +93,22 @@ none_acknowledged chain (item ∷ items) (suc n) within begins =
       length-append (line_over chain item) (text_over (chain_after chain item) (take n items)),
     ))
 
-pub front_of_none : (chain : Chain) (items : List (List ℕ)) (count : ℕ) → count ≤ length items → IsFront chain items [] count
-front_of_none chain items count within = record {
+pub prefix_of_none : (chain : Chain) (items : List (List ℕ)) (count : ℕ) → count ≤ length items → IsKeptPrefix chain items [] count
+prefix_of_none chain items count within = record {
   answered = inl (text_over chain items, refl);
   most = within;
   acknowledged = λ n most begins. omega (arith, none_acknowledged chain items n most begins);
 }
 
-pub front_of_all : (chain : Chain) (items : List (List ℕ)) (taken : List ℕ) → Agrees taken (text_over chain items) → IsFront chain items taken (length items)
-front_of_all chain items taken answered = record { answered = answered; most = omega arith; acknowledged = λ n most begins. most }
+pub prefix_of_all : (chain : Chain) (items : List (List ℕ)) (taken : List ℕ) → Agrees taken (text_over chain items) → IsKeptPrefix chain items taken (length items)
+prefix_of_all chain items taken answered = record { answered = answered; most = omega arith; acknowledged = λ n most begins. most }
 
 -- where of the last line a part was taken, all but the last at most
-pub front_of_part : (chain : Chain) (before : List (List ℕ)) (item part : List ℕ) → IsPartOf (line_over (chain_over chain before) item) part
-    → IsFront chain (before ++ item ∷ []) (text_over chain before ++ part) (length before)
-front_of_part chain before item part is_part = record {
+pub prefix_of_part : (chain : Chain) (before : List (List ℕ)) (item part : List ℕ) → IsPartOf (line_over (chain_over chain before) item) part
+    → IsKeptPrefix chain (before ++ item ∷ []) (text_over chain before ++ part) (length before)
+prefix_of_part chain before item part is_part = record {
   answered = inl (subst (IsPrefix (text_over chain before ++ part)) (sym (lines-push chain before item))
-      (prefix_behind (text_over chain before) part (line_over (chain_over chain before) item) is_part.front));
+      (prefix_behind (text_over chain before) part (line_over (chain_over chain before) item) is_part.prefix));
   most = omega (arith, length-append before (item ∷ []));
   acknowledged = λ n most begins. elim (leb_tells n (length before)) [
     | inl within ↦ within.1

@@ -3,7 +3,7 @@ use Rattle.std.proofs.Common.{◌≡◌, ◌⊎◌, ℕ, ◌≤◌, List, [], Op
 use Rattle.std.specs.Prelude.{IfSome, is_some, ◌↔◌}
 use Rattle.std.proofs.lemmas.Option.{same_Some}
 use Rattle.outside.specs.Image.{Image}
-use Rattle.outside.specs.Disk.{LeavesOnly, IsAsBefore, IsOnlyRead, TellsAsBefore}
+use Rattle.outside.specs.Disk.{LeavesOnly, IsAsBefore, IsOnlyRead, IsKnownAsBefore}
 use Rattle.outside.specs.declared.disk.ReadStop.{ReadStop}
 use Rattle.outside.specs.declared.disk.ReadStop.TheVariants as stops
 use Rattle.outside.proofs.Endings.{no_fault, counts-as}
@@ -98,7 +98,7 @@ none_no_fault same = absurd (cc)
 module _ {D C : Type 0} (content_of : D → C) (reads_as : D → Option Image) (images : D → Image → Type 0) (moment : D → ℕ) (left_since : D → ℕ → Image → Type 0)
     (rests : (old new : D) → content_of new ≡ content_of old → IsAsBefore reads_as images moment left_since old new) where
   -- it tells as before
-  pub tells_looked : (old mid new : D) → TellsAsBefore (reads_as old) (reads_as mid) → content_of new ≡ content_of mid → TellsAsBefore (reads_as old) (reads_as new)
+  pub tells_looked : (old mid new : D) → IsKnownAsBefore (reads_as old) (reads_as mid) → content_of new ≡ content_of mid → IsKnownAsBefore (reads_as old) (reads_as new)
   tells_looked old mid new tells looked = ap is_some (rests mid new looked).reads ∙ tells
 
   module _ (counts_now : (disk : D) (t : ℕ) (image : Image) → t ≤ moment disk → images disk image → left_since disk t image) where

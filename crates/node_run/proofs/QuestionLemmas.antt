@@ -2,7 +2,7 @@
 use Rattle.std.proofs.Common.{◌≡◌, ◌⊎◌, ℕ, ◌≤◌, List, [], ◌∷◌, length, refl, ap, sym, ◌∙◌, subst, arith}
 use Rattle.std.specs.Prelude.{Option, Some, Result, Ok, Err, IfOk, IfSome, string_bytes}
 use Rattle.outside.specs.Image.{Image}
-use Rattle.outside.specs.Disk.{LeavesOnly, IsAsBefore, TellsAsBefore}
+use Rattle.outside.specs.Disk.{LeavesOnly, IsAsBefore, IsKnownAsBefore}
 use Rattle.codec_defs.specs.Shape.{decoded}
 use Rattle.codec_defs.specs.Schema.{Transaction, transaction}
 use Rattle.verdict_defs.specs.Chain.{Chain}
@@ -120,7 +120,7 @@ module _ {D : Type 0} (reads_as : D → Option Image) (images : D → Image → 
         → ((now : Image) (chain : Chain) → reads_as old ≡ Some now → store_of now ≡ Keeps chain → ((image : Image) → images old image → IsSound image)
         → LeavesOnly moment left_since old mid (λ image. images old image ⊎ StandsFor chain image))
         → ((now : Image) → reads_as old ≡ Some now → IsSound now → IsSoundNode node)
-        → TellsAsBefore (reads_as old) (reads_as mid)
+        → IsKnownAsBefore (reads_as old) (reads_as mid)
         → content_of new ≡ content_of mid
         → (IsSoundOn node (reads_as mid) → AnswersQuestion question node.chain given left taken status)
         → DeliversAnswer question (reads_as old) (images old) (images new) (left_since new (moment old)) left given taken status

@@ -1,4 +1,4 @@
--- The records that LOG keeps, and those of items behind them.
+-- The records that LOG keeps, and those of items after them.
 use Rattle.std.proofs.Common.{◌≡◌, ◌⊎◌, inl, inr, ℕ, ◌≤◌, Bool, true, false, List, [], ◌∷◌, ◌++◌, take, drop, length, cond, leb, arith, refl, ap, sym, ◌∙◌, subst, append-nil, append_assoc}
 use Rattle.std.specs.Prelude.{Option, Some, None, is_none, ◌==◌, ◌&&◌}
 use Rattle.std.specs.Str.{bytes_eq}
@@ -17,7 +17,7 @@ use Rattle.verdict_defs.specs.declared.verdict.Verdict.{Verdict}
 use Rattle.verdict_defs.specs.Verdict.{joins}
 use Rattle.verdict_defs.specs.Chain.{Chain}
 use Rattle.store_defs.specs.Store.{NoLog, Keeps, store_of, store_of_log}
-use Rattle.node_core.specs.Node.{IsLeftByOpening, IsLeftByImport, AreRecordsBehind, IsSettledAfter}
+use Rattle.node_core.specs.Node.{IsLeftByOpening, IsLeftByImport, AreRecordsWith, IsSettledAfter}
 use Rattle.log_defs.specs.Log.{Record, LogContent, magic, records_of, log_of, content_of_records, are_first, blocks_over, record_limit}
 use Rattle.log_defs.specs.Rest.{IsAtRest, IsSettled, IsAppended}
 use Rattle.log_file.specs.Pieces.{block_record}
@@ -139,7 +139,7 @@ opened_goes_on items now chain images keeps image (inr (before, left, (bytes, sa
     let log = log_there now chain keeps in
     inr (subst (λ (i : Image). GoesOn items (records_of (drop 8 now.log)) i.log) (sym is) (says_goes_on items bytes now.log log.0 log.1 says))
 
--- ---- Items behind them
+-- ---- Items after them
 
 -- LOG is settled with the records of before and those of some of the items, and at each moment it had such.
 pub record HasGrown (items : List (List ℕ)) (records : List Record) (place : ℕ) (reads : Option Image) (images : Image → Type 0)
@@ -163,7 +163,7 @@ left_goes_on items item records added place images image some (ext, appended) = 
 
 -- the records after an item of a verdict
 after_item : (items : List (List ℕ)) (item : List ℕ) (records added later : List Record) (joined : Bool) → AreOfSome items added
-    → AreRecordsBehind (records ++ added) item later joined → (more : List Record) × AreOfSome (items ++ item ∷ []) more × (later ≡ records ++ more)
+    → AreRecordsWith (records ++ added) item later joined → (more : List Record) × AreOfSome (items ++ item ∷ []) more × (later ≡ records ++ more)
 after_item items item records added later false some is = (added, some_more items item added some, is)
 after_item items item records added later true some (ext, is) =
     (added ++ block_record item ext ∷ [], some_push items item ext added some, is ∙ append_assoc records added (block_record item ext ∷ []))

@@ -16,31 +16,31 @@ use Rattle.report_defs.specs.declared.status.Status.TheVariants.{Done, SomeRefus
 use Rattle.report_defs.specs.Status.{IsOneOf}
 use Rattle.report_defs.specs.Report.{Report, text_of, report_without_lines, file_limit, IsReport, IsReportOfFile, answer_to_query}
 use Rattle.report_defs.specs.Promise.{MatchesReport, KeepsOrder, ReadsFileInOrder, Finds, IsReported}
-use Rattle.report_defs.specs.Survival.{Each, Run, IsDone, IsFront, IsKeptBy, IsLeftBy, KeepsStore, KeepsItems, KeepsDisk, Answers, IsPromised, items_of}
+use Rattle.report_defs.specs.Survival.{Each, Run, IsDone, IsKeptPrefix, IsKeptBy, IsLeftBy, KeepsStore, KeepsItems, KeepsDisk, Answers, IsPromised, items_of}
 use Rattle.node_run.specs.Store.{Delivers}
 use Rattle.node_run.specs.Question.{DeliversAnswer}
 use Rattle.node_run.specs.Simulation.{IsSimulationTold}
-use Rattle.node_run.proofs.LineLemmas.{front_of_none}
+use Rattle.node_run.proofs.LineLemmas.{prefix_of_none}
 use Rattle.node_run.proofs.StoreLemmas.{same_chain, store_of_stands}
 
 -- ---- Runs that keep what was kept
 
 -- a run may have kept no more than what was kept
 keeps_none : (genesis : Chain) (past : List Run) (run : Run) (image : Image)
-    → ((kept : Chain) → IsFront kept (items_of run.command run.given) run.taken 0)
+    → ((kept : Chain) → IsKeptPrefix kept (items_of run.command run.given) run.taken 0)
     → ((kept : Chain) → IsDone run.status → Answers run.command kept run.given run.taken)
     → IsLeftBy genesis past image → IsLeftBy genesis (run ∷ past) image
 keeps_none genesis past run image front answers left =
     (left.0, (left.0, left.1, record { count = 0; prefix = front left.0; added = refl; answered = answers left.0 }), left.2)
 
-front_of_no_item : (kept : Chain) (taken : List ℕ) → IsFront kept [] taken 0
-front_of_no_item kept taken = record { answered = inr (taken, refl); most = omega arith; acknowledged = λ n most begins. most }
+prefix_of_no_item : (kept : Chain) (taken : List ℕ) → IsKeptPrefix kept [] taken 0
+prefix_of_no_item kept taken = record { answered = inr (taken, refl); most = omega arith; acknowledged = λ n most begins. most }
 
-front_of_no_items : (items : List (List ℕ)) (kept : Chain) (taken : List ℕ) → items ≡ [] → IsFront kept items taken 0
-front_of_no_items items kept taken none = subst (λ (i : List (List ℕ)). IsFront kept i taken 0) (sym none) (front_of_no_item kept taken)
+prefix_of_no_items : (items : List (List ℕ)) (kept : Chain) (taken : List ℕ) → items ≡ [] → IsKeptPrefix kept items taken 0
+prefix_of_no_items items kept taken none = subst (λ (i : List (List ℕ)). IsKeptPrefix kept i taken 0) (sym none) (prefix_of_no_item kept taken)
 
 keeps_some : (genesis : Chain) (past : List Run) (run : Run) (image : Image) (kept : Chain) (count : ℕ)
-    → IsKeptBy genesis past kept → IsFront kept (items_of run.command run.given) run.taken count
+    → IsKeptBy genesis past kept → IsKeptPrefix kept (items_of run.command run.given) run.taken count
     → (IsDone run.status → Answers run.command kept run.given run.taken)
     → StandsFor (chain_over kept (take count (items_of run.command run.given))) image → IsLeftBy genesis (run ∷ past) image
 keeps_some genesis past run image kept count by front answers stands =
@@ -81,7 +81,7 @@ module _ (command : Option Command) (now : Image) (at_start at_exit meanwhile : 
       let kept = kept_store here keeps genesis past by in
       elim (kept.3.exit image left) [
         | inl before ↦ keeps_none genesis past (run_of command given taken status) image
-            (λ chain. subst (λ bytes. IsFront chain (items_of command given) bytes 0) (sym before.1) (front_of_none chain (items_of command given) 0 (omega arith)))
+            (λ chain. subst (λ bytes. IsKeptPrefix chain (items_of command given) bytes 0) (sym before.1) (prefix_of_none chain (items_of command given) 0 (omega arith)))
             (λ chain done. absurd (not_done status before.0 done)) (by image before.2)
         | inr some ↦ keeps_some genesis past (run_of command given taken status) image kept.0 some.0 kept.1 some.1 (answers kept.0 kept.2) some.2
       ]
@@ -91,9 +91,9 @@ module _ (command : Option Command) (now : Image) (at_start at_exit meanwhile : 
   survives_store_meanwhile here keeps genesis past by = λ image left.
       let kept = kept_store here keeps genesis past by in
       elim (kept.3.moments image left) [
-        | inl before ↦ keeps_none genesis past (stopped_run command given) image (λ chain. front_of_none chain (items_of command given) 0 (omega arith))
+        | inl before ↦ keeps_none genesis past (stopped_run command given) image (λ chain. prefix_of_none chain (items_of command given) 0 (omega arith))
             (λ chain done. absurd done) (by image before)
-        | inr some ↦ keeps_some genesis past (stopped_run command given) image kept.0 some.0 kept.1 (front_of_none kept.0 (items_of command given) some.0 some.1)
+        | inr some ↦ keeps_some genesis past (stopped_run command given) image kept.0 some.0 kept.1 (prefix_of_none kept.0 (items_of command given) some.0 some.1)
             (λ done. absurd done) some.2
       ]
 
@@ -190,11 +190,11 @@ module _ {D : Type 0} (reads_as : D → Option Image) (images : D → Image → 
     disk = kept.disk;
     survives = λ told genesis past by image here.
         let same = init_before old new genesis past told there by in
-        keeps_none genesis past (run_of (Some Init) given taken status) image (λ chain. front_of_no_item chain taken) (λ chain done. tt)
+        keeps_none genesis past (run_of (Some Init) given taken status) image (λ chain. prefix_of_no_item chain taken) (λ chain done. tt)
         (by image ((same.images image).0 here));
     at_each_moment = λ told genesis past by image here.
         let same = init_before old new genesis past told there by in
-        keeps_none genesis past (stopped_run (Some Init) given) image (λ chain. front_of_no_item chain []) (λ chain done. tt) (by image (same.moments.each image here));
+        keeps_none genesis past (stopped_run (Some Init) given) image (λ chain. prefix_of_no_item chain []) (λ chain done. tt) (by image (same.moments.each image here));
     answers = λ told genesis past by done.
         let now = told_image (reads_as old) told in
         let first = by now.0 (reads_here (reads_as old) (images old) now.0 (reads_image old) now.1) in
@@ -212,9 +212,9 @@ module _ {D : Type 0} (reads_as : D → Option Image) (images : D → Image → 
     order = λ store found. (says store found).1;
     disk = λ now told. disk now;
     survives = λ told genesis past by image here. keeps_none genesis past (run_of command given taken status) image
-        (λ chain. front_of_no_items (items_of command given) chain taken none) (λ chain done. answers chain) (by image here);
+        (λ chain. prefix_of_no_items (items_of command given) chain taken none) (λ chain done. answers chain) (by image here);
     at_each_moment = λ told genesis past by image here. keeps_none genesis past (stopped_run command given) image
-        (λ chain. front_of_no_items (items_of command given) chain [] none) (λ chain done. absurd done) (by image (only_now old image here));
+        (λ chain. prefix_of_no_items (items_of command given) chain [] none) (λ chain done. absurd done) (by image (only_now old image here));
     answers = λ told genesis past by done.
         let now = told_image (reads_as old) told in
         let first = by now.0 (reads_here (reads_as old) (images old) now.0 (reads_image old) now.1) in

@@ -24,7 +24,7 @@ pub simulation_told : (simulation : Simulation) (left : Option (List ℕ)) (take
     → IsWrittenAnswer text Done result taken → IsSimulationTold simulation left taken result
 simulation_told simulation left taken text result is (inl told) = (
   by_function (λ whole. report_without_lines text Done) (Said simulation) [] left taken result (λ whole. (text, is, refl)) (record {
-    front = λ more at. ([], sym told.0 ∙ sym (append-nil taken));
+    prefix = λ more at. ([], sym told.0 ∙ sym (append-nil taken));
     whole_text = λ more at reported. told.0;
     same_status = λ more at reported. told.1;
   }),
@@ -32,7 +32,7 @@ simulation_told simulation left taken text result is (inl told) = (
 )
 simulation_told simulation left taken text result is (inr failed) = (
   by_function (λ whole. report_without_lines text Done) (Said simulation) [] left taken result (λ whole. (text, is, refl)) (record {
-    front = λ more at. failed.0.front;
+    prefix = λ more at. failed.0.prefix;
     whole_text = λ more at reported. absurd (stop_not_reported result (subst IsStop (sym failed.1) tt) reported);
     same_status = λ more at reported. absurd (stop_not_reported result (subst IsStop (sym failed.1) tt) reported);
   }),

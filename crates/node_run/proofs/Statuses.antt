@@ -138,7 +138,7 @@ question_reading InputFault stop = held question_statuses InputFault refl
 question_reading NoMemory stop = held question_statuses NoMemory refl
 question_reading _ stop = absurd stop
 
--- ---- The status behind the end of an import
+-- ---- The status after the end of an import
 
 -- such a status is no stop
 abbrev pub IsOfEnd : Status → Type 0

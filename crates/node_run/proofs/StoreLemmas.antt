@@ -19,11 +19,11 @@ use Rattle.report_defs.specs.Status.{IsOneOf}
 use Rattle.report_defs.specs.Text.{tip_line, tip_line_of}
 use Rattle.report_defs.specs.Report.{Report, report_without_lines, text_of, IsReport, answer_to_query, report_of_query}
 use Rattle.report_defs.specs.Promise.{IsPrefix, MatchesReport, KeepsOrder, IsSoundStoreOf, Finds, FindsNoStore, IsStoppedBeforeTheSink}
-use Rattle.report_defs.specs.Survival.{Each, IsFront, KeepsStore, KeepsDisk}
+use Rattle.report_defs.specs.Survival.{Each, IsKeptPrefix, KeepsStore, KeepsDisk}
 use Rattle.node_run.specs.Import.{IsStop, KeepsSome}
 use Rattle.node_run.specs.Output.{MatchesReportOf, IsWrittenAnswer}
 use Rattle.node_run.specs.Store.{Delivers, IsQueryTold, opening_stops}
-use Rattle.node_run.proofs.LineLemmas.{front_of_all, front_of_none, take_all}
+use Rattle.node_run.proofs.LineLemmas.{prefix_of_all, prefix_of_none, take_all}
 use Rattle.node_run.proofs.Statuses.{stop_not_reported, opening_reported, opening_stop, is_early, not_early}
 
 -- ---- What the disk reads as
@@ -70,7 +70,7 @@ store_of_stands chain image stands =
 pub by_function : (report : List ℕ → Report) (IsReportOf : List ℕ → Report → Type 0) (given : List ℕ) (left : Option (List ℕ)) (taken : List ℕ) (status : Status)
     → ((whole : List ℕ) → IsReportOf whole (report whole)) → MatchesReportOf report given left taken status → MatchesReport IsReportOf given left taken status
 by_function report IsReportOf given left taken status is says = record {
-  prefix = λ more at. inr (report (given ++ more), is (given ++ more), says.front more at);
+  prefix = λ more at. inr (report (given ++ more), is (given ++ more), says.prefix more at);
   whole = λ more at told. (report (given ++ more), is (given ++ more), says.whole_text more at told, says.same_status more at told);
 }
 
@@ -120,7 +120,7 @@ module _ {D : Type 0} (images : D → Image → Type 0) (moment : D → ℕ) (le
     (counts_now : (disk : D) (t : ℕ) (image : Image) → t ≤ moment disk → images disk image → left_since disk t image) where
   -- opened, and then some items imported
   pub keeps_imported : (old mid new : D) (chain : Chain) (items before : List (List ℕ)) (taken : List ℕ) (status : Status)
-      → IsFront chain items taken (length before) → take (length before) items ≡ before
+      → IsKeptPrefix chain items taken (length before) → take (length before) items ≡ before
       → LeavesOnly moment left_since old mid (λ image. images old image ⊎ StandsFor chain image)
       → Each (images new) (λ image. StandsFor (chain_over chain before) image ⊎ StandsFor (chain_over chain items) image)
       → LeavesOnly moment left_since mid new (KeepsSome chain items)
@@ -128,7 +128,7 @@ module _ {D : Type 0} (images : D → Image → Type 0) (moment : D → ℕ) (le
   keeps_imported old mid new chain items before taken status front is opened exit moments = record {
     exit = λ image left. elim (exit image left) [
       | inl some ↦ inr (length before, front, subst (λ xs. StandsFor (chain_over chain xs) image) (sym is) some)
-      | inr all ↦ inr (length items, front_of_all chain items taken front.answered, subst (λ xs. StandsFor (chain_over chain xs) image) (sym (take_all items)) all)
+      | inr all ↦ inr (length items, prefix_of_all chain items taken front.answered, subst (λ xs. StandsFor (chain_over chain xs) image) (sym (take_all items)) all)
     ];
     moments = (leaves_then moment left_since old mid new (λ image. images old image ⊎ KeepsSome chain items image)
         (leaves_also moment left_since old mid (λ image. images old image ⊎ StandsFor chain image) (λ image. images old image ⊎ KeepsSome chain items image) opened here)
@@ -145,7 +145,7 @@ module _ {D : Type 0} (images : D → Image → Type 0) (moment : D → ℕ) (le
       → Each (images new) (StandsFor chain)
       → KeepsStore chain [] taken status (images old) (images new) (left_since new (moment old))
   keeps_read old new chain taken status opened exit = record {
-    exit = λ image left. inr (0, front_of_all chain [] taken (inr (taken, refl)), exit image left);
+    exit = λ image left. inr (0, prefix_of_all chain [] taken (inr (taken, refl)), exit image left);
     moments = λ image left. elim (opened.each image left) [ inl past ↦ inl past | inr stands ↦ inr (0, omega arith, stands) ];
   }
 
@@ -156,7 +156,7 @@ module _ {D : Type 0} (images : D → Image → Type 0) (moment : D → ℕ) (le
   keeps_unopened old new chain items status stop opened = record {
     exit = λ image left. elim (now_too moment left_since images counts_now old new (λ image. images old image ⊎ StandsFor chain image) opened image left) [
       | inl past ↦ inl (stop, refl, past)
-      | inr stands ↦ inr (0, front_of_none chain items 0 (omega arith), stands)
+      | inr stands ↦ inr (0, prefix_of_none chain items 0 (omega arith), stands)
     ];
     moments = λ image left. elim (opened.each image left) [ inl past ↦ inl past | inr stands ↦ inr (0, omega arith, stands) ];
   }
@@ -239,7 +239,7 @@ tip_line_is found block number hash line is number_is hash_is line_is =
 pub query_stopped : (query : Query) (chain : Chain) (left : Option (List ℕ)) (status : Status) → IsStop status → IsQueryTold query chain left [] status
 query_stopped query chain left status stop = (
   record {
-    front = λ more at. (text_of (report_of_query query chain), refl);
+    prefix = λ more at. (text_of (report_of_query query chain), refl);
     whole_text = λ more at told. absurd (stop_not_reported status stop told);
     same_status = λ more at told. absurd (stop_not_reported status stop told);
   },
@@ -251,7 +251,7 @@ pub query_told : (query : Query) (chain : Chain) (left : Option (List ℕ)) (tak
     → IsWrittenAnswer text Done result taken → IsQueryTold query chain left taken result
 query_told query chain left taken text result is (inl told) = (
   record {
-    front = λ more at. ([], sym (told.0 ∙ is) ∙ sym (append-nil taken));
+    prefix = λ more at. ([], sym (told.0 ∙ is) ∙ sym (append-nil taken));
     whole_text = λ more at reported. told.0 ∙ is;
     same_status = λ more at reported. told.1;
   },
@@ -259,7 +259,7 @@ query_told query chain left taken text result is (inl told) = (
 )
 query_told query chain left taken text result is (inr failed) = (
   record {
-    front = λ more at. subst (IsPrefix taken) is failed.0.front;
+    prefix = λ more at. subst (IsPrefix taken) is failed.0.prefix;
     whole_text = λ more at reported. absurd (stop_not_reported result (subst IsStop (sym failed.1) tt) reported);
     same_status = λ more at reported. absurd (stop_not_reported result (subst IsStop (sym failed.1) tt) reported);
   },

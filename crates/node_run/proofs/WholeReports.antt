@@ -100,19 +100,19 @@ told_said report text status result taken text_is status_is (inl told) = inl (to
 told_said report text status result taken text_is status_is (inr failed) =
     inr (record {
       stop = subst IsWritingStop (sym failed.1) tt;
-      front = subst (IsPrefix taken) text_is failed.0.front;
+      prefix = subst (IsPrefix taken) text_is failed.0.prefix;
       silent = λ early. absurd (not_early result failed.1 early);
     })
 
 pub said_text : (full : List ℕ → Report) (report : Report) (left : Option (List ℕ)) (given taken : List ℕ) (status : Status) → IsSaid report status taken
     → ((more : List ℕ) → left ≡ Some more → full (given ++ more) ≡ report) → MatchesReportOf full given left taken status
 said_text full report left given taken status (inl said) says = record {
-  front = λ more is. subst (IsPrefix taken) (said.0 ∙ sym (ap (λ (r : Report). text_of r) (says more is))) ([], sym (append-nil taken));
+  prefix = λ more is. subst (IsPrefix taken) (said.0 ∙ sym (ap (λ (r : Report). text_of r) (says more is))) ([], sym (append-nil taken));
   whole_text = λ more is told. said.0 ∙ sym (ap (λ (r : Report). text_of r) (says more is));
   same_status = λ more is told. said.1 ∙ sym (ap (λ (r : Report). r.status) (says more is));
 }
 said_text full report left given taken status (inr part) says = record {
-  front = λ more is. subst (IsPrefix taken) (sym (ap (λ (r : Report). text_of r) (says more is))) part.front;
+  prefix = λ more is. subst (IsPrefix taken) (sym (ap (λ (r : Report). text_of r) (says more is))) part.prefix;
   whole_text = λ more is told. absurd (stop_not_reported status (writing_stops status part.stop) told);
   same_status = λ more is told. absurd (stop_not_reported status (writing_stops status part.stop) told);
 }
@@ -142,7 +142,7 @@ module _ (limits : List ℕ) (needed : ℕ) (judged : List (List ℕ) → Report
       → MatchesReportOf (whole_report limits needed judged) given left [] status × ReadsWhole (whole_limits limits) statuses given left [] status
   whole_stopped left given status stop no_further = (
     record {
-      front = λ more is. (text_of (whole_report limits needed judged (given ++ more)), refl);
+      prefix = λ more is. (text_of (whole_report limits needed judged (given ++ more)), refl);
       whole_text = λ more is told. absurd (stop_not_reported status stop told);
       same_status = λ more is told. absurd (stop_not_reported status stop told);
     },

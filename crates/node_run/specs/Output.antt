@@ -17,13 +17,13 @@ Transfers left_old left_new taken_old taken_new P =
 
 -- What was taken, where the report of an input is a function of it.
 pub record MatchesReportOf (report : List ℕ → Report) (given : List ℕ) (left : Option (List ℕ)) (taken : List ℕ) (status : Status) : Type 0 where
-  pub front : (more : List ℕ) → left ≡ Some more → IsPrefix taken (text_of (report (given ++ more)))
+  pub prefix : (more : List ℕ) → left ≡ Some more → IsPrefix taken (text_of (report (given ++ more)))
   pub whole_text : (more : List ℕ) → left ≡ Some more → IsReported status → taken ≡ text_of (report (given ++ more))
   pub same_status : (more : List ℕ) → left ≡ Some more → IsReported status → status ≡ (report (given ++ more)).status
 
 -- a part of a text, and not all of it
 pub record IsPartOf (text taken : List ℕ) : Type 0 where
-  pub front : IsPrefix taken text
+  pub prefix : IsPrefix taken text
   pub shorter : length taken < length text
 
 -- a text was taken, or a part of it
@@ -45,7 +45,7 @@ IsWritingStop _ = ⊥
 -- A report's text was stopped: only the sink leaves a part of it.
 pub record IsSaidInPart (report : Report) (status : Status) (taken : List ℕ) : Type 0 where
   pub stop : IsWritingStop status
-  pub front : IsPrefix taken (text_of report)
+  pub prefix : IsPrefix taken (text_of report)
   pub silent : IsStoppedBeforeTheSink status → taken ≡ []
 
 -- a report was told, or a part of it

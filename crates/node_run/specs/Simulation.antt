@@ -3,9 +3,9 @@ use Rattle.std.specs.Prelude.{◌≡◌, ℕ, List, [], Option}
 use Rattle.report_defs.specs.declared.command.Simulation.{Simulation}
 use Rattle.report_defs.specs.declared.status.Status.{Status}
 use Rattle.report_defs.specs.Report.{IsReportOfSimulation}
-use Rattle.report_defs.specs.Promise.{MatchesReport, TellsInOrder}
+use Rattle.report_defs.specs.Promise.{MatchesReport, ReadsNothingInOrder}
 
 -- what is counted was told, or a part of it, and nothing was read
 abbrev pub IsSimulationTold : Simulation → Option (List ℕ) → List ℕ → Status → Type 0
 IsSimulationTold simulation left taken status =
-    MatchesReport (λ whole said. IsReportOfSimulation simulation said) [] left taken status × TellsInOrder [] taken status
+    MatchesReport (λ whole said. IsReportOfSimulation simulation said) [] left taken status × ReadsNothingInOrder [] taken status

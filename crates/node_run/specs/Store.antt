@@ -9,7 +9,7 @@ use Rattle.report_defs.specs.declared.command.Query.{Query}
 use Rattle.report_defs.specs.declared.status.Status.{Status}
 use Rattle.report_defs.specs.declared.status.Status.TheVariants.{DiskFault, NoMemory, NotAStore}
 use Rattle.report_defs.specs.Report.{IsReport, report_of_query}
-use Rattle.report_defs.specs.Promise.{MatchesReport, TellsInOrder, KeepsOrder, Finds}
+use Rattle.report_defs.specs.Promise.{MatchesReport, ReadsNothingInOrder, KeepsOrder, Finds}
 use Rattle.report_defs.specs.Survival.{KeepsDisk}
 use Rattle.node_run.specs.Output.{MatchesReportOf}
 
@@ -33,4 +33,4 @@ finding_stops = NotAStore ∷ NoMemory ∷ []
 
 -- what a query answers over a chain was told, or a part of it
 abbrev pub IsQueryTold : Query → Chain → Option (List ℕ) → List ℕ → Status → Type 0
-IsQueryTold query chain left taken status = MatchesReportOf (λ whole. report_of_query query chain) [] left taken status × TellsInOrder [] taken status
+IsQueryTold query chain left taken status = MatchesReportOf (λ whole. report_of_query query chain) [] left taken status × ReadsNothingInOrder [] taken status

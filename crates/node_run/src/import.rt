@@ -1,7 +1,7 @@
 // The command `import`: blocks, each answered by a line.
 ghost use Rattle.std.specs.Prelude.{List, ◌≡◌, ◌≢◌, ◌⊎◌, ◌+◌, [], ◌∷◌, ◌<◌, ◌≤◌, ◌^◌, false, Err, Some, length, slice_index, string_bytes, IfOk, if◌then◌else◌};
 ghost use Rattle.outside.specs.Causes.{CountsFault};
-ghost use Rattle.outside.specs.Disk.{LeavesOnly, IsOnlyRead, TellsAsBefore};
+ghost use Rattle.outside.specs.Disk.{LeavesOnly, IsOnlyRead, IsKnownAsBefore};
 ghost use Rattle.outside.specs.Image.{Image};
 ghost use Rattle.log_defs.specs.Log.{Record, end_of_log};
 ghost use Rattle.log_defs.specs.Rest.{IsSettled};
@@ -84,7 +84,7 @@ fn import_item<K: Sink, D: Disk, L: Ledger>(
     ensures sound { IsSoundOn node (D.reads_as disk.old) → IfOk result (λ answer. IsSoundNode answer.0) }
     ensures written { Took (K.taken out.old) (K.taken out.new) (λ taken. IsSoundOn node (D.reads_as disk.old) → IsAnswered (line_over node.chain item.now) result taken) }
     ensures status { (status : Status) → result ≡ Err status → IsOneOf item_stops status }
-    ensures told { TellsAsBefore (D.reads_as disk.old) (D.reads_as disk.new) }
+    ensures told { IsKnownAsBefore (D.reads_as disk.old) (D.reads_as disk.new) }
     ensures own { IfOk result (λ answer. IsItsOwn answer.0 (D.reads_as disk.new) (D.images disk.new)) }
     ensures on { IsOn node (D.reads_as disk.old) (D.images disk.old) → IfOk result (λ answer. IsOn answer.0 (D.reads_as disk.new) (D.images disk.new)) }
     ensures moments { IsOn node (D.reads_as disk.old) (D.images disk.old)
@@ -124,7 +124,7 @@ fn import_items<S: Source, K: Sink, D: Disk, L: Ledger>(
     ensures imported { Transfers (S.left input.old) (S.left input.new) (K.taken out.old) (K.taken out.new)
         (λ given taken. IsSoundOn opened (D.reads_as disk.old) → AreImported opened.chain (S.left input.new) result (IsOn opened (D.reads_as disk.old) (D.images disk.old))
         (D.images disk.new) (LeavesOnly D.moment D.left_since disk.old disk.new) given taken) }
-    ensures told { TellsAsBefore (D.reads_as disk.old) (D.reads_as disk.new) }
+    ensures told { IsKnownAsBefore (D.reads_as disk.old) (D.reads_as disk.new) }
     ensures status { (status : Status) → result ≡ Err status → IsOneOf (Status.InputFault ∷ item_stops) status }
     ensures input_faults { CountsFault (S.faults input.old) (S.faults input.new) (result ≡ Err Status.InputFault) }
     ensures out_faults { CountsFault (K.faults out.old) (K.faults out.new) (result ≡ Err Status.SinkFault) }
@@ -196,7 +196,7 @@ pub fn import<S: Source, K: Sink, D: Disk, L: Ledger>(
         (λ given taken. Delivers Import (D.reads_as disk.old) (D.images disk.old) (D.images disk.new) (D.left_since disk.new (D.moment disk.old))
         (S.left input.new) given taken result) }
     ensures status { IsOneOf import_statuses result }
-    ensures told { TellsAsBefore (D.reads_as disk.old) (D.reads_as disk.new) }
+    ensures told { IsKnownAsBefore (D.reads_as disk.old) (D.reads_as disk.new) }
     ensures no_log { (now : Image) → D.reads_as disk.old ≡ Some now → ((chain : Chain) → store_of now ≡ Keeps chain → ⊥)
         → IsOnlyRead D.reads_as D.images D.moment D.left_since disk.old disk.new }
     ensures input_faults { CountsFault (S.faults input.old) (S.faults input.new) (result ≡ Status.InputFault) }

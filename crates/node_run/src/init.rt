@@ -1,7 +1,7 @@
 // The command `init`: a new store of a specification and a genesis.
 ghost use Rattle.std.specs.Prelude.{◌≡◌, ◌∷◌, ◌<◌, ◌^◌, ◌++◌, [], Err, Some, length, string_bytes, IfOk, IsSome};
 ghost use Rattle.outside.specs.Causes.{CountsFault};
-ghost use Rattle.outside.specs.Disk.{IsAsBefore, TellsAsBefore};
+ghost use Rattle.outside.specs.Disk.{IsAsBefore, IsKnownAsBefore};
 ghost use Rattle.outside.specs.Image.{Image};
 ghost use Rattle.store_defs.specs.Store.{NoLog, store_of};
 ghost use Rattle.report_defs.specs.Report as reports;
@@ -64,7 +64,7 @@ fn make<D: Disk>(
     ensures stop { (status : Status) → result ≡ Err status → IsOneOf (Status.DiskFault ∷ Status.NoMemory ∷ []) status }
     ensures made { IsSome (D.reads_as disk.old) → IfOk result (λ answer. answer.status ≡ Status.Done → StandsAlone specification.now genesis.now (D.images disk.new)) }
     ensures unmade { IfOk result (λ answer. answer.status ≡ Status.BadGenesis → disk.new ≡ disk.old) }
-    ensures told { TellsAsBefore (D.reads_as disk.old) (D.reads_as disk.new) }
+    ensures told { IsKnownAsBefore (D.reads_as disk.old) (D.reads_as disk.new) }
     ensures cause { CountsFault (D.faults disk.old) (D.faults disk.new) (result ≡ Err Status.DiskFault) }
 {
     let new = match judge(alloc, specification, genesis) {
@@ -98,7 +98,7 @@ fn make_and_answer<K: Sink, D: Disk>(
     ensures status { IsOneOf new_statuses result }
     ensures made { IsSome (D.reads_as disk.old) → result ≡ Status.Done → StandsAlone specification.now genesis.now (D.images disk.new) }
     ensures unmade { result ≡ Status.BadGenesis → disk.new ≡ disk.old }
-    ensures told { TellsAsBefore (D.reads_as disk.old) (D.reads_as disk.new) }
+    ensures told { IsKnownAsBefore (D.reads_as disk.old) (D.reads_as disk.new) }
     ensures out_faults { CountsFault (K.faults out.old) (K.faults out.new) (result ≡ Status.SinkFault) }
     ensures disk_faults { CountsFault (D.faults disk.old) (D.faults disk.new) (result ≡ Status.DiskFault) }
 {
@@ -119,7 +119,7 @@ pub fn init<S: Source, K: Sink, D: Disk>(
         (λ given taken. Delivers init_command (D.reads_as disk.old) (D.images disk.old) (D.images disk.new) (D.left_since disk.new (D.moment disk.old))
         (S.left input.new) given taken result) }
     ensures status { IsOneOf init_statuses result }
-    ensures told { TellsAsBefore (D.reads_as disk.old) (D.reads_as disk.new) }
+    ensures told { IsKnownAsBefore (D.reads_as disk.old) (D.reads_as disk.new) }
     ensures there { (now : Image) → D.reads_as disk.old ≡ Some now → (store_of now ≡ NoLog → ⊥) → IsAsBefore D.reads_as D.images D.moment D.left_since disk.old disk.new }
     ensures as_before { IsOneOf (as_before (Some init_command)) result → IsAsBefore D.reads_as D.images D.moment D.left_since disk.old disk.new }
     ensures input_faults { CountsFault (S.faults input.old) (S.faults input.new) (result ≡ Status.InputFault) }

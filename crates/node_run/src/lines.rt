@@ -63,31 +63,31 @@ fn numbered_line(
 }
 
 /// A text and a hash.
-fn hash_line(alloc: Global, front: &str, hash: &[u8; 32]) -> Result<String, AllocError>
-    ensures { IfOk result (λ line. string_bytes line ≡ front.now ++ text.hash_text hash.now ++ text.line_feed) }
+fn hash_line(alloc: Global, prefix: &str, hash: &[u8; 32]) -> Result<String, AllocError>
+    ensures { IfOk result (λ line. string_bytes line ≡ prefix.now ++ text.hash_text hash.now ++ text.line_feed) }
 {
-    let mut line = String::from_str(alloc, front)?;
+    let mut line = String::from_str(alloc, prefix)?;
     push_hash(alloc, &mut line, hash)?;
     line.push_str("\n")?;
     Ok(line)
 }
 
 /// A text and a number.
-fn number_line(alloc: Global, front: &str, number: u64) -> Result<String, AllocError>
-    ensures { IfOk result (λ line. string_bytes line ≡ front.now ++ decimal number ++ text.line_feed) }
+fn number_line(alloc: Global, prefix: &str, number: u64) -> Result<String, AllocError>
+    ensures { IfOk result (λ line. string_bytes line ≡ prefix.now ++ decimal number ++ text.line_feed) }
 {
-    let mut line = String::from_str(alloc, front)?;
+    let mut line = String::from_str(alloc, prefix)?;
     push_number(alloc, &mut line, number)?;
     line.push_str("\n")?;
     Ok(line)
 }
 
 /// A text and two numbers.
-fn numbers_line(alloc: Global, front: &str, first: u64, second: u64) -> Result<String, AllocError>
+fn numbers_line(alloc: Global, prefix: &str, first: u64, second: u64) -> Result<String, AllocError>
     ensures { IfOk result (λ line. string_bytes line
-        ≡ front.now ++ decimal first ++ codes " " ++ decimal second ++ text.line_feed) }
+        ≡ prefix.now ++ decimal first ++ codes " " ++ decimal second ++ text.line_feed) }
 {
-    let mut line = String::from_str(alloc, front)?;
+    let mut line = String::from_str(alloc, prefix)?;
     push_number(alloc, &mut line, first)?;
     line.push_str(" ")?;
     push_number(alloc, &mut line, second)?;

@@ -7,7 +7,7 @@ ghost use Rattle.cell_defs.specs.Cell.{Cell};
 ghost use Rattle.outside.specs.Causes.{CountsFault};
 ghost use Rattle.log_defs.specs.Log.{end_of_log};
 ghost use Rattle.store_defs.specs.Store.{Keeps, store_of};
-ghost use Rattle.outside.specs.Disk.{IsOnlyRead, TellsAsBefore};
+ghost use Rattle.outside.specs.Disk.{IsOnlyRead, IsKnownAsBefore};
 ghost use Rattle.verdict_defs.specs.Chain.{Chain};
 ghost use Rattle.outside.specs.Image.{Image};
 ghost use Rattle.report_defs.specs.Report as reports;
@@ -241,7 +241,7 @@ pub fn query<K: Sink, D: Disk, L: Ledger>(
     ensures status { IsOneOf query_statuses result }
     ensures records { (now : Image) (chain : Chain) → D.reads_as disk.old ≡ Some now → store_of now ≡ Keeps chain
         → KeepsRecords [] now (D.images disk.old) (D.images disk.new) (D.left_since disk.new (D.moment disk.old)) }
-    ensures told { TellsAsBefore (D.reads_as disk.old) (D.reads_as disk.new) }
+    ensures told { IsKnownAsBefore (D.reads_as disk.old) (D.reads_as disk.new) }
     ensures no_log { (now : Image) → D.reads_as disk.old ≡ Some now → ((chain : Chain) → store_of now ≡ Keeps chain → ⊥)
         → IsOnlyRead D.reads_as D.images D.moment D.left_since disk.old disk.new }
     ensures out_faults { CountsFault (K.faults out.old) (K.faults out.new) (result ≡ Status.SinkFault) }

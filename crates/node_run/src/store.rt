@@ -1,7 +1,7 @@
 // The store that a command works on.
 ghost use Rattle.std.specs.Prelude.{◌≡◌, ◌⊎◌, ◌↔◌, ◌+◌, ◌≤◌, ◌∷◌, [], Err, Some, drop, IfOk, IfSome};
 ghost use Rattle.outside.specs.Causes.{CountsFault};
-ghost use Rattle.outside.specs.Disk.{LeavesOnly, TellsAsBefore};
+ghost use Rattle.outside.specs.Disk.{LeavesOnly, IsKnownAsBefore};
 ghost use Rattle.outside.specs.declared.disk.Damage.{Damage};
 ghost use Rattle.outside.specs.Image.{Image};
 ghost use Rattle.verdict_defs.specs.Chain.{Chain};
@@ -68,7 +68,7 @@ pub fn open<D: Disk, L: Ledger>(
     ensures kept { IfOk result (λ node. IfSome (D.reads_as disk.old) (λ now. store_of now ≡ Keeps node.chain)) }
     ensures not_a_store { result ≡ Err Status.NotAStore → IfSome (D.reads_as disk.old) (λ now. IsSound now → ⊥) }
     ensures left { LeavesStore D.reads_as D.images D.moment D.left_since disk.old disk.new }
-    ensures told { TellsAsBefore (D.reads_as disk.old) (D.reads_as disk.new) }
+    ensures told { IsKnownAsBefore (D.reads_as disk.old) (D.reads_as disk.new) }
     ensures own { IfOk result (λ node. IsItsOwn node (D.reads_as disk.new) (D.images disk.new)) }
     ensures settled { IfOk result (λ node. IfSome (D.reads_as disk.old) (λ now.
         IsSettled node.place (records_of (drop 8 now.log)) (D.reads_as disk.new) (D.images disk.new))) }

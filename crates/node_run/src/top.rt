@@ -1,7 +1,7 @@
 // The one call.
 ghost use Rattle.std.specs.Prelude.{◌≡◌, ◌≢◌, ◌↔◌, ◌+◌, ◌≤◌, None, Some, map, slice_index, string_bytes};
 ghost use Rattle.outside.specs.Causes.{CountsFault};
-ghost use Rattle.outside.specs.Disk.{IsAsBefore, IsOnlyRead, TellsAsBefore};
+ghost use Rattle.outside.specs.Disk.{IsAsBefore, IsOnlyRead, IsKnownAsBefore};
 ghost use Rattle.outside.specs.Image.{Image};
 ghost use Rattle.log_defs.specs.Log.{end_of_log};
 ghost use Rattle.store_defs.specs.Store.{NoLog, Keeps, store_of, StandsFor};
@@ -59,7 +59,7 @@ pub fn run<S: Source, K: Sink, D: Disk, L: Ledger>(
     ensures disk_faults { CountsFault (D.faults disk.old) (D.faults disk.new) (result ≡ Status.DiskFault) }
 
     // The disk tells what it reads as after the call exactly where it told before, so that the next run finds one that tells.
-    ensures told { TellsAsBefore (D.reads_as disk.old) (D.reads_as disk.new) }
+    ensures told { IsKnownAsBefore (D.reads_as disk.old) (D.reads_as disk.new) }
 
     // Where the disk is not called, is as it was, also for an `init` that finds a log, and where it is only read: it has no log, or a query or question finds its log at rest.
     ensures uncalled { CallsNoDisk (grammar.command_of (map string_bytes words.now)) → disk.new ≡ disk.old }

@@ -25,9 +25,9 @@ counts-as counts from to = record {
   unchanged = λ none. counts.unchanged (λ first. none (to first));
 }
 
--- behind a call that counted nothing
-pub behind : {Fault : Type 0} {before still now : ℕ} → still ≡ before → CountsFault still now Fault → CountsFault before now Fault
-behind {Fault = Fault} {now = now} same counts = subst (λ (n : ℕ). CountsFault n now Fault) same counts
+-- after a call that counted nothing
+pub after_still : {Fault : Type 0} {before still now : ℕ} → still ≡ before → CountsFault still now Fault → CountsFault before now Fault
+after_still {Fault = Fault} {now = now} same counts = subst (λ (n : ℕ). CountsFault n now Fault) same counts
 
 -- an error that is handed on
 pub handed : {T U E : Type 0} (one other : E) → ◌≡◌ {A = Result T E} (Err one) (Err other) → ◌≡◌ {A = Result U E} (Err one) (Err other)

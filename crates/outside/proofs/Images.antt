@@ -59,7 +59,7 @@ module _ {D : Type 0} (images : D → Image → Type 0) (moment : D → ℕ) (le
       let start : LeavesOnly moment left_since old old (ComesBy torn (images old)) = started moment left_since old (ComesBy torn (images old)) (λ image left. unwritten old image (only_now old image left)) in
       goes_on moment left_since old old new (ComesBy torn (images old)) (images new) start time follows
 
-  -- and a sync behind it
+  -- and a sync after it
   pub moments_of_sync : (old mid new : D) → LeavesOnly moment left_since old mid (ComesBy torn (images old)) → Follows torn (images old) (images mid)
       → NoneNew (images mid) (images new) → Elapses (moment mid) (moment new) (left_since mid) (left_since new) (images new)
       → LeavesOnly moment left_since old new (ComesBy torn (images old))

@@ -41,7 +41,7 @@ pub record HasTaken (taken_old taken_new : Option (List ℕ)) (faults_old faults
 take_beyond : (front rest : List ℕ) (n m : ℕ) → length front ≡ n → take (n + m) (front ++ rest) ≡ front ++ take m rest
 take_beyond front rest n m size = ap (λ k. take (k + m) (front ++ rest)) (sym size) ∙ take-append-add front rest m
 
--- one read more, which wrote into the part of `into` behind what was given
+-- one read more, which wrote into the part of `into` after what was given
 pub given_further : (a b c : Option (List ℕ)) (before now later n m : ℕ) (into part : List ℕ) → HasGiven a b before now n into → length part ≡ length into - n
     → m ≤ length part → Gives b c (take m part) → later ≡ now → HasGiven a c before later (n + m) (put_mid n (length into - n) into part)
 given_further a b c before now later n m into part so_far size fits gives unchanged = record {
@@ -62,7 +62,7 @@ given_further a b c before now later n m into part so_far size fits gives unchan
     front : take (n + m) (put_mid n (length into - n) into part) ≡ take n into ++ take m part
     front = take_beyond (take n into) tail n m first ∙ ap (λ l. take n into ++ l) (take-append-le m part (post_of n (length into - n) into) fits)
 
--- one write more, of the front of the piece behind what was taken
+-- one write more, of the start of the piece after what was taken
 pub taken_further : (a b c : Option (List ℕ)) (before now later n m : ℕ) (bytes piece : List ℕ) → HasTaken a b before now n bytes → piece ≡ drop n bytes
     → m ≤ length piece → Takes b c (take m piece) → later ≡ now → HasTaken a c before later (n + m) bytes
 taken_further a b c before now later n m bytes piece so_far is fits takes unchanged = record {
@@ -74,9 +74,9 @@ taken_further a b c before now later n m bytes piece so_far is fits takes unchan
 }
 
 -- what was copied to the front, and then what is left, is what was left before
-pub given_front : (bytes slice copied rest : List ℕ) (given n room : ℕ) → slice ≡ bytes → copied ≡ take n (take (length slice - given) (drop given slice))
+pub given_prefix : (bytes slice copied rest : List ℕ) (given n room : ℕ) → slice ≡ bytes → copied ≡ take n (take (length slice - given) (drop given slice))
     → n ≡ min (length (take (length slice - given) (drop given slice))) room → drop given bytes ≡ take n (copied ++ rest) ++ drop (given + n) bytes
-given_front bytes slice copied rest given n room same is fits =
+given_prefix bytes slice copied rest given n room same is fits =
     let left : take (length slice - given) (drop given slice) ≡ drop given bytes = take_rest slice given ∙ ap (drop given) same in
     let within : n ≤ length (drop given bytes) = omega (arith, fits, ap length left) in
     let front : copied ≡ take n (drop given bytes) = is ∙ ap (take n) left in

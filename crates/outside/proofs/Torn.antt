@@ -14,9 +14,9 @@ torn_same at size bytes = record { before = refl; after = refl; no_shorter = ome
 pub cut_same : (len : ℕ) (bytes : List ℕ) → Cut len bytes bytes
 cut_same len bytes = record { no_shorter = omega arith; prefix = sym (take_all (length bytes) bytes (omega arith)) }
 
--- a write behind the front leaves the front
-torn_front : (at size : ℕ) (front old torn : List ℕ) → length front ≡ at → take at old ≡ front → Torn at size old torn → torn ≡ front ++ drop at torn
-torn_front at size front old torn len is h = sym (take-append-drop at torn) ∙ ap (λ (l : List ℕ). l ++ drop at torn) (h.before ∙ is)
+-- a write after the front leaves the front
+torn_prefix : (at size : ℕ) (front old torn : List ℕ) → length front ≡ at → take at old ≡ front → Torn at size old torn → torn ≡ front ++ drop at torn
+torn_prefix at size front old torn len is h = sym (take-append-drop at torn) ∙ ap (λ (l : List ℕ). l ++ drop at torn) (h.before ∙ is)
 
 pub tears_one_part : TearsOnePart
 tears_one_part front part rest torn h =
@@ -26,7 +26,7 @@ tears_one_part front part rest torn h =
     let old_len : length old ≡ at + n + length rest = omega (arith, length-append (front ++ part) rest, length-append front part) in
     let is_front : take at old ≡ front = ap (take at) (append_assoc front part rest) ∙ take_at front (part ++ rest) at refl in
     let is_rest : drop (at + n) old ≡ rest = drop_at (front ++ part) rest (at + n) (length-append front part) in
-    let whole : torn ≡ front ++ drop at torn = torn_front at n front old torn refl is_front h in
+    let whole : torn ≡ front ++ drop at torn = torn_prefix at n front old torn refl is_front h in
     let tail : drop n (drop at torn) ≡ rest = drop-drop n at torn ∙ h.after ∙ is_rest in
     let long : length torn ≡ at + n + length rest = omega (arith, h.no_shorter, h.no_longer, old_len) in
     let size : length (take n (drop at torn)) ≡ n = length-take-le n (drop at torn) (omega (arith, length-drop at torn)) in
@@ -37,7 +37,7 @@ pub tears_the_end : TearsTheEnd
 tears_the_end front torn size h =
     let at : ℕ = length front in
     let short : length (drop at torn) ≤ size = omega (arith, length-drop at torn, h.no_longer) in
-    (drop at torn, short, torn_front at size front front torn refl (take_all at front (omega arith)) h)
+    (drop at torn, short, torn_prefix at size front front torn refl (take_all at front (omega arith)) h)
 
 pub cuts_the_end : CutsTheEnd
 cuts_the_end front end left h =
@@ -46,8 +46,8 @@ cuts_the_end front end left h =
     let sum : length left ≡ length front + count = omega arith in
     (count, h.prefix ∙ ap (λ (k : ℕ). take k (front ++ end)) sum ∙ take-append-add front end count)
 
-written_front : (at : ℕ) (piece bytes : List ℕ) → at ≤ length bytes → take at (written at piece bytes) ≡ take at bytes
-written_front at piece bytes within =
+written_prefix : (at : ℕ) (piece bytes : List ℕ) → at ≤ length bytes → take at (written at piece bytes) ≡ take at bytes
+written_prefix at piece bytes within =
     ap (take at) (append_assoc (take at bytes) piece (drop (at + length piece) bytes)) ∙ take_at (take at bytes) (piece ++ drop (at + length piece) bytes) at (length-take-le at bytes within)
 
 written_length : (at : ℕ) (piece bytes : List ℕ) → at ≤ length bytes → length (written at piece bytes) ≡ max (length bytes) (at + length piece)
@@ -70,7 +70,7 @@ written_after at lost piece bytes within =
 
 pub tears_to_the_written : TearsToTheWritten
 tears_to_the_written at lost piece bytes within = record {
-  before = written_front at piece bytes within;
+  before = written_prefix at piece bytes within;
   after = written_after at lost piece bytes within;
   no_shorter = omega (arith, written_length at piece bytes within);
   no_longer = omega (arith, written_length at piece bytes within);

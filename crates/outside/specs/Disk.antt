@@ -71,8 +71,8 @@ abbrev pub OthersRead : Area → Option Image → Option Image → Type 0
 OthersRead area old new = (bytes : List ℕ) × (new ≡ option_map (with_content area bytes) old)
 
 -- a disk tells what it reads as exactly where it told before
-abbrev pub TellsAsBefore : Option Image → Option Image → Type 0
-TellsAsBefore old new = is_some new ≡ is_some old
+abbrev pub IsKnownAsBefore : Option Image → Option Image → Type 0
+IsKnownAsBefore old new = is_some new ≡ is_some old
 
 -- A call moves the clock on: a crash since a moment might have left what it might have left before the call, or what it may leave now.
 pub record Elapses (before now : ℕ) (past since : ℕ → Image → Type 0) (images : Image → Type 0) : Type 0 where

@@ -6,20 +6,20 @@ use Rattle.outside.specs.Disk.{written, Torn, Cut, AreaKept}
 
 -- a write over a part of an area is torn in that part alone
 abbrev pub TearsOnePart : Type 0
-TearsOnePart = (front part rest torn : List ℕ) → Torn (length front) (length part) (front ++ part ++ rest) torn
-    → (bytes : List ℕ) × (length bytes ≡ length part) × (torn ≡ front ++ bytes ++ rest)
+TearsOnePart = (prefix part rest torn : List ℕ) → Torn (length prefix) (length part) (prefix ++ part ++ rest) torn
+    → (bytes : List ℕ) × (length bytes ≡ length part) × (torn ≡ prefix ++ bytes ++ rest)
 
--- a write at the end is torn behind the end alone
+-- a write at the end is torn after the end alone
 abbrev pub TearsTheEnd : Type 0
-TearsTheEnd = (front torn : List ℕ) (size : ℕ) → Torn (length front) size front torn
-    → (bytes : List ℕ) × (length bytes ≤ size) × (torn ≡ front ++ bytes)
+TearsTheEnd = (prefix torn : List ℕ) (size : ℕ) → Torn (length prefix) size prefix torn
+    → (bytes : List ℕ) × (length bytes ≤ size) × (torn ≡ prefix ++ bytes)
 
--- a cut leaves the front, and behind it a part of the end that was cut
+-- a cut leaves the prefix, and after it a part of the end that was cut
 abbrev pub CutsTheEnd : Type 0
-CutsTheEnd = (front end left : List ℕ) → Cut (length front) (front ++ end) left
-    → (count : ℕ) × (left ≡ front ++ take count end)
+CutsTheEnd = (prefix end left : List ℕ) → Cut (length prefix) (prefix ++ end) left
+    → (count : ℕ) × (left ≡ prefix ++ take count end)
 
--- a write that was done whole, and one of a front of the piece, are among those that a crash may leave
+-- a write that was done whole, and one of a prefix of the piece, are among those that a crash may leave
 abbrev pub TearsToTheWritten : Type 0
 TearsToTheWritten = (at lost : ℕ) (piece bytes : List ℕ) → at ≤ length bytes
     → Torn at (length piece + lost) bytes (written at piece bytes)

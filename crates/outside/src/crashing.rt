@@ -1,7 +1,7 @@
 // A disk that can be stopped, as a machine that loses its power stops one.
 ghost use Rattle.std.specs.Prelude.{◌≡◌, ℕ, List, Option, None, IfSome};
 ghost use Rattle.outside.specs.Image.{Image};
-ghost use Rattle.outside.specs.Disk.{HasOneImage, TellsAsBefore};
+ghost use Rattle.outside.specs.Disk.{HasOneImage, IsKnownAsBefore};
 
 use crate::Disk;
 
@@ -22,7 +22,7 @@ pub trait Crashing: Disk {
     fn crash(&mut self, pick: u64)
         ensures among { IfSome (Self.reads_as self.new) (Self.images self.old) }
         ensures one_image { HasOneImage (Self.reads_as self.new) (Self.images self.new) }
-        ensures told { TellsAsBefore (Self.reads_as self.old) (Self.reads_as self.new) }
+        ensures told { IsKnownAsBefore (Self.reads_as self.old) (Self.reads_as self.new) }
         ensures disarmed { armed self.new ≡ None }
         ensures uncounted { Self.faults self.new ≡ Self.faults self.old };
 }

@@ -112,7 +112,7 @@ pub trait Disk {
         ensures time { Elapses (moment self.old) (moment self.new) (left_since self.old) (left_since self.new) (images self.new) }
         ensures cause { HasCause (faults self.old) (faults self.new) result };
 
-    /// Reads the bytes from `at` on into the front of `into`, and answers how many: as many as there are and fit.
+    /// Reads the bytes from `at` on into the start of `into`, and answers how many: as many as there are and fit.
     fn read(&mut self, area: Area, at: u64, into: &mut [u8]) -> Result<usize, Failed>
         ensures fits { IfOk result (λ n. n ≤ length into.new) }
         ensures bytes { IfOk result (λ n. IfSome (reads_as self.old)

@@ -1,4 +1,4 @@
-// A write and the sync behind it.
+// A write and the sync after it.
 ghost use Rattle.std.specs.Prelude.{◌≡◌, length, IfSome, OnOk, OnErr};
 ghost use Rattle.std.specs.Option.{option_map};
 ghost use Rattle.outside.specs.Causes.{HasCause};

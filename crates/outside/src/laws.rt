@@ -2,7 +2,7 @@
 ghost use Rattle.outside.specs.DiskLaws.{TearsOnePart, TearsTheEnd, CutsTheEnd, TearsToTheWritten, CutsToAnyLength, KeepsOthers};
 
 /// States what a write and a cut that no sync has followed may leave of an area: other bytes only in the range
-/// that was written, and a front of what was cut; and that a call that was done, whole or in part, is among it.
+/// that was written, and a prefix of what was cut; and that a call that was done, whole or in part, is among it.
 /// It does nothing.
 pub fn disk_laws()
     ensures tears_one_part { TearsOnePart }

@@ -5,7 +5,7 @@
 //! content only where the object tells it, and a failure only where its count of faults rose (`HasCause`).
 //! A `Crashing` disk can be made to fail from a call on, and left as a crash leaves it.
 //! `read_full` and `write_all` carry the loops over short reads and short writes, `write_durably` a write and
-//! the sync behind it. Streams and files of the machine are left to `outside_os`, forms in memory to `outside_mem`.
+//! the sync after it. Streams and files of the machine are left to `outside_os`, forms in memory to `outside_mem`.
 #![tactic(auto)]
 
 mod crashing;

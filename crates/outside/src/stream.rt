@@ -14,7 +14,7 @@ pub trait Source {
     /// How often it has failed.
     ghost faults: { Self → ℕ };
 
-    /// Gives the next bytes at the front of `into` and answers how many.
+    /// Gives the next bytes at the start of `into` and answers how many.
     /// The rest of `into` is left open, and all of it after `Failed`.
     fn read(&mut self, into: &mut [u8]) -> Result<usize, Failed>
         ensures fits { IfOk result (λ n. n ≤ length into.new) }
@@ -68,7 +68,7 @@ pub fn read_full<S: Source>(source: &mut S, into: &mut [u8]) -> Result<usize, Fa
     Ok(given)
 }
 
-/// Hands all of `bytes` to the sink. After `Failed` it has taken a part of them, from the front.
+/// Hands all of `bytes` to the sink. After `Failed` it has taken a prefix of them.
 pub fn write_all<K: Sink>(sink: &mut K, bytes: &[u8]) -> Result<(), Failed>
     ensures taken { OnOk result (Takes (K.taken sink.old) (K.taken sink.new) bytes.now) }
     ensures taken_before { OnErr result ((n : ℕ) × (n < length bytes.now)

@@ -1,4 +1,4 @@
--- Runs of bytes with another byte at one place, and fronts of them.
+-- Runs of bytes with another byte at one place, and prefixes of them.
 use Rattle.std.proofs.Common.{◌≡◌, ℕ, ◌+◌, ◌-◌, ◌<◌, ◌≤◌, min, max, List, [], ◌++◌, length, take, drop, slice_set, inl, inr, sym, ◌∙◌, ap, arith, length-append, length-set}
 use Rattle.std.proofs.lemmas.List.{take_all, take-take, take_min, length-take, length-take-le, take-set-le, drop-set-lt, drop-set-add, set_past, drop-take, drop_all}
 use Rattle.std.proofs.Math.Seq.{take-set-lt, take-append-add}
@@ -9,13 +9,13 @@ use Rattle.outside.specs.Disk.{written, Torn, Cut}
 
 take_set : (n i byte : ℕ) (old new : List ℕ) → take n new ≡ take n old → take n (slice_set new i byte) ≡ take n (slice_set old i byte)
 take_set n i byte old new same = elim (cases_lt i n) [
-  | inl in_front ↦ take-set-lt n new i byte in_front ∙ ap (λ (l : List ℕ). slice_set l i byte) same ∙ sym (take-set-lt n old i byte in_front)
+  | inl in_prefix ↦ take-set-lt n new i byte in_prefix ∙ ap (λ (l : List ℕ). slice_set l i byte) same ∙ sym (take-set-lt n old i byte in_prefix)
   | inr past ↦ take-set-le n new i byte past ∙ same ∙ sym (take-set-le n old i byte past)
 ]
 
 drop_set : (n i byte : ℕ) (old new : List ℕ) → drop n new ≡ drop n old → drop n (slice_set new i byte) ≡ drop n (slice_set old i byte)
 drop_set n i byte old new same = elim (cases_lt i n) [
-  | inl in_front ↦ drop-set-lt n new i byte in_front ∙ same ∙ sym (drop-set-lt n old i byte in_front)
+  | inl in_prefix ↦ drop-set-lt n new i byte in_prefix ∙ same ∙ sym (drop-set-lt n old i byte in_prefix)
   | inr past ↦ let sum : i ≡ n + (i - n) = omega (arith, past) in
       ap (λ (k : ℕ). drop n (slice_set new k byte)) sum ∙ drop-set-add n new (i - n) byte ∙ ap (λ (l : List ℕ). slice_set l (i - n) byte) same
       ∙ sym (drop-set-add n old (i - n) byte) ∙ ap (λ (k : ℕ). drop n (slice_set old k byte)) (sym sum)
@@ -44,7 +44,7 @@ pub cut_both : (len i byte : ℕ) (old new : List ℕ) → Cut len old new → C
 cut_both len i byte old new cut =
     let size : length (slice_set new i byte) ≡ length new = length-set new i byte in
     let front : slice_set new i byte ≡ take (length new) (slice_set old i byte) = elim (cases_lt i (length new)) [
-      | inl in_front ↦ ap (λ (l : List ℕ). slice_set l i byte) cut.prefix ∙ sym (take-set-lt (length new) old i byte in_front)
+      | inl in_prefix ↦ ap (λ (l : List ℕ). slice_set l i byte) cut.prefix ∙ sym (take-set-lt (length new) old i byte in_prefix)
       | inr past ↦ set_past new i byte past ∙ cut.prefix ∙ sym (take-set-le (length new) old i byte past)
     ] in
     record {
@@ -71,9 +71,9 @@ drop_front m n old new same = elim (cases_lt n m) [
       ∙ ap (λ (k : ℕ). drop m (take k old)) (sym sum)
 ]
 
--- each front of what a write may leave is what it may leave of that front
-pub torn_front : (at size kept : ℕ) (old new : List ℕ) → Torn at size old new → Torn at size (take kept old) (take kept new)
-torn_front at size kept old new torn = record {
+-- each prefix of what a write may leave is what it may leave of that prefix
+pub torn_prefix : (at size kept : ℕ) (old new : List ℕ) → Torn at size old new → Torn at size (take kept old) (take kept new)
+torn_prefix at size kept old new torn = record {
   before = take_swap at kept new ∙ ap (take kept) torn.before ∙ sym (take_swap at kept old);
   after = drop_front (at + size) kept old new torn.after;
   no_shorter = omega (arith, torn.no_shorter, length-take kept old, length-take kept new);
@@ -90,7 +90,7 @@ cut_front len least kept bytes enough =
           ∙ take-take (min kept (length bytes)) (max least kept) bytes (omega arith) ∙ take_min kept bytes);
     }
 
--- a front of a front
+-- a prefix of a front
 pub take_take : (m n : ℕ) (l : List ℕ) → take (min n m) l ≡ take m (take n l)
 take_take m n l = elim (cases_lt n m) [
   | inl less ↦ let is : min n m ≡ n = omega (arith, less) in ap (λ (k : ℕ). take k l) is ∙ sym (take_all m (take n l) (omega (arith, less, length-take n l)))

@@ -14,7 +14,7 @@ use Rattle.outside_mem.specs.Stored.{Stored, Parts, part, with_part, shown, imag
 use Rattle.outside_mem.specs.MemoryDisk.{Step, Wrote, Shortened, Synced, Crashed, empty, reads, Leaves, step_of, steps_of}
 use Rattle.outside_mem.specs.Remains.{LeftBy, LeavesIn, HoldsIn, Holds, MayTear}
 use Rattle.outside_mem.proofs.MemoryDisk.{steps_of-push}
-use Rattle.outside_mem.proofs.OtherBytes.{torn_both, torn_again, cut_both, torn_front, cut_front, take_take, shown_written}
+use Rattle.outside_mem.proofs.OtherBytes.{torn_both, torn_again, cut_both, torn_prefix, cut_front, take_take, shown_written}
 
 -- ---- Images by their areas
 
@@ -125,7 +125,7 @@ hold_write area steps stored at piece lost in_shown holds = record {
     (
       take kept stored.bytes,
       holds.leaves kept enough,
-      torn_front at (length piece + lost) kept stored.bytes (written at piece stored.bytes) (tears_to_the_written at lost piece stored.bytes (omega (arith, in_shown, holds.within))),
+      torn_prefix at (length piece + lost) kept stored.bytes (written at piece stored.bytes) (tears_to_the_written at lost piece stored.bytes (omega (arith, in_shown, holds.within))),
     ),
   );
 }
@@ -260,7 +260,7 @@ tears_write area other earlier at piece lost i is from to bytes byte (inl left) 
 tears_write area other earlier at piece lost i is from to bytes byte (inr by) =
     inr (is, (by.1.0, by.1.1, torn_again at (length piece + lost) i byte by.1.0 bytes from to by.1.2))
 
--- a step behind the write that did not make the area durable
+-- a step after the write that did not make the area durable
 pub tears_behind_write : (area other : Area) (earlier : List Step) (at : ℕ) (piece : List ℕ) (lost i : ℕ) → MayTear area earlier i → MayTear area (Wrote other at piece lost ∷ earlier) i
 tears_behind_write area other earlier at piece lost i may bytes byte (inl left) = inl (may bytes byte left)
 tears_behind_write area other earlier at piece lost i may bytes byte (inr by) =

@@ -18,7 +18,7 @@ LeavesIn area (Shortened other len left ∷ earlier) bytes = LeftBy area other (
 LeavesIn area (Synced other ∷ earlier) bytes = (other ≡ area → bytes ≡ content area (reads earlier)) × LeavesIn area earlier bytes
 LeavesIn area (Crashed left ∷ earlier) bytes = bytes ≡ content area left
 
--- what is stored of an area reads as the steps say, and a crash may leave each front of it that is long enough
+-- what is stored of an area reads as the steps say, and a crash may leave each prefix of it that is long enough
 pub record HoldsIn (area : Area) (steps : List Step) (stored : Stored) : Type 0 where
   pub as_read : shown stored ≡ content area (reads steps)
   pub at_least : stored.least ≤ stored.len

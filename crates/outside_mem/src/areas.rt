@@ -21,7 +21,7 @@ pub(crate) struct Areas {
     snap_b: Part,
 }
 
-/// The bytes of one area. Behind the `len` that it reads as lies what was cut since the last sync. A crash leaves `least`
+/// The bytes of one area. After the `len` that it reads as lies what was cut since the last sync. A crash leaves `least`
 /// of them at least.
 #[derive(Drop)]
 pub(crate) struct Part {

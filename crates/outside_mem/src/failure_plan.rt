@@ -10,14 +10,14 @@ use std::marker::Model;
 /// What a write that fails leaves of its range.
 #[derive(Clone, Copy)]
 pub(crate) enum Tear {
-    /// The front half, and nothing behind it.
-    Front,
+    /// The first half, and nothing after it.
+    FirstHalf,
     Whole,
-    /// Other bytes in the front half, and all behind it.
+    /// Other bytes in the first half, and all after it.
     OtherBytes,
 }
 
-/// Which calls fail: those that are listed, and each one behind a spent arm. The numbers of calls and of failures stop
+/// Which calls fail: those that are listed, and each one once an arm is spent. The numbers of calls and of failures stop
 /// at `u64::MAX`.
 #[derive(Drop)]
 pub(crate) struct FailurePlan {
@@ -81,7 +81,7 @@ impl FailurePlan {
     /// What the call that has failed now leaves, if it is a write: each kind in its turn.
     pub(crate) fn tear(&self) -> Tear {
         match self.failed % 3 {
-            1 => Tear::Front,
+            1 => Tear::FirstHalf,
             2 => Tear::Whole,
             _ => Tear::OtherBytes,
         }

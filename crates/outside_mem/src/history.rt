@@ -96,7 +96,7 @@ impl History {
     {
         let half = piece.len() / 2;
         match tear {
-            Tear::Front => self.write(area, at, &piece[..half], piece.len() - half),
+            Tear::FirstHalf => self.write(area, at, &piece[..half], piece.len() - half),
             Tear::Whole => self.write(area, at, piece, 0),
             Tear::OtherBytes => {
                 let mut torn = piece.to_vec(self.alloc)?;

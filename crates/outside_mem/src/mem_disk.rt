@@ -116,7 +116,7 @@ impl Disk for MemDisk {
         requires limit { IsWithinLimit at (length piece.now) }
         requires within { IfSome (Some (reads self.old.steps)) (BeginsWithin area at) }
 
-        // It fails exactly at the calls that are listed, behind a spent arm, or out of memory.
+        // It fails exactly at the calls that are listed, once an arm is spent, or out of memory.
         ensures listed { IsTrue (fails_next self.old.plan) → IsErr result }
         ensures counted { self.new.plan ≡ after_change self.old.plan }
         ensures starved { self.new.starved

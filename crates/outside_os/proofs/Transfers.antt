@@ -21,7 +21,7 @@ pub record IsRead {E : Type 0} (old new : Held) (before now at last : ℕ) (answ
   pub later : before ≤ now
   pub rose : OnErr answer (Rose before now)
 
--- ---- Reads, one behind the other
+-- ---- Reads, one after the other
 
 -- what a loop of reads keeps: the first n bytes of `into` are those from `at` on
 pub record ReadSoFar (old new : Held) (before now at n : ℕ) (into : List ℕ) : Type 0 where
@@ -33,7 +33,7 @@ pub record ReadSoFar (old new : Held) (before now at n : ℕ) (into : List ℕ) 
 take_beyond : (front rest : List ℕ) (n m : ℕ) → length front ≡ n → take (n + m) (front ++ rest) ≡ front ++ take m rest
 take_beyond front rest n m size = ap (λ k. take (k + m) (front ++ rest)) (sym size) ∙ take-append-add front rest m
 
--- behind the last place that a word tells there is nothing, so that the place may stop there
+-- after the last place that a word tells there is nothing, so that the place may stop there
 place_as : (place at n last : ℕ) (bytes : List ℕ) → place ≡ min (at + n) last → length bytes ≤ last → drop place bytes ≡ drop (at + n) bytes
 place_as place at n last bytes is short = ⊎_elim
     (λ (beyond : last < at + n). drop_all place bytes (omega (arith, is, short, beyond)) ∙ sym (drop_all (at + n) bytes (omega (arith, short, beyond))))
@@ -51,7 +51,7 @@ given_beyond at n m place last bytes into part tail within fits so_far is short 
     ∙ ap (λ (l : List ℕ). l ++ take m (drop n (drop at bytes))) so_far
     ∙ sym (take-add n m (drop at bytes))
 
--- one read more, which wrote into the part of `into` behind what was given
+-- one read more, which wrote into the part of `into` after what was given
 pub read_further : (a b c : Held) (before now later at place last n m : ℕ) (into part : List ℕ) → ReadSoFar a b before now at n into
     → length part ≡ length into - n → m ≤ length part → place ≡ min (at + n) last → IfSome b.reads_as (λ bytes. length bytes ≤ last)
     → IfSome b.reads_as (λ bytes. take m part ≡ take m (drop place bytes)) → c ≡ b → now ≤ later
@@ -108,10 +108,10 @@ changes_none step same x = record { bytes = rests x.reads_as; synced = refl }
     rests None = tt
     rests (Some a) = (a, refl, same a)
 
--- ---- Writes, one behind the other
+-- ---- Writes, one after the other
 
-written_front : (at : ℕ) (piece bytes : List ℕ) → at ≤ length bytes → take at (written at piece bytes) ≡ take at bytes
-written_front at piece bytes within =
+written_prefix : (at : ℕ) (piece bytes : List ℕ) → at ≤ length bytes → take at (written at piece bytes) ≡ take at bytes
+written_prefix at piece bytes within =
     ap (take at) (append_assoc (take at bytes) piece (drop (at + length piece) bytes)) ∙ take_at (take at bytes) (piece ++ drop (at + length piece) bytes) at (length-take-le at bytes within)
 
 written_length : (at : ℕ) (piece bytes : List ℕ) → at ≤ length bytes → length (written at piece bytes) ≡ max (length bytes) (at + length piece)
@@ -138,7 +138,7 @@ written_behind at far piece bytes within beyond =
     ap (λ (k : ℕ). drop k (written at piece bytes)) sum ∙ sym (drop-drop lost (at + length piece) (written at piece bytes)) ∙ ap (drop lost) rest
     ∙ drop-drop lost (at + length piece) bytes ∙ ap (λ (k : ℕ). drop k bytes) (sym sum)
 
--- a front of the piece over what an earlier try left torn
+-- a prefix of the piece over what an earlier try left torn
 torn_written : (at n : ℕ) (piece a b c : List ℕ) → n ≤ length piece → Tears at (length piece) a b → Writes at (take n piece) b c → WritesInPart at piece n a c
 torn_written at n piece a b c fits tears writes start =
     let torn : Torn at (length piece) a b = tears start in
@@ -149,16 +149,16 @@ torn_written at n piece a b c fits tears writes start =
     let long : length c ≡ max (length b) (at + length (take n piece)) = ap length is ∙ written_length at (take n piece) b within in
     record {
       torn = record {
-        before = ap (take at) is ∙ written_front at (take n piece) b within ∙ torn.before;
+        before = ap (take at) is ∙ written_prefix at (take n piece) b within ∙ torn.before;
         after = ap (drop (at + length piece)) is ∙ written_behind at (at + length piece) (take n piece) b within far ∙ torn.after;
         no_shorter = omega (arith, long, torn.no_shorter);
         no_longer = omega (arith, long, size, fits, torn.no_longer);
       };
-      front = ap (λ (k : ℕ). take (at + k) c) (sym size) ∙ ap (take (at + length (take n piece))) is ∙ written_piece at (take n piece) b within
+      prefix = ap (λ (k : ℕ). take (at + k) c) (sym size) ∙ ap (take (at + length (take n piece))) is ∙ written_piece at (take n piece) b within
           ∙ ap (λ (l : List ℕ). l ++ take n piece) torn.before;
     }
 
--- a part of the range torn, behind a front that was written
+-- a part of the range torn, after a prefix that was written
 torn_behind : (at done : ℕ) (piece a b c : List ℕ) → done ≤ length piece → at ≤ length a → Torn at (length piece) a b
     → Torn (at + done) (length (drop done piece)) b c → Torn at (length piece) a c
 torn_behind at done piece a b c fits start first second =
@@ -173,7 +173,7 @@ torn_behind at done piece a b c fits start first second =
 
 front_within : (at done : ℕ) (piece a b : List ℕ) → done ≤ length piece → at ≤ length a → WrittenInPart at piece done a b → at + done ≤ length b
 front_within at done piece a b fits start part =
-    omega (arith, ap length part.front, length-append (take at a) (take done piece), length-take-le at a start, length-take-le done piece fits, length-take (at + done) b)
+    omega (arith, ap length part.prefix, length-append (take at a) (take done piece), length-take-le at a start, length-take-le done piece fits, length-take (at + done) b)
 
 written_further : (at done n : ℕ) (piece a b c : List ℕ) → done ≤ length piece → WritesInPart at piece done a b
     → WritesInPart (at + done) (drop done piece) n b c → WritesInPart at piece (done + n) a c
@@ -183,7 +183,7 @@ written_further at done n piece a b c fits one more start =
     let sum : at + (done + n) ≡ at + done + n = omega arith in
     record {
       torn = torn_behind at done piece a b c fits start first.torn second.torn;
-      front = ap (λ (k : ℕ). take k c) sum ∙ second.front ∙ ap (λ (l : List ℕ). l ++ take n (drop done piece)) first.front
+      prefix = ap (λ (k : ℕ). take k c) sum ∙ second.prefix ∙ ap (λ (l : List ℕ). l ++ take n (drop done piece)) first.prefix
           ∙ append_assoc (take at a) (take done piece) (take n (drop done piece)) ∙ ap (λ (l : List ℕ). take at a ++ l) (sym (take-add done n piece));
     }
 
@@ -197,11 +197,11 @@ written_whole : (at done : ℕ) (piece a b : List ℕ) → done ≡ length piece
 written_whole at done piece a b is part start =
     let whole : WrittenInPart at piece done a b = part start in
     let front : take (at + length piece) b ≡ take at a ++ piece =
-    ap (λ (k : ℕ). take (at + k) b) (sym is) ∙ whole.front ∙ ap (λ (l : List ℕ). take at a ++ l) (take_all done piece (omega (arith, is))) in
+    ap (λ (k : ℕ). take (at + k) b) (sym is) ∙ whole.prefix ∙ ap (λ (l : List ℕ). take at a ++ l) (take_all done piece (omega (arith, is))) in
     sym (take-append-drop (at + length piece) b) ∙ ap (λ (l : List ℕ). l ++ drop (at + length piece) b) front ∙ ap (λ (l : List ℕ). take at a ++ piece ++ l) whole.torn.after
 
 written_none : (at : ℕ) (piece a : List ℕ) → WritesInPart at piece 0 a a
-written_none at piece a start = record { torn = torn_same at (length piece) a; front = ap (λ (k : ℕ). take k a) (plus_none at) ∙ sym (append-nil (take at a)) }
+written_none at piece a start = record { torn = torn_same at (length piece) a; prefix = ap (λ (k : ℕ). take k a) (plus_none at) ∙ sym (append-nil (take at a)) }
   where
     plus_none : (n : ℕ) → n + 0 ≡ n
     plus_none n = omega arith

@@ -44,10 +44,10 @@ after_sync file = record { reads_as = file.reads_as; synced = file.reads_as }
 abbrev pub GivesAll : ℕ → ℕ → List ℕ → List ℕ → Type 0
 GivesAll at room given bytes = given ≡ take room (drop at bytes)
 
--- The first bytes of a piece were written over what was there, and behind them its range is torn.
+-- The first bytes of a piece were written over what was there, and after them its range is torn.
 pub record WrittenInPart (at : ℕ) (piece : List ℕ) (done : ℕ) (before after : List ℕ) : Type 0 where
   pub torn : Torn at (length piece) before after
-  pub front : take (at + done) after ≡ take at before ++ take done piece
+  pub prefix : take (at + done) after ≡ take at before ++ take done piece
 
 abbrev pub WritesInPart : ℕ → List ℕ → ℕ → List ℕ → List ℕ → Type 0
 WritesInPart at piece done before after = at ≤ length before → WrittenInPart at piece done before after

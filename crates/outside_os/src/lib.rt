@@ -1,4 +1,4 @@
-//! The outside as the machine has it: standard input, standard output and a folder's files behind the traits of `outside`.
+//! The outside as the machine has it: standard input, standard output and a folder's files by the traits of `outside`.
 //!
 //! This is the trusted edge. `FolderDisk` says of each of its calls what it does to the file of its area, by what the trait
 //! `StoredFile` says of one call on a file. That std's `File` is such a file is trusted. No clause says which bytes the

@@ -47,7 +47,7 @@ fn write_some<F: StoredFile>(file: &mut F, at: u64, piece: &[u8]) -> io::Result<
     answer
 }
 
-/// Reads the bytes from `at` on into the front of `into`, and answers how many: as many as there are and fit.
+/// Reads the bytes from `at` on into the start of `into`, and answers how many: as many as there are and fit.
 pub(crate) fn read_full<F: StoredFile>(file: &mut F, at: u64, into: &mut [u8]) -> io::Result<usize>
     ensures fits { IfOk result (λ n. n ≤ length into.new) }
     ensures given { IfOk result (λ n. IfSome (F.held file.old).reads_as (GivesAll at (length into.new) (take n into.new))) }

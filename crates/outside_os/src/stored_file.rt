@@ -21,7 +21,7 @@ pub trait StoredFile {
         ensures same { held self.new ≡ held self.old }
         ensures cause { HasCause (failures self.old) (failures self.new) result };
 
-    /// Reads bytes from `at` on into the front of `into`, and answers how many: it may be fewer than there are and fit,
+    /// Reads bytes from `at` on into the start of `into`, and answers how many: it may be fewer than there are and fit,
     /// and none only where there are none, or nothing fits.
     fn read_at(&mut self, at: u64, into: &mut [u8]) -> io::Result<usize>
         ensures fits { IfOk result (λ n. n ≤ length into.new) }

@@ -13,7 +13,7 @@ fails_once before now error is = record {
   unchanged = λ done. absurd (cc);
 }
 
--- a front of the piece was written, and no more
+-- a prefix of the piece was written, and no more
 pub front_written : (at n : ℕ) (piece old new : List ℕ) (synced : Option (List ℕ)) → n ≤ length piece → new ≡ written at (take n piece) old
     → Changes (Tears at (length piece)) (record { reads_as = Some old; synced = synced }) (record { reads_as = Some new; synced = synced })
 front_written at n piece old new synced fits is = record { bytes = (new, refl, tears); synced = refl }

@@ -66,7 +66,7 @@ fn cut<D: Disk>(disk: &mut D, area: Area) -> Result<(), Failed> {
     disk.cut(area, CUT as u64)
 }
 
-/// PIECE stands behind BEFORE in the log and over the end of BEFORE in one area, and BEFORE is cut in the other one, when the
+/// PIECE stands after BEFORE in the log and over the end of BEFORE in one area, and BEFORE is cut in the other one, when the
 /// crash comes.
 fn crash<D: Crashing>(disk: &mut D, pick: u64) -> Result<(), Failed> {
     begin(disk, Area::Log)?;

@@ -19,13 +19,13 @@ const FAILING: u64 = 3;
 #[derive(Clone, Copy, PartialEq, Eq)]
 struct Left {
     nothing: u64,
-    front: u64,
+    prefix: u64,
     whole: u64,
     torn: u64,
 }
 
-/// Whether a front of the piece was written and no more.
-fn is_front(left: &[u8]) -> bool {
+/// Whether a prefix of the piece was written and no more.
+fn is_prefix(left: &[u8]) -> bool {
     for n in 1..PIECE.len() {
         let end = (AT + n).max(BEFORE.len());
         if left.len() == end
@@ -48,8 +48,8 @@ fn count(left: &mut Left, bytes: &[u8]) {
         &mut left.nothing
     } else if is_whole(bytes) {
         &mut left.whole
-    } else if is_front(bytes) {
-        &mut left.front
+    } else if is_prefix(bytes) {
+        &mut left.prefix
     } else {
         &mut left.torn
     };
@@ -80,14 +80,14 @@ fn failing(alloc: Global, turns: u64) -> Option<Vec<u64>> {
     Some(numbers)
 }
 
-/// How many writes fail, and how many of them left nothing, a front, all, and other bytes.
+/// How many writes fail, and how many of them left nothing, a prefix, all, and other bytes.
 pub(crate) fn agrees(alloc: Global, row: &mut Row) -> Option<bool> {
     let turns = row.number()?;
     let numbers = failing(alloc, turns)?;
     let mut disk = MemDisk::new(alloc, numbers);
     let mut left = Left {
         nothing: 0,
-        front: 0,
+        prefix: 0,
         whole: 0,
         torn: 0,
     };
@@ -98,7 +98,7 @@ pub(crate) fn agrees(alloc: Global, row: &mut Row) -> Option<bool> {
     }
     let wanted = Left {
         nothing: row.number()?,
-        front: row.number()?,
+        prefix: row.number()?,
         whole: row.number()?,
         torn: row.number()?,
     };

@@ -1,17 +1,17 @@
-//! The streams and the disks behind the traits of `outside`, in memory and of `outside_os`, at calls that fail and that move few
+//! The streams and the disks by the traits of `outside`, in memory and of `outside_os`, at calls that fail and that move few
 //! bytes: makes the call of each row of its standard input, and prints the rows that differ.
 //!
 //! A row begins with what it calls, has a column for each argument and ends with the answer, with a tab between two, `ok` or
 //! `failed` where there is no other; bytes are in hex, `-` for none. A line that begins with `#` tells what follows. The
 //! answers were worked by hand.
 //!
-//! Behind `memory` are the streams and the disk of `outside_mem`: `source`, `sink` and `disk` make new ones, with the numbers
+//! After `memory` are the streams and the disk of `outside_mem`: `source`, `sink` and `disk` make new ones, with the numbers
 //! of the calls that fail. `arm` and `crash` are the disk's; `each` makes each of its five calls; `crashes` counts what crashes
 //! leave of another disk.
 //!
 //! The other rows are about the adapters of `outside_os` over a system that is a fake, call by call, and on real files: which
 //! bytes they move, what they answer, and which calls they make. Clauses tell the bytes of a file; that the system's own files are such files, which calls are made and what the streams move they do not tell. `system` makes a new fake, with what
-//! its calls do in order and the bytes that each of its files begins with and its input gives, and behind the list they succeed:
+//! its calls do in order and the bytes that each of its files begins with and its input gives, and after the list they succeed:
 //! `N` moves at most so many bytes, `interrupted`, `broken` and `pipe` fail, `torn` and `torn_interrupted` write half and fail.
 //! `holds` has the bytes of the file that was changed last. `noted` has the calls that were made since the last `noted`. `real`
 //! goes to a disk on real files; `open` makes a new one on a folder.

@@ -67,7 +67,7 @@ fn agrees_on_sync<D: Disk>(disk: &mut D, area: Area, row: &mut Row) -> Option<bo
     is_done(disk.sync(area).is_ok(), row)
 }
 
-/// A write at the front, and its sync: the bytes.
+/// A write at the start, and its sync: the bytes.
 fn agrees_on_durable<D: Disk>(
     alloc: Global,
     disk: &mut D,

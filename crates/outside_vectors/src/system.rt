@@ -17,7 +17,7 @@ pub(crate) enum Turn {
     Tears(ErrorKind),
 }
 
-/// A system whose files begin with the same bytes, which standard input gives too. Behind the list its calls succeed.
+/// A system whose files begin with the same bytes, which standard input gives too. After the list its calls succeed.
 #[derive(Drop)]
 pub(crate) struct System {
     turns: RefCell<Vec<Turn>>,

@@ -1,4 +1,4 @@
--- The block in hand, where something is told.
+-- The current block, where something is told.
 use Rattle.std.proofs.Common.{◌≡◌, ℕ, ◌<◌, List, length, Option, Some, sym, ap, ◌∙◌, subst, arith}
 use Rattle.std.specs.Prelude.{slice_get, IfSome}
 use Rattle.std.specs.Option.{option_map}
@@ -8,7 +8,7 @@ use Rattle.chain_defs.specs.Kept.{block_at}
 use Rattle.chain_defs.proofs.KeptLaws.{slice_get-below}
 use Rattle.chain_tree.specs.Told.{Stored, blocks_of}
 
--- the block in hand is the one at its place
+-- the current block is the one at its place
 pub kept-block : (stored : List Stored) (view : Block) (place count : ℕ) (told now : Option (List Stored)) (hand : Option ℕ) → told ≡ Some stored → now ≡ told
     → hand ≡ Some place → IfSome told (λ all. length all ≡ count) → place < count
     → IfSome now (λ all. IfSome hand (λ e. IfSome (slice_get all e) (λ it. view ≡ it.block)))

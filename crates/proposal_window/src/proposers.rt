@@ -14,7 +14,7 @@ use chain_tree::{Blocks, Tree};
 use epochs::Spec;
 use outside::ReadStop;
 
-/// The heights of the window of a height: the lowest, and the one behind the highest.
+/// The heights of the window of a height: the lowest, and the one after the highest.
 pub(crate) fn window_of(spec: &Spec, height: u64) -> (u64, u64)
     ensures low { result.0 ≡ height - spec.now.w_far }
     ensures end { result.1 ≡ height + 1 - spec.now.w_close }

@@ -18,7 +18,7 @@ use Rattle.outside.specs.declared.disk.Damage.{Damage}
 use Rattle.chain_tree.specs.declared.entry.Entry.{Entry}
 use Rattle.reorg.specs.Damages.{IsAtRecord}
 
--- the block in hand is the one at its place
+-- the current block is the one at its place
 pub told-block : (stored : List Stored) (view : Block) (place : ℕ) (b : Block) (told : Option (List Stored)) (hand : Option ℕ) → told ≡ Some stored
     → hand ≡ Some place → IfSome told (λ s. IfSome hand (λ e. IfSome (slice_get s e) (λ it. view ≡ it.block)))
     → block_at (blocks_of stored) place ≡ Some b → view ≡ b

@@ -1,4 +1,4 @@
--- The places of a branch: it begins with the genesis, and each place behind another is that of a child.
+-- The places of a branch: it begins with the genesis, and each place after another is that of a child.
 use Rattle.std.proofs.Common.{◌≡◌, ℕ, zero, suc, ◌+◌, ◌<◌, List, [], ◌∷◌, ◌++◌, length, take, Option, Some, None, refl, sym, ap, ◌∙◌, inl, inr, ◌⊎◌, arith}
 use Rattle.std.specs.Prelude.{slice_get}
 use Rattle.std.specs.Option.{option_and_then}
@@ -35,7 +35,7 @@ pub branch-first : (kept : List Block) (place : ℕ) → IsKept kept → place <
 unfolding branch_places
 branch-first kept place is_kept below = first-within (suc place) kept place is_kept (omega arith) below
 
--- ---- One behind another
+-- ---- One after another
 
 last-within : (most : ℕ) (kept : List Block) (place n : ℕ) → place < most → suc n ≡ length (places_within most kept place)
     → slice_get (places_within most kept place) n ≡ Some place

@@ -29,12 +29,12 @@ live_row-push kept b place o below =
     ∙ ap (λ (places : List ℕ). option_map (λ (cell : Cell). row_of (slice_index places cell.height) cell) (live_cell (branch kept place) o))
     (branch_places-push kept b place below)
 
-pub live_row-front : (front later : List Block) (place : ℕ) (o : OutPoint) → place < length front → live_row (front ++ later) place o ≡ live_row front place o
-live_row-front front [] place o below = ap (λ (kept : List Block). live_row kept place o) (append-nil front)
-live_row-front front (b ∷ later) place o below =
+pub live_row-prefix : (front later : List Block) (place : ℕ) (o : OutPoint) → place < length front → live_row (front ++ later) place o ≡ live_row front place o
+live_row-prefix front [] place o below = ap (λ (kept : List Block). live_row kept place o) (append-nil front)
+live_row-prefix front (b ∷ later) place o below =
     let more : length (front ++ b ∷ []) ≡ length front + 1 = length_push front b in
     ap (λ (kept : List Block). live_row kept place o) (sym (append_assoc front (b ∷ []) later))
-    ∙ live_row-front (front ++ b ∷ []) later place o (omega (arith, more, below))
+    ∙ live_row-prefix (front ++ b ∷ []) later place o (omega (arith, more, below))
     ∙ live_row-push front b place o below
 
 -- ---- One block
@@ -82,12 +82,12 @@ live_row-step kept parent place b there found = record {
     row : (o : OutPoint) → live_row kept place o ≡ row_after place (events_of_block (length (branch (take place kept) parent)) b) (live_row kept parent) o
     row o =
         ap (λ (all : List Block). live_row all place o) (parts ∙ sym (append_assoc (take place kept) (b ∷ []) (drop (suc place) kept)))
-        ∙ live_row-front (take place kept ++ b ∷ []) (drop (suc place) kept) place o (omega (arith, long, longer))
+        ∙ live_row-prefix (take place kept ++ b ∷ []) (drop (suc place) kept) place o (omega (arith, long, longer))
         ∙ ap (λ (n : ℕ). live_row (take place kept ++ b ∷ []) n o) (sym long)
         ∙ live_row-join (take place kept) b parent o named
         ∙ ap (λ (n : ℕ). row_after n (events_of_block (length (branch (take place kept) parent)) b) (live_row (take place kept) parent) o) long
         ∙ row_after-same place (events_of_block (length (branch (take place kept) parent)) b) (live_row (take place kept) parent) (live_row kept parent) o
-        (sym (ap (λ (all : List Block). live_row all parent o) parts ∙ live_row-front (take place kept) (b ∷ drop (suc place) kept) parent o below))
+        (sym (ap (λ (all : List Block). live_row all parent o) parts ∙ live_row-prefix (take place kept) (b ∷ drop (suc place) kept) parent o below))
 
 -- ---- The genesis
 

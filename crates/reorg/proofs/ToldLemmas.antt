@@ -1,4 +1,4 @@
--- What a source tells of the entry in hand, and that its block can be taken back with the ext that is read from it.
+-- What a source tells of the current entry, and that its block can be taken back with the ext that is read from it.
 use Rattle.std.proofs.Common.{◌≡◌, ℕ, List, Option, Some, sym, subst}
 use Rattle.std.specs.Prelude.{slice_get, IfSome}
 use Rattle.codec_defs.specs.Schema.{OutPoint, Block}

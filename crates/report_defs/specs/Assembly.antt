@@ -1,10 +1,11 @@
 -- What `assemble` tells: what becomes of each item, and then the block (docs/COMMANDS.md, "assemble").
-use Rattle.std.specs.Prelude.{ℕ, Bool, true, false, ◌||◌, is_some, List, [], ◌∷◌, ◌++◌, map, replicate, codes, Option, Some, None, if◌then◌else◌}
+use Rattle.std.specs.Prelude.{ℕ, Bool, true, false, ◌||◌, is_some, List, ◌∷◌, ◌++◌, replicate, codes, Option, Some, None, if◌then◌else◌}
 use Rattle.std.specs.List.{list_any}
 use Rattle.std.specs.Fmt.{decimal}
 use Rattle.codec_defs.specs.Shape.{encoded}
 use Rattle.codec_defs.specs.Schema as schema
 use Rattle.pool_defs.specs.Assembly.{Assembled}
+use Rattle.pool_defs.specs.Size.{most_items}
 use Rattle.pool_defs.specs.declared.line.Line.{Line}
 use Rattle.pool_defs.specs.declared.line.Line.TheVariants.{Commit, Propose, Refused, Later}
 use Rattle.report_defs.specs.declared.status.Status.{Status}
@@ -13,11 +14,7 @@ use Rattle.report_defs.specs.Text.{line_feed, hex_text}
 
 -- ---- The input
 
--- the most items, each a transaction, after the witness of the cellbase
-unfoldable pub most_items : ℕ
-most_items = 1000
-
--- the limits of the witness and of each item, where an item has at most so many bytes
+-- the limits of the witness and of each item after it, a transaction, where an item has at most so many bytes
 unfoldable pub assembly_items : ℕ → List ℕ
 assembly_items item_limit = item_limit ∷ replicate most_items item_limit
 

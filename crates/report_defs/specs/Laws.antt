@@ -51,13 +51,13 @@ abbrev pub EndsIn : List ℕ → List ℕ → Type 0
 EndsIn ending text = (before : List ℕ) × (text ≡ before ++ ending)
 
 -- The last line of a text holds bytes that would join over a chain.
-pub record TellsBlock (chain : Chain) (text : List ℕ) : Type 0 where
+pub record EndsInBlock (chain : Chain) (text : List ℕ) : Type 0 where
   pub bytes : List ℕ
   pub joined : joins (verdict_over chain bytes) ≡ true
   pub last : EndsIn (codes "block " ++ hex_text bytes ++ line_feed) text
 
 -- Its last line says that there is no block, by a rule that a block which is assembled may break.
-pub record TellsNoBlock (text : List ℕ) : Type 0 where
+pub record EndsInNoBlock (text : List ℕ) : Type 0 where
   pub rule : ℕ
   pub breakable_by : IsTrue (list_any (λ other. other == rule) breakable)
   pub last : EndsIn (no_block_line rule) text
@@ -67,4 +67,4 @@ pub record TellsNoBlock (text : List ℕ) : Type 0 where
 abbrev pub WhatIsAssembledJoins : Type 0
 WhatIsAssembledJoins = (chain : Chain) (image : Image) (input : List ℕ) (said : Report) → StandsFor chain image → chain.spec.compact_target < 2 ^ 32
     → length chain.blocks < kept_limit → IsReport (Some (Question Assemble)) input (Keeps chain) said → IsOneOf (Done ∷ SomeRefused ∷ []) said.status
-    → TellsBlock chain (text_of said) ⊎ TellsNoBlock (text_of said)
+    → EndsInBlock chain (text_of said) ⊎ EndsInNoBlock (text_of said)

@@ -77,7 +77,7 @@ IsStoppedBeforeTheSink status = IsOneOf (InputFault ∷ DiskFault ∷ NoMemory �
 
 -- the first is a prefix of the second
 abbrev pub IsPrefix : List ℕ → List ℕ → Type 0
-IsPrefix front whole = (rest : List ℕ) × (whole ≡ front ++ rest)
+IsPrefix prefix whole = (rest : List ℕ) × (whole ≡ prefix ++ rest)
 
 -- What was taken is the text of a report of the whole input as far as it was written, and all of it, with the report's status, where nothing
 -- stopped the run. The relation says which reports an input has.
@@ -150,7 +150,7 @@ OverStore NotALog P given taken status = FindsNoStore given taken status
 OverStore (Keeps chain) P given taken status = P chain
 
 -- a query or a simulation: nothing is read, and nothing written where the run was stopped before the sink
-pub record TellsInOrder (given taken : List ℕ) (status : Status) : Type 0 where
+pub record ReadsNothingInOrder (given taken : List ℕ) (status : Status) : Type 0 where
   pub unread : given ≡ []
   pub silent : IsStoppedBeforeTheSink status → taken ≡ []
 
@@ -192,7 +192,7 @@ abbrev pub KeepsOrder : Option Command → Store → List ℕ → Option (List �
 KeepsOrder None store given left taken status = IsUntouched given taken
 KeepsOrder (Some Init) store given left taken status = InitsInOrder store given left taken status
 KeepsOrder (Some Import) store given left taken status = OverStore store (λ chain. ImportsInOrder chain given left taken status) given taken status
-KeepsOrder (Some (Query query)) store given left taken status = OverStore store (λ chain. TellsInOrder given taken status) given taken status
+KeepsOrder (Some (Query query)) store given left taken status = OverStore store (λ chain. ReadsNothingInOrder given taken status) given taken status
 KeepsOrder (Some (Question question)) store given left taken status = OverStore store (λ chain. AnswersInOrder question given left taken status) given taken status
 KeepsOrder (Some (Standalone command)) store given left taken status = ReadsFileInOrder (file_limit command) given left taken status
-KeepsOrder (Some (Simulation simulation)) store given left taken status = TellsInOrder given taken status
+KeepsOrder (Some (Simulation simulation)) store given left taken status = ReadsNothingInOrder given taken status

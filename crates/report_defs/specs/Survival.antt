@@ -35,7 +35,7 @@ Agrees taken text = IsPrefix taken text ⊎ IsPrefix text taken
 
 -- A prefix of a run's items: at most those that its source gave whole, and at least those whose whole line its sink took. What is
 -- written after the lines counts for none.
-pub record IsFront (chain : Chain) (items : List (List ℕ)) (taken : List ℕ) (count : ℕ) : Type 0 where
+pub record IsKeptPrefix (chain : Chain) (items : List (List ℕ)) (taken : List ℕ) (count : ℕ) : Type 0 where
   -- it is this chain over which the items were answered
   pub answered : Agrees taken (concat (lines_over chain items))
   pub most : count ≤ length items
@@ -89,7 +89,7 @@ Answers (Some (Simulation simulation)) kept given taken = Unit {0}
 -- over what was kept.
 pub record IsKeptAfter (before : Chain) (run : Run) (kept : Chain) : Type 0 where
   pub count : ℕ
-  pub prefix : IsFront before (items_of run.command run.given) run.taken count
+  pub prefix : IsKeptPrefix before (items_of run.command run.given) run.taken count
   pub added : kept ≡ chain_over before (take count (items_of run.command run.given))
   pub answered : IsDone run.status → Answers run.command before run.given run.taken
 
@@ -116,7 +116,7 @@ pub record KeepsStore (chain : Chain) (items : List (List ℕ)) (taken : List �
   -- At the exit each image keeps what joined of a prefix of the items. Where the disk failed or memory ran out before a line was
   -- taken, it may be an image of the start instead.
   pub exit : Each at_exit (λ image. (IsOneOf (DiskFault ∷ NoMemory ∷ []) status × (taken ≡ []) × at_start image)
-      ⊎ ((count : ℕ) × IsFront chain items taken count × StandsFor (chain_over chain (take count items)) image))
+      ⊎ ((count : ℕ) × IsKeptPrefix chain items taken count × StandsFor (chain_over chain (take count items)) image))
   -- at each moment it is one of the start, or keeps what joined of some items
   pub moments : Each meanwhile (λ image. at_start image ⊎ ((count : ℕ) × (count ≤ length items) × StandsFor (chain_over chain (take count items)) image))
 

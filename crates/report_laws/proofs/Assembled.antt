@@ -30,7 +30,7 @@ use Rattle.report_defs.specs.Status.{IsOneOf}
 use Rattle.report_defs.specs.Items.{split_of, end_offset, end_of_whole}
 use Rattle.report_defs.specs.Assembly.{pool_line}
 use Rattle.report_defs.specs.Report.{Report, text_of, question_limits, report_of_end, report_at_end, report_of_assembled, report_with_witness, report_of_assembly}
-use Rattle.report_defs.specs.Laws.{TellsBlock, TellsNoBlock, WhatIsAssembledJoins}
+use Rattle.report_defs.specs.Laws.{EndsInBlock, EndsInNoBlock, WhatIsAssembledJoins}
 
 -- ---- What is kept begins with a genesis of number 0
 
@@ -72,7 +72,7 @@ early offset ends.Extra other (inr (inr never)) = never
 module _ (what_joined : StandsForWhatJoined) (breaks_few : BreaksFew) (unbroken_is_joined : UnbrokenIsJoined) (kept_is_in_range : KeptIsInRange) where
   module _ (chain : Chain) (is_founded : IsFounded chain.blocks) (in_range : IsInRange chain) (room : length chain.blocks < kept_limit) where
     abbrev Tells : Report → Type 0
-    Tells said = TellsBlock chain (text_of said) ⊎ TellsNoBlock (text_of said)
+    Tells said = EndsInBlock chain (text_of said) ⊎ EndsInNoBlock (text_of said)
 
     -- by the rule that the block breaks
     by-broken : (witness : CellbaseWitness) (items : List (List ℕ)) (broken : Option ℕ) → IsTrue (cellbase_witness.encoding witness).fits
@@ -117,4 +117,4 @@ module _ (what_joined : StandsForWhatJoined) (breaks_few : BreaksFew) (unbroken_
       let split = split_of (question_limits Assemble) input in
       let told = by-end chain (founded chain (what_joined.0 chain image stands)) (kept_is_in_range chain image stands target) room split.items (end_offset split) (end_of_whole 1 split)
       (subst (λ (r : Report). Judged r.status) is judged) in
-      subst (λ (r : Report). TellsBlock chain (text_of r) ⊎ TellsNoBlock (text_of r)) (sym is) told
+      subst (λ (r : Report). EndsInBlock chain (text_of r) ⊎ EndsInNoBlock (text_of r)) (sym is) told

@@ -25,7 +25,7 @@ use Rattle.reward_defs.specs.Reward.{dao_of, field_at}
 use Rattle.reward_defs.proofs.FeeLaws.{fees-paid, ids-paid}
 use Rattle.rewards.specs.Own.{HasOwnFees, fees_on}
 use Rattle.rewards.specs.Paid.{ArePaid}
-use Rattle.rewards.specs.Reading.{Tells}
+use Rattle.rewards.specs.Reading.{AreKnownBlocks}
 
 -- ---- A branch by its places
 
@@ -158,7 +158,7 @@ has-parent kept top height place stands later = by_parent (parent_place kept pla
 -- ---- What its transactions pay
 
 pub paid-there : (spec : Specification) (told : Option (List Stored)) (entries : List Entry) (stored : List Stored) (top height place : ℕ) (it : Stored)
-    → Tells spec told entries stored → top < length entries → 0 < height → 0 < place
+    → AreKnownBlocks spec told entries stored → top < length entries → 0 < height → 0 < place
     → slice_get (branch_places (blocks_of stored) top) height ≡ Some place → slice_get stored place ≡ Some it
     → ArePaid it.ext (map proposal_id (drop 1 it.block.transactions)) (paid_at spec (branch (blocks_of stored) top) height)
 unfolding paid_at
@@ -220,9 +220,9 @@ ids-there kept entries top height place ids indexes within at are =
     let long : length entries ≡ length kept = len-same kept entries indexes in
     ap (option_map proposed_ids) (stands-at kept top height place (omega (arith, within, long)) at).here ∙ are
 
--- ---- The block in hand
+-- ---- The current block
 
--- what is so of the block in hand
+-- what is so of the current block
 pub held : (P : Stored → Type 0) (stored : List Stored) (place : ℕ) (it : Stored) (told : Option (List Stored)) (hand : Option ℕ) → told ≡ Some stored
     → hand ≡ Some place → slice_get stored place ≡ Some it → IfSome told (λ all. IfSome hand (λ e. IfSome (slice_get all e) P)) → P it
 held P stored place it told hand tells in_hand there is =
@@ -231,7 +231,7 @@ held P stored place it told hand tells in_hand there is =
     (subst (λ (t : Option (List Stored)). IfSome t (λ all. IfSome hand (λ e. IfSome (slice_get all e) P))) tells is))
 
 pub paid-in_hand : (spec : Specification) (told now : Option (List Stored)) (entries : List Entry) (stored : List Stored) (top height place : ℕ) (hand : Option ℕ)
-    (ext : List ℕ) (ids : List (List ℕ)) → Tells spec told entries stored → now ≡ told → hand ≡ Some place
+    (ext : List ℕ) (ids : List (List ℕ)) → AreKnownBlocks spec told entries stored → now ≡ told → hand ≡ Some place
     → IsSomeAnd (entry_at entries top) (λ entry. height ≤ entry.number) → 0 < height → place < length entries → 0 < place
     → ((kept : List Block) → IndexesBlocks kept entries → slice_get (branch_places kept top) height ≡ Some place)
     → IfSome now (λ all. IfSome hand (λ e. IfSome (slice_get all e) (λ it. ids ≡ map proposal_id (drop 1 it.block.transactions))))

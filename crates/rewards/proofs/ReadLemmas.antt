@@ -7,11 +7,11 @@ use Rattle.outside.proofs.Endings.{memory_undamaged, fault_undamaged}
 use Rattle.time_defs.specs.Specification.{Specification}
 use Rattle.chain_tree.specs.declared.entry.Entry.{Entry}
 use Rattle.chain_tree.specs.Told.{Stored}
-use Rattle.rewards.specs.Reading.{Tells, IsUndamaged}
+use Rattle.rewards.specs.Reading.{AreKnownBlocks, IsUndamaged}
 
 -- it tells the same after reading
 pub tells_still : {spec : Specification} {told now : Option (List Stored)} {entries : List Entry} {stored : List Stored} → now ≡ told
-    → Tells spec told entries stored → Tells spec now entries stored
+    → AreKnownBlocks spec told entries stored → AreKnownBlocks spec now entries stored
 tells_still same tells = record { is = same ∙ tells.is; indexes = tells.indexes; own = tells.own }
 
 pub not_damaged : {T : Type 0} (stop : ReadStop) (damage : Damage) → IsUndamaged stop → ◌≡◌ {A = Result T ReadStop} (Err stop) (Err (Damaged damage)) → ⊥

@@ -16,7 +16,7 @@ ghost use Rattle.reward_defs.specs.Fees as fees;
 ghost use Rattle.reward_defs.specs.Fees.{Paid, paid_at};
 ghost use Rattle.rewards.specs.Paid.{ArePaid};
 ghost use Rattle.rewards.specs.Starts.{is_started};
-ghost use Rattle.rewards.specs.Reading.{Tells, ComesTo};
+ghost use Rattle.rewards.specs.Reading.{AreKnownBlocks, ComesTo};
 
 use crate::amounts::{committer_share, plus, proposer_share};
 use crate::places::place_at;
@@ -100,7 +100,7 @@ pub(crate) fn committed_at<B: Blocks>(
     requires height { IsSomeAnd (entry_at tree.now.entries parent) (λ entry. height ≤ entry.number) }
     requires counts { B.count blocks.old ≡ length tree.now.entries }
     ensures read { HasRead B.told B.count B.loans_of B.faults B.damages blocks.old blocks.new (stop_of result) }
-    ensures sum { (spec : Specification) (stored : List Stored) → Tells spec (B.told blocks.old) tree.now.entries stored
+    ensures sum { (spec : Specification) (stored : List Stored) → AreKnownBlocks spec (B.told blocks.old) tree.now.entries stored
         → ComesTo (λ found. found ≡ as_u64 (pos (sum_by (λ paid. fees.committer_share paid.fee) (paid_at spec (branch (blocks_of stored) parent) height)))) result }
 {
     let place = place_at(tree, parent, height);
@@ -128,7 +128,7 @@ pub(crate) fn proposed_at<B: Blocks>(
     requires height { IsSomeAnd (entry_at tree.now.entries parent) (λ entry. height ≤ entry.number) }
     requires counts { B.count blocks.old ≡ length tree.now.entries }
     ensures read { HasRead B.told B.count B.loans_of B.faults B.damages blocks.old blocks.new (stop_of result) }
-    ensures sum { (spec : Specification) (stored : List Stored) → Tells spec (B.told blocks.old) tree.now.entries stored
+    ensures sum { (spec : Specification) (stored : List Stored) → AreKnownBlocks spec (B.told blocks.old) tree.now.entries stored
         → ComesTo (λ found. found ≡ as_u64 (pos (sum_by (λ paid. fees.proposer_share paid.fee)
         (filter (λ paid. is_started (hashed.get bytes_eq starts.now paid.id) height) (paid_at spec (branch (blocks_of stored) parent) height))))) result }
 {

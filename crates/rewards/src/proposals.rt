@@ -10,7 +10,7 @@ ghost use Rattle.chain_tree.specs.Told.{Stored, blocks_of};
 ghost use Rattle.chain_tree.specs.Reading.{HasRead, stop_of};
 ghost use Rattle.reward_defs.specs.Reward.{commit_heights, proposer_part};
 ghost use Rattle.rewards.specs.Starts.{AreStarts};
-ghost use Rattle.rewards.specs.Reading.{Tells, ComesTo};
+ghost use Rattle.rewards.specs.Reading.{AreKnownBlocks, ComesTo};
 
 use crate::amounts::plus;
 use crate::fees::proposed_at;
@@ -36,7 +36,7 @@ fn proposed_after<B: Blocks>(
     requires far { IsSomeAnd (entry_at tree.now.entries parent) (λ entry. proposer + spec.now.w_far ≤ entry.number) }
     requires counts { B.count blocks.old ≡ length tree.now.entries }
     ensures read { HasRead B.told B.count B.loans_of B.faults B.damages blocks.old blocks.new (stop_of result) }
-    ensures sum { (stored : List Stored) → Tells spec.now (B.told blocks.old) tree.now.entries stored
+    ensures sum { (stored : List Stored) → AreKnownBlocks spec.now (B.told blocks.old) tree.now.entries stored
         → AreStarts spec.now (branch (blocks_of stored) parent) proposer (hashed.get bytes_eq starts.now)
         → ComesTo (λ found. found ≡ as_u64 (pos (sum_by (proposer_part spec.now (branch (blocks_of stored) parent) proposer) (commit_heights spec.now proposer)))) result }
 {
@@ -66,7 +66,7 @@ pub(crate) fn proposed_by<B: Blocks>(
     requires far { IsSomeAnd (entry_at tree.now.entries parent) (λ entry. height + spec.now.w_far ≤ entry.number) }
     requires counts { B.count blocks.old ≡ length tree.now.entries }
     ensures read { HasRead B.told B.count B.loans_of B.faults B.damages blocks.old blocks.new (stop_of result) }
-    ensures sum { (stored : List Stored) → Tells spec.now (B.told blocks.old) tree.now.entries stored
+    ensures sum { (stored : List Stored) → AreKnownBlocks spec.now (B.told blocks.old) tree.now.entries stored
         → ComesTo (λ found. found ≡ as_u64 (pos (sum_by (proposer_part spec.now (branch (blocks_of stored) parent) height) (commit_heights spec.now height)))) result }
 {
     let place = place_at(tree, parent, height);

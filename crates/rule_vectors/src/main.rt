@@ -11,9 +11,9 @@
 //! joins it whatever rules it breaks; a `kept` block has its ext beside it. `earliest` asks for the earliest proposer of an
 //! id, `uncles` for J15 and `reward` for a reward, each of the blocks that joined so far: tests/rows/windows.py,
 //! tests/rows/uncles.py and tests/rows/rewards.py make these rows, and say what their columns are. A row that begins with
-//! `joined`, `known` or `refused J` and a number is an item that must be answered so: it joins where it keeps J4 to J14. The
-//! first 235 of these rows were made by a program that was written from docs/RULES.md alone. Those of
-//! tests/rows/rule_blocks.py stand after them, then those on the window, on uncles and on rewards.
+//! `joined`, `known` or `refused J` and a number is an item that must be answered so: it joins where it keeps J4 to J14. Such
+//! rows before the first `spec` of tests/rows/rule_blocks.py were made by a program that was written from docs/RULES.md alone.
+//! Those of rule_blocks.py stand after them, then those on the window, on uncles and on rewards.
 #![tactic(auto)]
 
 mod chain;

@@ -4,7 +4,7 @@ use Rattle.std.proofs.lemmas.List.{drop_more, take_more, take_more_set, drop-set
 use Rattle.std.specs.Prelude.{Option, Some, None, IsSome, is_some, IfSome}
 use Rattle.outside.specs.Image.{Image}
 use Rattle.verdict_defs.specs.Chain.{Chain, chain_of_genesis}
-use Rattle.outside.specs.Disk.{HasOneImage, TellsAsBefore}
+use Rattle.outside.specs.Disk.{HasOneImage, IsKnownAsBefore}
 use Rattle.store_defs.specs.Store.{StandsFor}
 use Rattle.report_defs.specs.declared.command.Command.{Command}
 use Rattle.report_defs.specs.declared.command.Command.TheVariants.{Init}
@@ -17,7 +17,7 @@ use Rattle.run_list.specs.declared.list.Stop.{Stop}
 use Rattle.run_list.specs.Runs.{IsRunWith, IsCallOf, AreCallsOf}
 
 -- a disk that tells afterwards where it told before
-tells_on : (old new : Option Image) → TellsAsBefore old new → IsSome old → IsSome new
+tells_on : (old new : Option Image) → IsKnownAsBefore old new → IsSome old → IsSome new
 tells_on old new same told = same ∙ told
 
 told_image : (reads : Option Image) → IsSome reads → (now : Image) × (reads ≡ Some now)
@@ -96,7 +96,7 @@ module _ {S K D : Type 0} (left : S → Option (List ℕ)) (input_faults : S →
   AreCalls = AreCallsOf left input_faults taken_by out_faults reads_as images moment left_since disk_faults armed_for
 
   -- the disk tells after a call where it told before it
-  told_with : (stop : Option Stop) (before after : Call S K) (old new : D) (run : Run) → IsWith stop before after old new run → TellsAsBefore (reads_as old) (reads_as new)
+  told_with : (stop : Option Stop) (before after : Call S K) (old new : D) (run : Run) → IsWith stop before after old new run → IsKnownAsBefore (reads_as old) (reads_as new)
   told_with None before after old new run is = is.told
   told_with (Some stop) before after old new run (armed, arms, exit, is, crashed) = crashed.told ∙ (is.told ∙ ap is_some arms.as_before.reads)
 
@@ -129,7 +129,7 @@ module _ {S K D : Type 0} (left : S → Option (List ℕ)) (input_faults : S →
   are_promised (before ∷ befores) (after ∷ afters) old new [] never = absurd never
 
   -- the disk tells after them where it told before
-  tell_on : (befores afters : List (Call S K)) (old new : D) (runs : List Run) → AreCalls befores afters old new runs → TellsAsBefore (reads_as old) (reads_as new)
+  tell_on : (befores afters : List (Call S K)) (old new : D) (runs : List Run) → AreCalls befores afters old new runs → IsKnownAsBefore (reads_as old) (reads_as new)
   tell_on [] [] old new [] same = ap (λ (d : D). is_some (reads_as d)) same
   tell_on (before ∷ befores) (after ∷ afters) old new (run ∷ runs) (between, is, rest) = tell_on befores afters between new runs rest ∙ told_with before.stop before after old between run is
   tell_on [] [] old new (run ∷ runs) never = absurd never
@@ -186,5 +186,5 @@ module _ {S K D : Type 0} (left : S → Option (List ℕ)) (input_faults : S →
       (runs.0, are, are_promised befores now old new runs.0 are)
 
   pub all_tell : (befores now : List (Call S K)) (at : ℕ) (old new : D) → length now ≤ at → length now ≡ length befores
-      → (runs : List Run) × AreCalls (take at befores) (take at now) old new runs → TellsAsBefore (reads_as old) (reads_as new)
+      → (runs : List Run) × AreCalls (take at befores) (take at now) old new runs → IsKnownAsBefore (reads_as old) (reads_as new)
   all_tell befores now at old new past long runs = tell_on befores now old new runs.0 (all_runs befores now at old new runs.0 past long runs.1)

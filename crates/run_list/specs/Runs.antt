@@ -3,7 +3,7 @@ use Rattle.std.specs.Prelude.{◌≡◌, ℕ, List, [], ◌∷◌, Option, Some,
 use Rattle.outside.specs.Image.{Image}
 use Rattle.outside.specs.Causes.{CountsFault}
 use Rattle.outside.specs.Streams.{Gives, Takes}
-use Rattle.outside.specs.Disk.{HasOneImage, IsAsBefore, TellsAsBefore}
+use Rattle.outside.specs.Disk.{HasOneImage, IsAsBefore, IsKnownAsBefore}
 use Rattle.report_defs.specs.declared.status.Status.{Status}
 use Rattle.report_defs.specs.declared.status.Status.TheVariants.{InputFault, SinkFault, DiskFault}
 use Rattle.report_defs.specs.Status.{IsOneOf}
@@ -28,7 +28,7 @@ module _ {S K D : Type 0} (left : S → Option (List ℕ)) (input_faults : S →
     pub ended : run.status ≡ Some status
     pub answered : after.status ≡ Some status
     pub promised : IsPromised run.command (reads_as old) (images old) (images new) (left_since new (moment old)) (left after.input) run.given run.taken status
-    pub told : TellsAsBefore (reads_as old) (reads_as new)
+    pub told : IsKnownAsBefore (reads_as old) (reads_as new)
     pub own : IsOneOf (statuses_of run.command) status
     pub input_fault : CountsFault (input_faults before.input) (input_faults after.input) (status ≡ InputFault)
     pub out_fault : CountsFault (out_faults before.out) (out_faults after.out) (status ≡ SinkFault)
@@ -44,7 +44,7 @@ module _ {S K D : Type 0} (left : S → Option (List ℕ)) (input_faults : S →
   pub record IsCrashed (old new : D) : Type 0 where
     pub among : IfSome (reads_as new) (images old)
     pub one_image : HasOneImage (reads_as new) (images new)
-    pub told : TellsAsBefore (reads_as old) (reads_as new)
+    pub told : IsKnownAsBefore (reads_as old) (reads_as new)
     pub disarmed : armed_for new ≡ None
     pub uncounted : disk_faults new ≡ disk_faults old
 

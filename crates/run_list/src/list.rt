@@ -1,6 +1,6 @@
 // A list of runs over a disk that crashes between them.
 ghost use Rattle.std.specs.Prelude.{◌≡◌, List};
-ghost use Rattle.outside.specs.Disk.{TellsAsBefore};
+ghost use Rattle.outside.specs.Disk.{IsKnownAsBefore};
 ghost use Rattle.report_defs.specs.Survival.{Run};
 ghost use Rattle.report_defs.specs.Lists.{ArePromised};
 ghost use Rattle.run_list.specs.Runs.{IsRunOf, IsStoppedRunOf, IsCallOf, AreCallsOf};
@@ -43,7 +43,7 @@ pub fn run_all<S: Source, K: Sink, D: Crashing, L: Ledger>(
         × ArePromised (D.reads_as disk.old) (D.images disk.old) (D.images disk.new) runs }
 
     // The disk tells what it reads as after the last run exactly where it told before the first.
-    ensures told { TellsAsBefore (D.reads_as disk.old) (D.reads_as disk.new) }
+    ensures told { IsKnownAsBefore (D.reads_as disk.old) (D.reads_as disk.new) }
 {
     for at in 0..calls.len() {
         run_call(alloc, &mut calls[at], disk, steps);

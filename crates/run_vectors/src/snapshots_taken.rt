@@ -95,12 +95,12 @@ fn agreed_on<D: Disk, L: Ledger>(
     second: &Made,
     steps: &mut Steps<L>,
 ) -> Option<usize> {
-    let front = second.blocks.get(..BEFORE)?;
+    let earlier = second.blocks.get(..BEFORE)?;
     let next = second.blocks.get(BEFORE..BEFORE + 1)?;
     let rest = second.blocks.get(BEFORE + 1..)?;
     let node = open_new(alloc, disk, first, HELD, steps)?;
     let node = import_all(alloc, disk, node, &first.blocks, steps)?;
-    let node = import_all(alloc, disk, node, front, steps)?;
+    let node = import_all(alloc, disk, node, earlier, steps)?;
     let none = has_number(disk, 0);
     let node = import_all(alloc, disk, node, next, steps)?;
     let one = has_number(disk, 1);

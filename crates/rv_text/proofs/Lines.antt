@@ -4,7 +4,7 @@ use Rattle.std.specs.Prelude.{nat_le}
 use Rattle.std.proofs.lemmas.List.{drop-drop, drop_all}
 use Rattle.std.proofs.lemmas.Bool.Decides.{nat_tests}
 use Rattle.text_defs.specs.Assembly.{with_first_byte, lines_of, IsLineOf, IsBad, Assembles, IsFirstBad}
-use Rattle.rv_text.specs.Stops.{TellsOf, TellsOfLine}
+use Rattle.rv_text.specs.Stops.{IsStopOf, IsStopOfLine}
 use Rattle.rv_text.specs.declared.assembly.AssemblyStop.{AssemblyStop}
 use Rattle.rv_text.specs.declared.assembly.AssemblyStop.TheVariants.{BadLine, NoMemory}
 use Rattle.rv_text.specs.Reading.{line_end}
@@ -136,7 +136,7 @@ bad-line text at k before code h e so bad =
     so.bad 1 (subst P (sym (left-step text at k h e)) (bad-here (take k (drop at text)) (left (at + k + 1) text) bad))
 
 pub stopped : (text : List ℕ) (at k before : ℕ) (code : List ℕ) (line : List ℕ) (stop : AssemblyStop) → at ≤ length text → k ≡ line_end (drop at text) → IsSoFar text at before code
-    → line ≡ take k (drop at text) → TellsOfLine (before + 1) line stop → TellsOf (lines_of text) stop
+    → line ≡ take k (drop at text) → IsStopOfLine (before + 1) line stop → IsStopOf (lines_of text) stop
 stopped text at k before code line NoMemory h e so is tells = tt
 stopped text at k before code line (BadLine number) h e so is tells =
     let P : List ℕ → Type 0 = IsBad in

@@ -20,7 +20,7 @@ use Rattle.rv_text.specs.Reading.{space_at, is_digit, from_digit, leading, next_
 use Rattle.rv_text.proofs.Steps.{digit-true, digit-here, digit-later, leading-stops, leading-more, no-leading}
 use Rattle.rv_text.proofs.Templates.{blank}
 
--- ---- a number at the front
+-- ---- a number at the start
 
 value-from : (n : ℕ) (ds : List ℕ) → n ≤ digits_value_after 10 n ds
 value-from n [] = omega arith

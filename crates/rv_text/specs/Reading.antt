@@ -28,7 +28,7 @@ unfoldable pub from_digit : List ℕ → List ℕ
 from_digit [] = []
 from_digit (c ∷ cs) = if is_digit c then c ∷ cs else from_digit cs
 
--- the number that the digits in front write, behind those of `n`, and what follows it; at most eight are read
+-- the number that the digits at the start write, after those of `n`, and what follows it; at most eight are read
 unfoldable pub leading : ℕ → List ℕ → ℕ × List ℕ
 leading n [] = (n, [])
 leading n (c ∷ cs) = if is_digit c && nat_lt n 10000000 then leading (n * 10 + (c - 48)) cs else (n, c ∷ cs)

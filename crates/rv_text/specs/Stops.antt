@@ -5,11 +5,11 @@ use Rattle.rv_text.specs.declared.assembly.AssemblyStop.{AssemblyStop}
 use Rattle.rv_text.specs.declared.assembly.AssemblyStop.TheVariants.{BadLine, NoMemory}
 
 -- what a stop tells of a text
-abbrev pub TellsOf : List (List ℕ) → AssemblyStop → Type 0
-TellsOf lines (BadLine number) = IsFirstBad lines number
-TellsOf lines NoMemory = Unit {0}
+abbrev pub IsStopOf : List (List ℕ) → AssemblyStop → Type 0
+IsStopOf lines (BadLine number) = IsFirstBad lines number
+IsStopOf lines NoMemory = Unit {0}
 
 -- the same of one line with a number
-abbrev pub TellsOfLine : ℕ → List ℕ → AssemblyStop → Type 0
-TellsOfLine own line (BadLine number) = (number ≡ own) × IsBad line
-TellsOfLine own line NoMemory = Unit {0}
+abbrev pub IsStopOfLine : ℕ → List ℕ → AssemblyStop → Type 0
+IsStopOfLine own line (BadLine number) = (number ≡ own) × IsBad line
+IsStopOfLine own line NoMemory = Unit {0}

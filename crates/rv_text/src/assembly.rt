@@ -5,7 +5,7 @@ ghost use Rattle.isa_defs.specs.Instruction.{FitsFormat};
 ghost use Rattle.text_defs.specs.Text as texts;
 ghost use Rattle.text_defs.specs.Text.{IsWord};
 ghost use Rattle.text_defs.specs.Assembly.{Assembles, IsLineOf, IsSkipped, lines_of};
-ghost use Rattle.rv_text.specs.Stops.{TellsOf, TellsOfLine};
+ghost use Rattle.rv_text.specs.Stops.{IsStopOf, IsStopOfLine};
 ghost use Rattle.rv_text.specs.Reading.{line_end};
 
 use crate::encode::word;
@@ -36,7 +36,7 @@ impl Error for AssemblyStop {}
 /// The words of a text, lowest byte first: one for each line but those that are empty or begin with `#`.
 pub fn assemble(alloc: Global, text: &[u8]) -> Result<Vec<u8>, AssemblyStop>
     ensures words { IfOk result (λ code. Assembles (lines_of text.now) code.items) }
-    ensures stop { IfErr result (λ stop. TellsOf (lines_of text.now) stop) }
+    ensures stop { IfErr result (λ stop. IsStopOf (lines_of text.now) stop) }
 {
     let mut code = Vec::new(alloc);
     let mut at = 0;
@@ -56,7 +56,7 @@ pub fn assemble(alloc: Global, text: &[u8]) -> Result<Vec<u8>, AssemblyStop>
 /// Appends what a line stands for.
 fn append_line(code: &mut Vec<u8>, number: u64, line: &[u8]) -> Result<(), AssemblyStop>
     ensures bytes { OnOk result ((bytes : List ℕ) × IsLineOf line.now bytes × (code.new.items ≡ code.old.items ++ bytes)) }
-    ensures stop { IfErr result (λ stop. TellsOfLine number line.now stop) }
+    ensures stop { IfErr result (λ stop. IsStopOfLine number line.now stop) }
 {
     if is_skipped(line) {
         return Ok(());

@@ -27,7 +27,7 @@ pub fn dis(alloc: Global, code: &[u8]) -> Result<Vec<u8>, AllocError>
     Ok(text)
 }
 
-/// The line of what stands in front, and how many bytes that has.
+/// The line of what stands at the start, and how many bytes that has.
 fn line_of(offset: usize, code: &[u8]) -> (Text, usize)
     requires { 0 < length code.now }
     ensures text { result.0 ≡ line offset (first_part code.now).0 }
@@ -104,7 +104,7 @@ fn hex_digit(digit: u8) -> u8
     }
 }
 
-/// The instruction in front, if one lies inside the code, and its length.
+/// The instruction at the start, if one lies inside the code, and its length.
 #[tactic(auto, unfolding(text_defs::specs::Listing::instruction_of))]
 fn instruction_of(code: &[u8]) -> Option<(Ins, u8)>
     ensures exact { result ≡ instruction_of code.now }

@@ -25,7 +25,7 @@ pub(crate) struct Numbers {
 
 /// The instruction whose text this line is, without its line feed. It takes no memory.
 ///
-/// The text is to be that of `show`, byte by byte: no other space, sign, zero in front or upper case.
+/// The text is to be that of `show`, byte by byte: no other space, sign, leading zero or upper case.
 pub fn read_line(line: &[u8]) -> Option<Ins>
     ensures found { IfSome result (λ i. FitsFormat i × (line.now ≡ texts.show i)) }
     ensures every { (i : Ins) → FitsFormat i → line.now ≡ texts.show i → result ≡ Some i }

@@ -64,7 +64,7 @@ inserted-type entries key hash place again after updates tells = updates ∙ by_
         (tells ∙ ap (λ (h : List ℕ). is_some (lookup (bytes_eq h) entries)) (same-is key hash same))
     by_test false same = refl
 
--- before any, and behind all
+-- before any, and after all
 pub data-none : (deps : List ResolvedValue) (hash : List ℕ) → None ≡ first_with_data hash (length deps - 0) (drop (length deps - 0) deps)
 unfolding first_with_data
 data-none deps hash = ap (first_with_data hash (length deps - 0)) (sym (drop_all (length deps - 0) deps (omega arith)))

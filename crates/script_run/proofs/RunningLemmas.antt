@@ -36,7 +36,7 @@ groups_in values = map (λ (it : GroupValue). it.group) values
 value-there : (values : List GroupValue) (i : ℕ) (value : GroupValue) → i < length values → value ≡ get_or values i value → slice_get values i ≡ Some value
 value-there values i value within is = slice_get-get_or values i value within ∙ ap Some (sym is)
 
--- those from a place on: the one that stands there, and those behind it
+-- those from a place on: the one that stands there, and those after it
 pub from-place : (values : List GroupValue) (i : ℕ) (value : GroupValue) → i < length values → value ≡ get_or values i value
     → drop i (groups_in values) ≡ value.group ∷ drop (suc i) (groups_in values)
 from-place values i value within is =

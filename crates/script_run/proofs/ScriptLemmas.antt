@@ -183,7 +183,7 @@ pub places-empty : (hash : List ℕ) (xs : List (Option Script)) → NoneHas has
 unfolding places_with
 places-empty hash xs none = none-placed hash 0 xs none
 
--- none of two lists, one behind the other
+-- none of two lists, one after the other
 pub none-front : (hash : List ℕ) (xs ys : List Script) → NoneHas hash (xs ++ ys) → NoneHas hash xs
 none-front hash [] ys none = tt
 none-front hash (x ∷ xs) ys none = (none.0, none-front hash xs ys none.1)

@@ -15,7 +15,7 @@ use Rattle.script_run.specs.Showing.{scene_shown}
 use Rattle.script_run.specs.Shown.{GroupValue, Shows}
 use Rattle.script_run.proofs.ShowingLemmas.{if-told, is-told, shown-over}
 
--- what was sought is found, over any scene that is shown
+-- what was looked for is found, over any scene that is shown
 abbrev pub Sought : ℕ → ResolvedTxValue → GroupValue → Call → Lookup → Type 0
 Sought epoch_length it group call look = (headers : ℕ → Option Header) (scene : Scene) → Shows it scene → ShowsHeaders headers it scene → scene.epoch_length ≡ epoch_length
     → IsFound headers epoch_length (items_of scene group call) look
@@ -46,7 +46,7 @@ some-kept (Some made) P some = (made, refl, some)
 pub kept : (stored : List Stored) (place : ℕ) (P : Header → Type 0) → IsSomeAnd (kept_header stored place) P → Kept stored place P
 kept stored place P some = let t = some-kept (slice_get stored place) P some in record { made = t.0; there = t.1; holds = t.2 }
 
--- kept blocks that are told have the block whose header was sought
+-- kept blocks that are told have the block whose header was looked for
 pub record BlockTold (epoch_length : ℕ) (it : ResolvedTxValue) (told : Option (List Stored)) (place : ℕ) : Type 0 where
   pub stored : List Stored
   pub told_are : told ≡ Some stored

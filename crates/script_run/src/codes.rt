@@ -69,8 +69,8 @@ fn places_by_data(alloc: Global, deps: &[Resolved]) -> Result<HashMap<[u8; 32], 
     ensures { (hash : List ℕ) → IfOk result (λ places. get bytes_eq places hash ≡ first_with_data hash 0 deps.now) }
 {
     let mut places = HashMap::new(alloc);
-    'deps: for behind in 0..deps.len() {
-        let place = deps.len() - 1 - behind;
+    'deps: for done in 0..deps.len() {
+        let place = deps.len() - 1 - done;
         let dep = &deps[place];
         let meta = &dep.meta;
         let hash = meta.data_hash;
@@ -84,8 +84,8 @@ fn places_by_type(alloc: Global, deps: &[Resolved]) -> Result<HashMap<[u8; 32], 
     ensures { (hash : List ℕ) → IfOk result (λ places. get bytes_eq places hash ≡ typed_with hash 0 deps.now) }
 {
     let mut places = HashMap::new(alloc);
-    'deps: for behind in 0..deps.len() {
-        let first = deps.len() - 1 - behind;
+    'deps: for done in 0..deps.len() {
+        let first = deps.len() - 1 - done;
         let dep = &deps[first];
         let meta = &dep.meta;
         let type_hash = meta.type_hash;

@@ -4,7 +4,7 @@ use Rattle.std.specs.Prelude.{Option, Some, None, IfSome, IsSome}
 use Rattle.std.proofs.lemmas.List.{map-append, take_more, take_all}
 use Rattle.outside.specs.Causes.{CountsFault, up_to_last}
 use Rattle.outside.specs.Image.{Image}
-use Rattle.outside.specs.Disk.{SameImages, HasOneImage, TellsAsBefore}
+use Rattle.outside.specs.Disk.{SameImages, HasOneImage, IsKnownAsBefore}
 use Rattle.verdict_defs.specs.Chain.{Chain, chain_over}
 use Rattle.node_core.specs.Node.{IsOnlyImage}
 use Rattle.node_core.specs.Steps.{moves_to_open, steps_over}
@@ -32,7 +32,7 @@ told_image (Some now) told = (now, refl)
 
 -- what a crash takes of images that each keep a prefix
 pub only_crashed : (chain : Chain) (items : List (List ℕ)) (acked : ℕ) (reads_old reads_new : Option Image) (old new : Image → Type 0) → IsSome reads_old
-    → TellsAsBefore reads_old reads_new → IfSome reads_new old → HasOneImage reads_new new → ((image : Image) → old image → KeepsPrefix chain items acked image)
+    → IsKnownAsBefore reads_old reads_new → IfSome reads_new old → HasOneImage reads_new new → ((image : Image) → old image → KeepsPrefix chain items acked image)
     → (count : ℕ) × IsKeptCount (length items) acked count × IsOnlyImage (chain_over chain (take count items)) reads_new new
 only_crashed chain items acked reads_old reads_new old new told same among one keeps =
     let now = told_image reads_new (same ∙ told) in
@@ -81,7 +81,7 @@ module _ {D : Type 0} (reads_as : D → Option Image) (images : D → Image → 
       → ((chain : Chain) → IsOnlyImage chain (reads_as ready) (images ready) → (image : Image) → images mid image → KeepsPrefix chain (items_in items) acked image)
       → IsEndOf (length items) acked end → CountsFault (faults ready) (faults mid) (end ≡ DiskFault)
       → ((chain : Chain) (only : IsOnlyImage chain (reads_as ready) (images ready)) → after ≤ before + moves_to_open only.now + steps_over chain (items_in items))
-      → IfSome (reads_as new) (images mid) → HasOneImage (reads_as new) (images new) → TellsAsBefore (reads_as mid) (reads_as new) → armed new ≡ None
+      → IfSome (reads_as new) (images mid) → HasOneImage (reads_as new) (images new) → IsKnownAsBefore (reads_as mid) (reads_as new) → armed new ≡ None
       → faults new ≡ faults mid → Is session acked end old new before after
   unfolding only_armed
   session_made session items acked end old ready mid new before after same reads rest unarmed told keeps ended counts most among one tells disarmed uncounted = record {

@@ -9,7 +9,7 @@ use Rattle.cell_defs.specs.Row.{live_row}
 use Rattle.outside.specs.declared.disk.Area.{Area}
 use Rattle.outside.specs.declared.disk.Area.TheVariants.{Log, SnapA, SnapB}
 use Rattle.snapshot_defs.specs.Snapshot.{Snapshot, snapshot_bytes, has_open_gate, Holds, area_of, IsOfBlocks, HoldsSound}
-use Rattle.snapshot_defs.specs.Laws.{GoesByParity, NoneInTheLog, AreasTakeTurns, ClosedIsSound, HeldIsSound, ItsBytesAreSound, SoundHoldsItsOwn, SoundHasItsNumber, IsOfItsTip, TellsItsRows}
+use Rattle.snapshot_defs.specs.Laws.{GoesByParity, NoneInTheLog, AreasTakeTurns, ClosedIsSound, HeldIsSound, ItsBytesAreSound, SoundHoldsItsOwn, SoundHasItsNumber, IsOfItsTip, ListsItsRows}
 use Rattle.snapshot_defs.proofs.Fields.{head_of, head-length, rows_bytes, in-parts}
 use Rattle.snapshot_defs.proofs.SnapshotLaws.{bytes-tell-snapshots, opens-its-gate, finds-itself}
 
@@ -101,7 +101,7 @@ same-values None None there back = refl
 same-values None (Some x) there back = back x refl
 same-values (Some x) other there back = sym (there x refl)
 
-pub tells-its-rows : TellsItsRows
+pub tells-its-rows : ListsItsRows
 tells-its-rows kept s rows is lists o =
     same-values (rows o) (live_row kept s.tip o) (λ row has. (is.rows.each o row).0 ((lists.each o row).1 has))
     (λ row has. (lists.each o row).0 ((is.rows.each o row).1 has))

@@ -3,13 +3,13 @@ use Rattle.std.proofs.Common.{◌≡◌, ℕ, ◌*◌, ◌<◌, ◌^◌, List, �
 use Rattle.std.proofs.lemmas.Bool.{lt-ltb}
 use Rattle.std.proofs.lemmas.Nat.{from_le_bytes-to_le_bytes_4}
 use Rattle.snapshot_defs.specs.Snapshot.{Snapshot, snapshot_bytes, body_bytes}
-use Rattle.snapshot_defs.specs.Laws.{BytesTellSnapshots, IsOpenWith, OpensItsGate, FindsItself}
+use Rattle.snapshot_defs.specs.Laws.{BytesDetermineSnapshots, IsOpenWith, OpensItsGate, FindsItself}
 use Rattle.snapshot_defs.proofs.Fields.{same-parts, same-rows, rows_bytes, rows-length, head-length, same-head, head_of, in-parts}
 
 same-snapshot : (one other : Snapshot) → one.number ≡ other.number → one.tip ≡ other.tip → one.hash ≡ other.hash → one.rows ≡ other.rows → one ≡ other
 same-snapshot one other number tip hash rows t = record { number = number t; tip = tip t; hash = hash t; rows = rows t }
 
-pub bytes-tell-snapshots : BytesTellSnapshots
+pub bytes-tell-snapshots : BytesDetermineSnapshots
 bytes-tell-snapshots bytes one other holds as_holds =
     let f = holds.form in
     let g = as_holds.form in

@@ -9,10 +9,10 @@ use Rattle.outside.specs.declared.disk.Area.TheVariants.{Log, SnapA, SnapB}
 use Rattle.snapshot_defs.specs.Snapshot.{Snapshot, HasForm, snapshot_bytes, has_open_gate, Holds, area_of, IsOfBlocks, IsSoundArea}
 
 -- Law: bytes hold at most one snapshot.
-abbrev pub BytesTellSnapshots : Type 0
-BytesTellSnapshots = (bytes : List ℕ) (one other : Snapshot) → Holds bytes one → Holds bytes other → one ≡ other
+abbrev pub BytesDetermineSnapshots : Type 0
+BytesDetermineSnapshots = (bytes : List ℕ) (one other : Snapshot) → Holds bytes one → Holds bytes other → one ≡ other
 
--- Law: its gate is open, and its number stands behind the gate.
+-- Law: its gate is open, and its number stands after the gate.
 pub record IsOpenWith (bytes : List ℕ) (s : Snapshot) : Type 0 where
   pub gate : has_open_gate bytes ≡ true
   pub number : count_at bytes 1 ≡ s.number
@@ -74,7 +74,7 @@ pub record Belongs (kept : List Block) (area : Area) (s : Snapshot) : Type 0 whe
 abbrev pub SoundHoldsItsOwn : Type 0
 SoundHoldsItsOwn = (kept : List Block) (area : Area) (bytes : List ℕ) (s : Snapshot) → IsSoundArea kept area bytes → Holds bytes s → Belongs kept area s
 
--- Law: behind the open gate of a sound area stands a number that belongs there, and as many bytes are there as come before the rows.
+-- Law: after the open gate of a sound area stands a number that belongs there, and as many bytes are there as come before the rows.
 abbrev pub SoundHasItsNumber : Type 0
 SoundHasItsNumber = (kept : List Block) (area : Area) (bytes : List ℕ) → IsSoundArea kept area bytes → has_open_gate bytes ≡ true
     → (area_of (count_at bytes 1) ≡ area) × (49 ≤ length bytes)
@@ -85,6 +85,6 @@ IsOfItsTip = (kept : List Block) (s : Snapshot) (tip : Block) (rows : OutPoint �
     → ((o : OutPoint) → rows o ≡ live_row kept s.tip o) → ListsRows rows s.rows → IsOfBlocks kept s
 
 -- Law: rows that are just those of a snapshot of the kept blocks are the rows of its tip's branch.
-abbrev pub TellsItsRows : Type 0
-TellsItsRows = (kept : List Block) (s : Snapshot) (rows : OutPoint → Option Row) → IsOfBlocks kept s → ListsRows rows s.rows
+abbrev pub ListsItsRows : Type 0
+ListsItsRows = (kept : List Block) (s : Snapshot) (rows : OutPoint → Option Row) → IsOfBlocks kept s → ListsRows rows s.rows
     → (o : OutPoint) → rows o ≡ live_row kept s.tip o

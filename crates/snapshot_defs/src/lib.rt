@@ -4,14 +4,14 @@
 //! bytes of an area are sound. How one is read and written is left to `snapshots`.
 #![tactic(auto)]
 
-ghost use Rattle.snapshot_defs.specs.Laws.{BytesTellSnapshots, OpensItsGate, FindsItself, StaysOfBlocks, StaysSound};
+ghost use Rattle.snapshot_defs.specs.Laws.{BytesDetermineSnapshots, OpensItsGate, FindsItself, StaysOfBlocks, StaysSound};
 ghost use Rattle.snapshot_defs.specs.Laws.{GoesByParity, NoneInTheLog, AreasTakeTurns};
-ghost use Rattle.snapshot_defs.specs.Laws.{ClosedIsSound, HeldIsSound, ItsBytesAreSound, SoundHoldsItsOwn, SoundHasItsNumber, IsOfItsTip, TellsItsRows};
+ghost use Rattle.snapshot_defs.specs.Laws.{ClosedIsSound, HeldIsSound, ItsBytesAreSound, SoundHoldsItsOwn, SoundHasItsNumber, IsOfItsTip, ListsItsRows};
 
-/// States what bytes hold: a snapshot behind an open gate, that of which they are made and no other, whatever stands after it.
+/// States what bytes hold: a snapshot after an open gate, that of which they are made and no other, whatever stands after it.
 /// It does nothing.
 pub fn bytes_of_snapshots()
-    ensures tell_snapshots { BytesTellSnapshots }
+    ensures bytes_determine_snapshots { BytesDetermineSnapshots }
     ensures opens_its_gate { OpensItsGate }
     ensures finds_itself { FindsItself }
 {}
@@ -40,5 +40,5 @@ pub fn sound_areas()
     ensures sound_holds_its_own { SoundHoldsItsOwn }
     ensures sound_has_its_number { SoundHasItsNumber }
     ensures is_of_its_tip { IsOfItsTip }
-    ensures tells_its_rows { TellsItsRows }
+    ensures lists_its_rows { ListsItsRows }
 {}

@@ -80,12 +80,12 @@ same-first (a ∷ rest) (b ∷ later) there same = ap (λ (l : List ℕ). slice_
 stays-closed : (size : ℕ) (bytes other : List ℕ) → IsClosed bytes → Torn 1 size bytes other → has_open_gate other ≡ false
 stays-closed size bytes other closed torn = no-gate other (λ is. closed.1 (sym (same-first bytes other closed.0 torn.before) ∙ is))
 
--- behind the gate the body was written
+-- after the gate the body was written
 after-gate : (body bytes : List ℕ) → 0 < length bytes → (after : List ℕ) × (drop 1 (written 1 body bytes) ≡ body ++ after)
 after-gate body [] there = absurd (omega (arith, there))
 after-gate body (a ∷ rest) there = (drop (1 + length body) (a ∷ rest), refl)
 
--- while the gate opens, it is closed, or the body stands behind it
+-- while the gate opens, it is closed, or the body stands after it
 opens : (body bytes other : List ℕ) → 0 < length bytes → Torn 0 1 (written 1 body bytes) other → IsClosedOr (HoldsBody body) other
 opens body bytes other there torn = by other refl
   where
@@ -172,7 +172,7 @@ while-closed area (Some now) images images1 n into told same durable long read b
     let here : NeedsClosing (content area before) = subst NeedsClosing (sym (durable before first)) needs in
     (before, first, (bytes, closing (content area before) bytes here torn, is))
 
--- ---- The snapshot behind a gate
+-- ---- The snapshot after a gate
 
 pub holds-new : (number tip : ℕ) (hash : List ℕ) (rows : OutPoint → Option Row) (body bytes : List ℕ) → IsBodyOf number tip hash rows body → HoldsBody body bytes
     → HoldsNew number tip hash rows bytes

@@ -11,7 +11,7 @@ use Rattle.outside.specs.declared.disk.ReadStop.{ReadStop}
 use Rattle.outside.specs.declared.disk.ReadStop.TheVariants.{Damaged}
 use Rattle.outside.specs.Image.{Image, content}
 use Rattle.snapshot_defs.specs.Snapshot.{has_open_gate}
-use Rattle.snapshots.specs.Reading.{TellsHead, row_count, damage_in}
+use Rattle.snapshots.specs.Reading.{AnswersHead, row_count, damage_in}
 
 -- the first two bytes tell whether the gate is open
 pub open-by : (n : ℕ) (bytes : List ℕ) → has_open_gate (take (suc (suc n)) bytes) ≡ has_open_gate bytes
@@ -62,8 +62,8 @@ counted-of bytes first count is by =
 -- ---- Answers
 
 pub damaged-head : (area : Area) (bytes : List ℕ) (stop : ReadStop) → stop ≡ Damaged (damage_in area) → has_open_gate bytes ≡ true → length bytes < 49
-    → TellsHead area bytes (Err stop)
-damaged-head area bytes stop is opened short = subst (λ (s : ReadStop). TellsHead area bytes (Err s)) (sym is) (opened, short, refl)
+    → AnswersHead area bytes (Err stop)
+damaged-head area bytes stop is opened short = subst (λ (s : ReadStop). AnswersHead area bytes (Err s)) (sym is) (opened, short, refl)
 
 -- what is told of all bytes that begin so, of those of the area
 pub as-read : (P : List ℕ → Type 0) (area : Area) (reads : Option Image) (first : List ℕ) (len size : ℕ) → len ≡ size

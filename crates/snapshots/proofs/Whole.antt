@@ -18,7 +18,7 @@ use Rattle.snapshot_defs.specs.Snapshot.{Snapshot, has_open_gate, Holds}
 use Rattle.snapshot_defs.proofs.Fields.{rows_bytes, rows-length, head_bytes, head-length, same-head, head_of, in-parts}
 use Rattle.snapshots.specs.declared.head.Head.{Head}
 use Rattle.snapshots.specs.Rows.{IsHeld, AreRows, HasRows}
-use Rattle.snapshots.specs.Reading.{AreWithin, IsHead, has_hash, has_tip, row_count, HasSpaceFor, AreRowBytes, IsOfTree, IsRead, IsDamaged, FewSteps, TellsHead, TellsShort, TellsSnapshot, damage_in}
+use Rattle.snapshots.specs.Reading.{AreWithin, IsHead, has_hash, has_tip, row_count, HasSpaceFor, AreRowBytes, IsOfTree, IsRead, IsDamaged, FewSteps, AnswersHead, AnswersShort, AnswersSnapshot, damage_in}
 use Rattle.snapshots.proofs.Heads.{open-by}
 
 abbrev snapshot_of : Head → List (OutPoint × Row) → Snapshot
@@ -132,18 +132,18 @@ no-steps : (bytes : List ℕ) (before : ℕ) → FewSteps bytes before before
 no-steps bytes before = (omega arith, omega arith)
 
 damaged-as : (area : Area) (entries : List Entry) (bytes : List ℕ) (before after : ℕ) (stop : ReadStop) → stop ≡ Damaged (damage_in area)
-    → IsDamaged entries bytes → FewSteps bytes before after → TellsSnapshot area entries bytes before after (Err stop)
+    → IsDamaged entries bytes → FewSteps bytes before after → AnswersSnapshot area entries bytes before after (Err stop)
 damaged-as area entries bytes before after stop is damaged few =
-    subst (λ (s : ReadStop). TellsSnapshot area entries bytes before after (Err s)) (sym is) (damaged, refl, few)
+    subst (λ (s : ReadStop). AnswersSnapshot area entries bytes before after (Err s)) (sym is) (damaged, refl, few)
 
 pub told-none : (area : Area) (entries : List Entry) (reads : Option Image) (before : ℕ) → IfSome reads (λ image. has_open_gate (content area image) ≡ false)
-    → IfSome reads (λ image. TellsSnapshot area entries (content area image) before before (Ok None))
+    → IfSome reads (λ image. AnswersSnapshot area entries (content area image) before before (Ok None))
 told-none area entries None before gate = tt
 told-none area entries (Some image) before gate = (gate, refl)
 
 pub told-other-tip : (area : Area) (entries : List Entry) (reads : Option Image) (head : Head) (before : ℕ) (stop : ReadStop) → stop ≡ Damaged (damage_in area)
     → IfSome reads (λ image. IsHead (content area image) head) → has_tip entries head.tip head.hash ≡ false
-    → IfSome reads (λ image. TellsSnapshot area entries (content area image) before before (Err stop))
+    → IfSome reads (λ image. AnswersSnapshot area entries (content area image) before before (Err stop))
 told-other-tip area entries None head before stop is h none = tt
 told-other-tip area entries (Some image) head before stop is h none =
     damaged-as area entries (content area image) before before stop is (other-tip entries (content area image) head h none) (no-steps (content area image) before)
@@ -152,7 +152,7 @@ pub told-no-rows : (area : Area) (entries : List Entry) (reads mid : Option Imag
     → stop ≡ Damaged (damage_in area) → mid ≡ reads → IfSome reads (λ image. IsHead (content area image) head)
     → IfSome mid (λ image. AreRowBytes head.count (content area image) found)
     → ((list : List (OutPoint × Row)) → AreRows (length entries) head.count found list → ⊥) → before ≤ after → after ≤ before + head.count
-    → IfSome reads (λ image. TellsSnapshot area entries (content area image) before after (Err stop))
+    → IfSome reads (λ image. AnswersSnapshot area entries (content area image) before after (Err stop))
 told-no-rows area entries None mid head found before after stop is same h there refused later most = tt
 told-no-rows area entries (Some image) mid head found before after stop is same h there refused later most =
     let here : AreRowBytes head.count (content area image) found = subst (λ (o : Option Image). IfSome o (λ i. AreRowBytes head.count (content area i) found)) same there in
@@ -174,24 +174,24 @@ with-space : (bytes : List ℕ) (head : Head) → IsHead bytes head → HasSpace
 with-space bytes head h space = subst (λ (n : ℕ). HasSpaceFor n bytes) h.counted space
 
 pub told-short : (area : Area) (entries : List Entry) (reads mid : Option Image) (head : Head) (before : ℕ) (stop : ReadStop) → mid ≡ reads
-    → IfSome reads (λ image. IsHead (content area image) head) → IfSome mid (λ image. TellsShort area head.count (content area image) stop)
-    → IfSome reads (λ image. TellsSnapshot area entries (content area image) before before (Err stop))
+    → IfSome reads (λ image. IsHead (content area image) head) → IfSome mid (λ image. AnswersShort area head.count (content area image) stop)
+    → IfSome reads (λ image. AnswersSnapshot area entries (content area image) before before (Err stop))
 told-short area entries None mid head before stop same h short = tt
 told-short area entries (Some image) mid head before stop same h short =
-    by stop (subst (λ (o : Option Image). IfSome o (λ i. TellsShort area head.count (content area i) stop)) same short)
+    by stop (subst (λ (o : Option Image). IfSome o (λ i. AnswersShort area head.count (content area i) stop)) same short)
   where
-    by : (s : ReadStop) → TellsShort area head.count (content area image) s → TellsSnapshot area entries (content area image) before before (Err s)
+    by : (s : ReadStop) → AnswersShort area head.count (content area image) s → AnswersSnapshot area entries (content area image) before before (Err s)
     by DiskFault is = refl
     by NoMemory is = (gate-open (content area image) head h, with-space (content area image) head h is, refl)
     by (Damaged damage) is = (too-short entries (content area image) head h is.0, is.1, no-steps (content area image) before)
 
 pub told-no-head : (area : Area) (entries : List Entry) (reads : Option Image) (before : ℕ) (stop : ReadStop)
-    → IfSome reads (λ image. TellsHead area (content area image) (Err stop))
-    → IfSome reads (λ image. TellsSnapshot area entries (content area image) before before (Err stop))
+    → IfSome reads (λ image. AnswersHead area (content area image) (Err stop))
+    → IfSome reads (λ image. AnswersSnapshot area entries (content area image) before before (Err stop))
 told-no-head area entries None before stop tells = tt
 told-no-head area entries (Some image) before stop tells = by stop tells
   where
-    by : (s : ReadStop) → TellsHead area (content area image) (Err s) → TellsSnapshot area entries (content area image) before before (Err s)
+    by : (s : ReadStop) → AnswersHead area (content area image) (Err s) → AnswersSnapshot area entries (content area image) before before (Err s)
     by DiskFault is = refl
     by NoMemory is = absurd is
     by (Damaged damage) is = (short-head entries (content area image) is.0 is.1, is.2, no-steps (content area image) before)
@@ -250,5 +250,5 @@ not-fewer P area (Some image) mid len size n into same long there space few read
     ))
 
 pub its-head : (area : Area) (reads : Option Image) (found : Option Head) (head : Head) → found ≡ Some head
-    → IfSome reads (λ image. TellsHead area (content area image) (Ok found)) → IfSome reads (λ image. IsHead (content area image) head)
-its-head area reads found head is tells = subst (λ (f : Option Head). IfSome reads (λ image. TellsHead area (content area image) (Ok f))) is tells
+    → IfSome reads (λ image. AnswersHead area (content area image) (Ok found)) → IfSome reads (λ image. IsHead (content area image) head)
+its-head area reads found head is tells = subst (λ (f : Option Head). IfSome reads (λ image. AnswersHead area (content area image) (Ok f))) is tells

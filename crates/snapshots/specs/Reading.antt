@@ -23,13 +23,13 @@ damage_in area = record { area = area; at = 0 }
 
 -- ---- The number
 
--- The number stands behind an open gate; where the area is too short for it, it is damaged.
-abbrev pub TellsNumber : Area → List ℕ → Result (Option ℕ) ReadStop → Type 0
-TellsNumber area bytes (Ok None) = has_open_gate bytes ≡ false
-TellsNumber area bytes (Ok (Some number)) = (has_open_gate bytes ≡ true) × (5 ≤ length bytes) × (number ≡ count_at bytes 1)
-TellsNumber area bytes (Err DiskFault) = Unit
-TellsNumber area bytes (Err NoMemory) = ⊥
-TellsNumber area bytes (Err (Damaged damage)) = (has_open_gate bytes ≡ true) × (length bytes < 5) × (damage ≡ damage_in area)
+-- The number stands after an open gate; where the area is too short for it, it is damaged.
+abbrev pub AnswersNumber : Area → List ℕ → Result (Option ℕ) ReadStop → Type 0
+AnswersNumber area bytes (Ok None) = has_open_gate bytes ≡ false
+AnswersNumber area bytes (Ok (Some number)) = (has_open_gate bytes ≡ true) × (5 ≤ length bytes) × (number ≡ count_at bytes 1)
+AnswersNumber area bytes (Err DiskFault) = Unit
+AnswersNumber area bytes (Err NoMemory) = ⊥
+AnswersNumber area bytes (Err (Damaged damage)) = (has_open_gate bytes ≡ true) × (length bytes < 5) × (damage ≡ damage_in area)
 
 -- ---- What stands before the rows
 
@@ -51,12 +51,12 @@ pub record IsHead (bytes : List ℕ) (head : Head) : Type 0 where
   pub counted : head.count ≡ row_count bytes
   pub parts : take 49 bytes ≡ 1 ∷ (to_le_bytes w32 head.number ++ (to_le_bytes w32 head.tip ++ (head.hash ++ to_le_bytes w64 head.count)))
 
-abbrev pub TellsHead : Area → List ℕ → Result (Option Head) ReadStop → Type 0
-TellsHead area bytes (Ok None) = has_open_gate bytes ≡ false
-TellsHead area bytes (Ok (Some head)) = IsHead bytes head
-TellsHead area bytes (Err DiskFault) = Unit
-TellsHead area bytes (Err NoMemory) = ⊥
-TellsHead area bytes (Err (Damaged damage)) = (has_open_gate bytes ≡ true) × (length bytes < 49) × (damage ≡ damage_in area)
+abbrev pub AnswersHead : Area → List ℕ → Result (Option Head) ReadStop → Type 0
+AnswersHead area bytes (Ok None) = has_open_gate bytes ≡ false
+AnswersHead area bytes (Ok (Some head)) = IsHead bytes head
+AnswersHead area bytes (Err DiskFault) = Unit
+AnswersHead area bytes (Err NoMemory) = ⊥
+AnswersHead area bytes (Err (Damaged damage)) = (has_open_gate bytes ≡ true) × (length bytes < 49) × (damage ≡ damage_in area)
 
 abbrev pub has_hash : Option Entry → List ℕ → Bool
 has_hash None hash = false
@@ -73,10 +73,10 @@ abbrev pub AreRowBytes : ℕ → List ℕ → List ℕ → Type 0
 AreRowBytes count bytes found = HasSpaceFor count bytes × (found ≡ take (161 * count) (drop 49 bytes))
 
 -- By the stop: the area is too short for so many rows. Memory is taken only where it is not.
-abbrev pub TellsShort : Area → ℕ → List ℕ → ReadStop → Type 0
-TellsShort area count bytes DiskFault = Unit
-TellsShort area count bytes NoMemory = HasSpaceFor count bytes
-TellsShort area count bytes (Damaged damage) = (length bytes < 49 + 161 * count) × (damage ≡ damage_in area)
+abbrev pub AnswersShort : Area → ℕ → List ℕ → ReadStop → Type 0
+AnswersShort area count bytes DiskFault = Unit
+AnswersShort area count bytes NoMemory = HasSpaceFor count bytes
+AnswersShort area count bytes (Damaged damage) = (length bytes < 49 + 161 * count) × (damage ≡ damage_in area)
 
 -- ---- The whole
 
@@ -105,13 +105,13 @@ FewSteps bytes before after = (before ≤ after) × (161 * after ≤ 161 * befor
 
 -- By the answer: no open gate, the snapshot that the area holds, or that it holds none. Memory is taken only where the area is as long as its count of
 -- rows says.
-abbrev pub TellsSnapshot : Area → List Entry → List ℕ → ℕ → ℕ → Result (Option (ℕ × ℕ × StateValue)) ReadStop → Type 0
-TellsSnapshot area entries bytes before after (Ok None) = (has_open_gate bytes ≡ false) × (after ≡ before)
-TellsSnapshot area entries bytes before after (Ok (Some (number, tip, state))) = (s : Snapshot) × IsRead entries bytes before after number tip state s
-TellsSnapshot area entries bytes before after (Err DiskFault) = after ≡ before
-TellsSnapshot area entries bytes before after (Err NoMemory) =
+abbrev pub AnswersSnapshot : Area → List Entry → List ℕ → ℕ → ℕ → Result (Option (ℕ × ℕ × StateValue)) ReadStop → Type 0
+AnswersSnapshot area entries bytes before after (Ok None) = (has_open_gate bytes ≡ false) × (after ≡ before)
+AnswersSnapshot area entries bytes before after (Ok (Some (number, tip, state))) = (s : Snapshot) × IsRead entries bytes before after number tip state s
+AnswersSnapshot area entries bytes before after (Err DiskFault) = after ≡ before
+AnswersSnapshot area entries bytes before after (Err NoMemory) =
     (has_open_gate bytes ≡ true) × HasSpaceFor (row_count bytes) bytes × (after ≡ before)
-TellsSnapshot area entries bytes before after (Err (Damaged damage)) = IsDamaged entries bytes × (damage ≡ damage_in area) × FewSteps bytes before after
+AnswersSnapshot area entries bytes before after (Err (Damaged damage)) = IsDamaged entries bytes × (damage ≡ damage_in area) × FewSteps bytes before after
 
 -- The tip and each row are of kept blocks, whatever the disk tells.
 pub record AreWithin (entries : List Entry) (tip : ℕ) (state : StateValue) : Type 0 where

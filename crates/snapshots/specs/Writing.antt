@@ -58,7 +58,7 @@ HasAnyArea area images = HasArea area (λ bytes. Unit {0}) images
 
 -- ---- Its body
 
--- bytes behind an open gate, whatever follows
+-- bytes after an open gate, whatever follows
 abbrev pub HoldsBody : List ℕ → List ℕ → Type 0
 HoldsBody body bytes = (after : List ℕ) × (bytes ≡ 1 ∷ body ++ after)
 

@@ -7,7 +7,7 @@ ghost use Rattle.outside.specs.Causes.{CountsFault};
 ghost use Rattle.outside.specs.Image.{content};
 ghost use Rattle.outside.specs.declared.disk.ReadStop.TheVariants.{DiskFault, NoMemory as no_memory};
 ghost use Rattle.snapshot_defs.specs.Snapshot.{has_open_gate};
-ghost use Rattle.snapshots.specs.Reading.{TellsNumber, TellsHead};
+ghost use Rattle.snapshots.specs.Reading.{AnswersNumber, AnswersHead};
 
 use crate::area::damaged;
 use outside::{Area, Disk, ReadStop};
@@ -65,9 +65,9 @@ pub(crate) fn is_open(first: &[u8]) -> bool
     first.len() > 1 && first[0] == 1
 }
 
-/// The number behind an open gate, by the first 5 bytes of an area or as many as it has.
+/// The number after an open gate, by the first 5 bytes of an area or as many as it has.
 fn number_in(area: Area, first: &[u8]) -> Result<Option<u32>, ReadStop>
-    ensures number { (bytes : List ℕ) → first.now ≡ take 5 bytes → TellsNumber area bytes result }
+    ensures number { (bytes : List ℕ) → first.now ≡ take 5 bytes → AnswersNumber area bytes result }
     ensures no_memory { result ≡ Err no_memory → ⊥ }
     ensures no_fault { result ≡ Err DiskFault → ⊥ }
 {
@@ -83,7 +83,7 @@ fn number_in(area: Area, first: &[u8]) -> Result<Option<u32>, ReadStop>
 /// The number of the snapshot in an area, or None where its gate is not open. It takes no memory, and makes one call of the
 /// disk.
 pub fn number<D: Disk>(disk: &mut D, area: Area) -> Result<Option<u32>, ReadStop>
-    ensures number { IfSome (D.reads_as disk.old) (λ image. TellsNumber area (content area image) result) }
+    ensures number { IfSome (D.reads_as disk.old) (λ image. AnswersNumber area (content area image) result) }
     ensures no_memory { result ≡ Err no_memory → ⊥ }
     ensures content { D.content_of disk.new ≡ D.content_of disk.old }
     ensures cause { CountsFault (D.faults disk.old) (D.faults disk.new) (result ≡ Err DiskFault) }
@@ -97,7 +97,7 @@ pub fn number<D: Disk>(disk: &mut D, area: Area) -> Result<Option<u32>, ReadStop
 
 /// What stands before the rows, by the first 49 bytes of an area or as many as it has. None where its gate is not open.
 fn head_in(area: Area, first: &[u8]) -> Result<Option<Head>, ReadStop>
-    ensures head { (bytes : List ℕ) → first.now ≡ take 49 bytes → TellsHead area bytes result }
+    ensures head { (bytes : List ℕ) → first.now ≡ take 49 bytes → AnswersHead area bytes result }
     ensures no_fault { result ≡ Err DiskFault → ⊥ }
 {
     if !is_open(first) {
@@ -116,7 +116,7 @@ fn head_in(area: Area, first: &[u8]) -> Result<Option<Head>, ReadStop>
 
 /// Reads what stands before the rows. None where the gate is not open.
 pub(crate) fn read_head<D: Disk>(disk: &mut D, area: Area) -> Result<Option<Head>, ReadStop>
-    ensures head { IfSome (D.reads_as disk.old) (λ image. TellsHead area (content area image) result) }
+    ensures head { IfSome (D.reads_as disk.old) (λ image. AnswersHead area (content area image) result) }
     ensures content { D.content_of disk.new ≡ D.content_of disk.old }
     ensures cause { CountsFault (D.faults disk.old) (D.faults disk.new) (result ≡ Err DiskFault) }
 {

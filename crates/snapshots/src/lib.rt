@@ -1,7 +1,7 @@
 //! Snapshots on the disk (docs/STORE.md, "A snapshot"): the live cells of a branch are written to an area and read back, so
 //! that a crash at any moment leaves there no open gate, or a whole snapshot.
 //!
-//! The contract of use: [`close`] closes the gate of an area, and [`write`] puts a snapshot behind a closed one, in four calls
+//! The contract of use: [`close`] closes the gate of an area, and [`write`] puts a snapshot after a closed one, in four calls
 //! of the disk; both say of each moment what a crash may leave. [`number`] tells which snapshot an area holds, and [`read`]
 //! answers its number, its tip and a [`State`](cell_state::State) with its rows, exactly, or that the area is damaged. When a
 //! snapshot is written, and which of two is loaded, is left to the layer above.

@@ -3,7 +3,7 @@ ghost use Rattle.std.specs.Prelude.{◌≡◌, ◌+◌, ◌*◌, ◌<◌, ◌≤
 ghost use Rattle.outside.specs.Causes.{CountsFault};
 ghost use Rattle.outside.specs.Image.{content};
 ghost use Rattle.outside.specs.declared.disk.ReadStop.TheVariants.{DiskFault};
-ghost use Rattle.snapshots.specs.Reading.{AreRowBytes, TellsShort, TellsSnapshot, row_count, has_tip, AreWithin};
+ghost use Rattle.snapshots.specs.Reading.{AreRowBytes, AnswersShort, AnswersSnapshot, row_count, has_tip, AreWithin};
 
 use crate::area::damaged;
 use crate::head::{HEAD_SIZE, Head, read_head};
@@ -41,7 +41,7 @@ fn read_rows<D: Disk>(
     count: u64,
 ) -> Result<Vec<u8>, ReadStop>
     ensures rows { IfSome (D.reads_as disk.old) (λ image. IfOk result (λ bytes. AreRowBytes count (content area image) bytes.items)) }
-    ensures short { IfSome (D.reads_as disk.old) (λ image. IfErr result (TellsShort area count (content area image))) }
+    ensures short { IfSome (D.reads_as disk.old) (λ image. IfErr result (AnswersShort area count (content area image))) }
     ensures size { IfOk result (λ bytes. length bytes.items ≡ 161 * count) }
     ensures content { D.content_of disk.new ≡ D.content_of disk.old }
     ensures cause { CountsFault (D.faults disk.old) (D.faults disk.new) (result ≡ Err DiskFault) }
@@ -78,7 +78,7 @@ pub fn read<D: Disk, L: Ledger>(
     tree: &Tree,
     steps: &mut Steps<L>,
 ) -> Result<Option<(u32, u32, State)>, ReadStop>
-    ensures snapshot { IfSome (D.reads_as disk.old) (λ image. TellsSnapshot area tree.now.entries (content area image) steps.old steps.new result) }
+    ensures snapshot { IfSome (D.reads_as disk.old) (λ image. AnswersSnapshot area tree.now.entries (content area image) steps.old steps.new result) }
     ensures within { IfOk result (λ found. IfSome found (λ it. AreWithin tree.now.entries it.1 it.2)) }
     // Whatever is answered, it takes no more steps than the area counts rows.
     ensures most { IfSome (D.reads_as disk.old) (λ image. steps.new ≤ steps.old + row_count (content area image)) }

@@ -45,14 +45,14 @@ pub same_hash : (b read : Block) → decoded block (encoded block b) ≡ Some re
 unfolding header_hash
 same_hash b read is = ap ckbhash (same_header_bytes b read is)
 
-take_front : (n : ℕ) (front back : List ℕ) → length front ≡ n → take n (front ++ back) ≡ front
-take_front n [] back is = rw (sym is) refl
-take_front n (x ∷ front) back is = rw (sym is) (ap (λ (l : List ℕ). x ∷ l) (take_front (length front) front back refl))
+take_prefix : (n : ℕ) (front back : List ℕ) → length front ≡ n → take n (front ++ back) ≡ front
+take_prefix n [] back is = rw (sym is) refl
+take_prefix n (x ∷ front) back is = rw (sym is) (ap (λ (l : List ℕ). x ∷ l) (take_prefix (length front) front back refl))
 
 -- where the parent's hash stands in a header
 parent_in : (h : Header) → length h.parent_hash ≡ 32 → take 32 (drop 32 (encoded header h)) ≡ h.parent_hash
 unfolding header
-parent_in h is = take_front 32 h.parent_hash _ is
+parent_in h is = take_prefix 32 h.parent_hash _ is
 
 abbrev header_fields : Header → List Encoding
 header_fields h =

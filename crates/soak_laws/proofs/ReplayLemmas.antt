@@ -21,7 +21,7 @@ use Rattle.soak_laws.specs.Laws.{NoneHasHash, NamesNoLater, PrefixesReplay, Join
 
 -- ---- Places
 
--- a place that is found is so with more blocks behind
+-- a place that is found is so with more blocks after
 place_of-more : (kept more : List Block) (hash : List ℕ) (place : ℕ) → place_of kept hash ≡ Some place → place_of (kept ++ more) hash ≡ Some place
 place_of-more kept [] hash place is = ap (λ (blocks : List Block). place_of blocks hash) (append-nil kept) ∙ is
 place_of-more kept (b ∷ more) hash place is =
@@ -29,7 +29,7 @@ place_of-more kept (b ∷ more) hash place is =
     ∙ place_of-more (kept ++ b ∷ []) more hash place
     (place_of-push kept b hash ∙ ap (λ (found : Option ℕ). option_or found (cond (bytes_eq (block_hash b) hash) (Some (length kept)) None)) is)
 
--- one that is not found with more blocks behind is not found without them
+-- one that is not found with more blocks after is not found without them
 place_of-fewer : (kept more : List Block) (hash : List ℕ) → place_of (kept ++ more) hash ≡ None → place_of kept hash ≡ None
 place_of-fewer kept more hash none = by_found (place_of kept hash) refl
   where
@@ -41,7 +41,7 @@ or_none : (found : Option ℕ) → option_or found None ≡ found
 or_none None = refl
 or_none (Some place) = refl
 
--- what is found is as before with a block behind that has another hash
+-- what is found is as before with a block after that has another hash
 place_of-other : (kept : List Block) (b : Block) (hash : List ℕ) → (block_hash b ≡ hash → ⊥) → place_of (kept ++ b ∷ []) hash ≡ place_of kept hash
 place_of-other kept b hash other =
     let test : bytes_eq (block_hash b) hash ≡ false = false_from_ne_true (bytes_eq (block_hash b) hash) (λ same. other ((bytes_eq-Decides (block_hash b) hash).0 same)) in

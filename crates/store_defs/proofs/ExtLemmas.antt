@@ -41,7 +41,7 @@ fees-within ext =
     let spent : List ℕ = concat (map row_bytes ext.spent) in
     omega (arith, length-append ((count ++ fees) ++ rows) spent, length-append (count ++ fees) rows, length-append count fees, length-fees ext.fees)
 
--- The count at the front is that of the fees.
+-- The count at the start is that of the fees.
 pub counts-fees : (ext : Ext) → length ext.fees < 2 ^ 32 → count_at (ext_bytes ext) 0 ≡ length ext.fees
 unfolding ext_bytes
 counts-fees ext fits = from_le_bytes-to_le_bytes_4 (length ext.fees) fits
@@ -243,7 +243,7 @@ pub record HoldsItsExt (r : Record) (b : Block) : Type 0 where
   pub holds : HoldsBlock r b
   pub fees : count_at holds.ext 0 ≡ length b.transactions - 1
 
--- So does each record of a log whose blocks joined, for the block at its place behind the genesis.
+-- So does each record of a log whose blocks joined, for the block at its place after the genesis.
 pub exts_of_log : (bytes : List ℕ) (log : LogContent) → log_of bytes ≡ Some log → EachHasJoined log → (place : ℕ) (r : Record) (b : Block)
     → slice_get log.records place ≡ Some r → block_at log.blocks (place + 1) ≡ Some b → HasFittingBody r → HoldsItsExt r b
 exts_of_log bytes log is_log each place r b there here fits =

@@ -76,7 +76,7 @@ joined_after chain item joined = by_joins (joins (verdict chain.spec chain.block
 
 -- ---- The genesis of a log
 
--- what stands behind blocks has them in front
+-- what stands after blocks has them in front
 pub over-front : (kept : List Block) (records : List Record) (all : List Block) → blocks_over kept records ≡ Some all
     → (more : List Block) × (all ≡ kept ++ more)
 over-front kept [] all over = ([], let same : kept ≡ all = (cc) in sym same ∙ sym (append-nil kept))
@@ -133,7 +133,7 @@ content_of_log bytes log says = by_test (bytes_eq (take 8 bytes) magic) says
     by_test false says = absurd (cc)
     by_test true says = says
 
--- ---- The blocks behind it
+-- ---- The blocks after it
 
 -- Where what is kept after an item is one more, the item could join, and the block at the end is its own.
 pub joined_item : (spec : Specification) (kept : List Block) (item : List ℕ) → length (kept_after spec kept item) ≡ length kept + 1
@@ -164,7 +164,7 @@ item_of_record log before r b has there =
     let same : can.block ≡ b = (cc) in
     (can, same)
 
--- The block at a place behind the genesis could join over those before it.
+-- The block at a place after the genesis could join over those before it.
 block_joined : (log : LogContent) → EachHasJoined log → length log.blocks ≡ length log.records + 1
     → (before : ℕ) (b : Block) → block_at log.blocks (before + 1) ≡ Some b → MayJoin (chain_of log).spec (take (before + 1) log.blocks) b
 block_joined log each count before b there =

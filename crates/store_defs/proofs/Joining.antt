@@ -18,7 +18,7 @@ use Rattle.log_defs.specs.Log.{body_of_parts, parts_of_body, may_stand_on, block
 use Rattle.store_defs.specs.JoinLaws.{TakesWhatJoins}
 use Rattle.log_defs.proofs.Contents.{gives_the_parts}
 
--- A block that may join may stand behind the kept ones.
+-- A block that may join may stand after the kept ones.
 pub may_stand : (spec : Specification) (kept : List Block) (b : Block) → MayJoin spec kept b → may_stand_on kept b ≡ true
 may_stand spec kept b may =
     let last : parent_of (branch kept may.parent) ≡ block_at kept may.parent =

@@ -10,7 +10,7 @@ use Rattle.store_defs.specs.Store.{ext_over}
 abbrev pub record_over : Chain → List ℕ → Record
 record_over chain item = record { kind = 3; body = body_of_parts item (ext_over chain item) }
 
--- Law: the record of an item that can join a chain, with an ext of the right form, is one of its block, which may stand behind the kept ones.
+-- Law: the record of an item that can join a chain, with an ext of the right form, is one of its block, which may stand after the kept ones.
 abbrev pub TakesWhatJoins : Type 0
 TakesWhatJoins = (chain : Chain) (item : List ℕ) (can : CanJoin chain.spec chain.blocks item) → length item < 2 ^ 31 → IsTrue (is_ext (ext_over chain item))
     → block_of_record chain.blocks (record_over chain item) ≡ Some can.block

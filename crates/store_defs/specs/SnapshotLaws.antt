@@ -14,7 +14,7 @@ abbrev pub StaysSoundAfterAnItem : Type 0
 StaysSoundAfterAnItem = (chain : Chain) (item : List ℕ) (area : Area) (bytes : List ℕ) → IsSoundArea chain.blocks area bytes
     → IsSoundArea (chain_after chain item).blocks area bytes
 
--- The bytes of LOG keep just this chain, each block behind the genesis joined over those before it.
+-- The bytes of LOG keep just this chain, each block after the genesis joined over those before it.
 pub record IsLogOf (chain : Chain) (bytes : List ℕ) : Type 0 where
   pub log : LogContent
   pub is_log : log_of bytes ≡ Some log

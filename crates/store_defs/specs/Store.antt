@@ -62,7 +62,7 @@ pub record HasJoined (before : Chain) (r : Record) (after : Chain) : Type 0 wher
   pub kept : after ≡ chain_after before item
   pub grown : length after.blocks ≡ length before.blocks + 1
 
--- A chain has joined: its genesis keeps the rules on one, and each block behind it could join over those before it.
+-- A chain has joined: its genesis keeps the rules on one, and each block after it could join over those before it.
 pub record IsJoined (chain : Chain) : Type 0 where
   pub genesis : Block
   pub first : block_at chain.blocks 0 ≡ Some genesis
@@ -87,11 +87,11 @@ pub record AreJoined (chain : Chain) (exts : List (List ℕ)) : Type 0 where
 abbrev pub chain_before : LogContent → ℕ → Chain
 chain_before log count = record { spec = specification_of log.specification; blocks = take count log.blocks }
 
--- A log is sound: each block behind the genesis joined over those before it.
+-- A log is sound: each block after the genesis joined over those before it.
 abbrev pub EachHasJoined : LogContent → Type 0
 EachHasJoined log = (place : ℕ) (r : Record) → slice_get log.records place ≡ Some r → HasJoined (chain_before log (place + 1)) r (chain_before log (place + 2))
 
--- An image stands for a chain: its log keeps just this, each block behind the genesis joined over those before it; and where the gate of an area of
+-- An image stands for a chain: its log keeps just this, each block after the genesis joined over those before it; and where the gate of an area of
 -- snapshots is open, the area holds a snapshot of the chain's blocks that belongs there.
 pub record StandsFor (chain : Chain) (image : Image) : Type 0 where
   pub log : LogContent
@@ -105,7 +105,7 @@ pub record StandsFor (chain : Chain) (image : Image) : Type 0 where
 abbrev pub HasNoSnapshots : Image → Type 0
 HasNoSnapshots image = (image.snap_a ≡ []) × (image.snap_b ≡ [])
 
--- The image of a new store: its log is that of these two items, with not a byte behind it, and no snapshot is there.
+-- The image of a new store: its log is that of these two items, with not a byte after it, and no snapshot is there.
 abbrev pub new_image : List ℕ → List ℕ → Image
 new_image specification genesis = record { log = new_log specification genesis; snap_a = []; snap_b = [] }
 

@@ -17,14 +17,14 @@ abbrev pub StandsAsItSays : Type 0
 StandsAsItSays = (chain : Chain) (image : Image) (bytes : List ℕ) → StandsFor chain image → log_of bytes ≡ log_of image.log
     → StandsFor chain (with_content Log bytes image)
 
--- Law: with the record of an item that joins behind the others it stands for the chain after that item.
+-- Law: with the record of an item that joins after the others it stands for the chain after that item.
 abbrev pub StandsAfterAnItem : Type 0
 StandsAfterAnItem = (chain : Chain) (item : List ℕ) (image : Image) (bytes : List ℕ) (place next : ℕ) (records : List Record)
     → StandsFor chain image → CanJoin chain.spec chain.blocks item → length item < 2 ^ 31 → IsTrue (is_ext (ext_over chain item))
     → IsAtRest place records image.log → IsAtRest next (records ++ record_over chain item ∷ []) bytes
     → StandsFor (chain_after chain item) (with_content Log bytes image)
 
--- Law: a log of a specification and a genesis that keep their rules, with no block behind them and no snapshot beside it, stands for their chain.
+-- Law: a log of a specification and a genesis that keep their rules, with no block after them and no snapshot beside it, stands for their chain.
 abbrev pub StandsForTheGenesis : Type 0
 StandsForTheGenesis = (specification genesis : List ℕ) (image : Image) (place : ℕ)
     → broken_specification_rule specification ≡ None → broken_genesis_rule genesis ≡ None

@@ -2,7 +2,7 @@
 ghost use Rattle.store_defs.specs.StoreLaws.{StandsAsItSays, StandsAfterAnItem, StandsForTheGenesis, StandsForWhatJoined};
 
 /// States that an image stands for a chain as long as its log says the same, that with the record of an
-/// item that joins behind the others it stands for the chain after that item, that a new log stands for
+/// item that joins after the others it stands for the chain after that item, that a new log stands for
 /// the chain of its genesis alone, and that what an image stands for has joined. It does nothing.
 pub fn store_laws()
     ensures stands_as_it_says { StandsAsItSays }

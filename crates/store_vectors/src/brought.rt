@@ -26,8 +26,8 @@ fn tree_of(alloc: Global, bytes: &[u8]) -> Option<Tree> {
     Some(tree)
 }
 
-/// What is in hand: the height, the length of the block, that of its ext and the count of its proposal ids.
-fn is_in_hand<B: Blocks>(alloc: Global, blocks: &B, place: u32, row: &mut Row) -> Option<bool>
+/// Of the current entry: the height, the length of the block, that of its ext and the count of its proposal ids.
+fn is_current<B: Blocks>(alloc: Global, blocks: &B, place: u32, row: &mut Row) -> Option<bool>
     requires { B.in_hand blocks.now ≡ Some place }
 {
     let wanted = row.numbers(alloc)?;
@@ -47,7 +47,7 @@ fn is_brought<B: Blocks>(alloc: Global, blocks: &mut B, place: u32, row: &mut Ro
     ensures { B.count blocks.new ≡ B.count blocks.old }
 {
     match blocks.bring(place) {
-        Ok(()) => is_in_hand(alloc, blocks, place, row),
+        Ok(()) => is_current(alloc, blocks, place, row),
         Err(ReadStop::DiskFault) => Some(row.word() == "fault"),
         Err(ReadStop::Damaged(damage)) => Some(
             damage.area == Area::Log && row.word() == "damaged" && row.number()? == damage.at,

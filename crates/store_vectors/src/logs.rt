@@ -188,12 +188,12 @@ pub(crate) fn agrees_on_open(alloc: Global, disk: &mut MemDisk, row: &mut Row) -
 
 fn agrees_on_bytes(alloc: Global, bytes: &[u8], row: &mut Row) -> Option<bool> {
     let mut disk = MemDisk::new(alloc, Vec::new(alloc));
-    let agrees = agrees_behind(alloc, &mut disk, bytes, row);
+    let agrees = agrees_once_put(alloc, &mut disk, bytes, row);
     drop(disk);
     agrees
 }
 
-fn agrees_behind(alloc: Global, disk: &mut MemDisk, bytes: &[u8], row: &mut Row) -> Option<bool> {
+fn agrees_once_put(alloc: Global, disk: &mut MemDisk, bytes: &[u8], row: &mut Row) -> Option<bool> {
     put(disk, bytes)?;
     agrees_on_open(alloc, disk, row)
 }
@@ -207,13 +207,13 @@ pub(crate) fn agrees_on_changed(alloc: Global, bytes: &[u8], row: &mut Row) -> O
     agrees_on_bytes(alloc, &changed, row)
 }
 
-/// Each front of the bytes from one length up to another.
-pub(crate) fn agrees_on_fronts(alloc: Global, bytes: &[u8], row: &mut Row) -> Option<bool> {
+/// Each prefix of the bytes from one length up to another.
+pub(crate) fn agrees_on_prefixes(alloc: Global, bytes: &[u8], row: &mut Row) -> Option<bool> {
     let from: usize = row.word().parse().ok()?;
     let to: usize = row.word().parse().ok()?;
     let wanted = row.word();
     for len in from..to {
-        if agrees_on_front(alloc, bytes.get(..len)?, wanted)? {
+        if agrees_on_prefix(alloc, bytes.get(..len)?, wanted)? {
             continue;
         }
         return Some(false);
@@ -222,7 +222,7 @@ pub(crate) fn agrees_on_fronts(alloc: Global, bytes: &[u8], row: &mut Row) -> Op
 }
 
 /// The count of the blocks and where the records end, with a comma between, or `not_a_store`.
-fn agrees_on_front(alloc: Global, bytes: &[u8], wanted: &str) -> Option<bool> {
+fn agrees_on_prefix(alloc: Global, bytes: &[u8], wanted: &str) -> Option<bool> {
     let mut disk = MemDisk::new(alloc, Vec::new(alloc));
     let placed = put(&mut disk, bytes);
     let found = opened(alloc, &mut disk);

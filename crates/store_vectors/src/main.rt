@@ -61,7 +61,7 @@ impl Store {
             "byte" => logs::agrees_on_byte(&mut self.disk, row),
             "open" => logs::agrees_on_open(alloc, &mut self.disk, row),
             "changed" => logs::agrees_on_changed(alloc, &self.bytes, row),
-            "fronts" => logs::agrees_on_fronts(alloc, &self.bytes, row),
+            "fronts" => logs::agrees_on_prefixes(alloc, &self.bytes, row),
             call => self.agrees_on_bodies(alloc, call, row),
         }
     }

@@ -102,7 +102,7 @@ fn timestamp_of(number: u64) -> u64 {
 }
 
 /// Adds blocks up to a number, each beside a sibling, which is on no branch of a later one; the median time of the last.
-fn median_behind(tree: &mut Tree, numbers: u64) -> Option<u64> {
+fn median_after(tree: &mut Tree, numbers: u64) -> Option<u64> {
     let mut last = 0;
     for number in 1..numbers {
         join(tree, 2, last, 0)?;
@@ -122,7 +122,7 @@ pub(crate) fn agrees_on_median(alloc: Global, row: &mut Row) -> Option<bool> {
         ..entry_on(1, 0, 0)
     };
     let mut tree = Tree::new(alloc, genesis).ok()?;
-    let median = median_behind(&mut tree, numbers);
+    let median = median_after(&mut tree, numbers);
     drop(tree);
     Some(median? == row.number()?)
 }

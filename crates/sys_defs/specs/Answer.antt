@@ -68,7 +68,7 @@ loads_part machine item = within_word machine (drop (argument machine 2) item) (
 
 -- ---- loading as code: to the address in a0, pages of so many bytes as a1 says, with so many bytes of content as a3 says, from the offset in a2 on
 
--- the content, and zeros behind it
+-- the content, and zeros after it
 abbrev pub code_bytes : Machine → List ℕ → List ℕ
 code_bytes machine item =
     slice_range item (argument machine 2) (argument machine 2 + argument machine 3) ++ replicate (argument machine 1 - argument machine 3) 0

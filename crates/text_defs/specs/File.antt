@@ -1,4 +1,4 @@
--- The file that the assembler writes: an ELF file of one segment, with 120 bytes in front of the code (System V ABI,
+-- The file that the assembler writes: an ELF file of one segment, with 120 bytes before the code (System V ABI,
 -- "ELF Header", "Program Header"). The code lies at 0x10078, where the program starts.
 use Rattle.std.specs.Prelude.{ℕ, List, [], ◌∷◌, ◌++◌, length}
 use Rattle.std.specs.Int.{w16, w32, w64, to_le_bytes}

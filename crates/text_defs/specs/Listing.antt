@@ -5,7 +5,7 @@ use Rattle.isa_defs.specs.declared.ins.Ins.{Ins}
 use Rattle.isa_defs.specs.Decode.{decode}
 use Rattle.text_defs.specs.Text.{show}
 
--- The four bytes in front as a number, lowest first. What stands past the end counts as zero: it tells nothing of an
+-- The first four bytes as a number, lowest first. What stands past the end counts as zero: it tells nothing of an
 -- instruction that lies inside the code.
 abbrev pub word_of : List ℕ → ℕ
 word_of code =
@@ -15,7 +15,7 @@ abbrev pub inside : ℕ → Option (Ins × ℕ) → Option (Ins × ℕ)
 inside left None = None
 inside left (Some decoded) = if nat_le decoded.1 left then Some decoded else None
 
--- the instruction in front, if one lies inside the code, and its length
+-- the instruction at the start, if one lies inside the code, and its length
 unfoldable pub instruction_of : List ℕ → Option (Ins × ℕ)
 instruction_of code = inside (length code) (decode (word_of code))
 
@@ -33,7 +33,7 @@ abbrev pub part_of : Option (Ins × ℕ) → List ℕ → List ℕ × ℕ
 part_of (Some decoded) code = (show decoded.0, decoded.1)
 part_of None code = data_of code
 
--- the text of what stands in front, and how many bytes it has
+-- the text of what stands at the start, and how many bytes it has
 unfoldable pub first_part : List ℕ → List ℕ × ℕ
 first_part code = part_of (instruction_of code) code
 

@@ -1,4 +1,4 @@
--- The rules on one transaction behind the cellbase, as rows of a list, in the order in which they are tried. A row has the rule's number and
+-- The rules on one transaction after the cellbase, as rows of a list, in the order in which they are tried. A row has the rule's number and
 -- whether the transaction keeps it (docs/RULES.md, "A block").
 use Rattle.std.specs.Prelude.{ℕ, Bool, ◌&&◌, ◌==◌, nat_lt, List, [], ◌∷◌, map, length}
 use Rattle.codec_defs.specs.Shape.{encoded}

@@ -26,7 +26,8 @@ use Rattle.pool_defs.specs.Assembly as pool
 use Rattle.pool_defs.specs.Assembly.{assembly, assembled}
 use Rattle.pool_defs.specs.Laws.{IsFounded, breakable}
 use Rattle.pool_defs.proofs.JoiningLaws.{breaks-few, unbroken-joins}
-use Rattle.tx_pool.specs.Assembling.{IsAssembled, IsMade, chain_on, most_bytes}
+use Rattle.pool_defs.specs.Size.{most_bytes}
+use Rattle.tx_pool.specs.Assembling.{IsAssembled, IsMade, chain_on}
 use Rattle.tx_pool.specs.Draft.{DraftValue, Fits, IsSoFar}
 use Rattle.tx_pool.specs.Sealing.{Fills}
 use Rattle.tx_pool.specs.declared.assembling.Assembled.{Assembled}

@@ -38,7 +38,7 @@ use Rattle.pool_defs.specs.Assembly.{Assembly, take_item}
 use Rattle.pool_defs.specs.declared.line.Line.{Line}
 use Rattle.pool_defs.specs.declared.line.Line.TheVariants.{Commit, Propose, Refused, Later}
 use Rattle.pool_defs.proofs.GrowthLemmas.{size-transaction, size-id, counted-size, cellbase-grows, proposals-grow, distinct-push}
-use Rattle.tx_pool.specs.Assembling.{most_items, most_bytes}
+use Rattle.pool_defs.specs.Size.{most_items, most_bytes}
 use Rattle.tx_pool.specs.Draft.{DraftValue, Fits, IsEmpty, IsPut, ComesTo, IsSoFar, has, with_line}
 use Rattle.tx_pool.proofs.GrownLemmas.{each-push, has-push, has-hash-push, moved-push, moved-same, moved-nothing, sees-push, sees-none}
 

@@ -2,5 +2,4 @@ pub mod CellbaseLemmas
 pub mod SealingLemmas
 pub mod GrownLemmas
 pub mod DraftLemmas
-pub mod SightLemmas
 pub mod AssemblingLemmas

@@ -1,5 +1,5 @@
 -- What is assembled, as the code answers it.
-use Rattle.std.specs.Prelude.{◌≡◌, ℕ, ◌^◌, List}
+use Rattle.std.specs.Prelude.{◌≡◌, ℕ, List}
 use Rattle.codec_defs.specs.Shape.{IsA, encoded}
 use Rattle.codec_defs.specs.Schema as schema
 use Rattle.codec_defs.specs.Schema.{Block}
@@ -23,10 +23,3 @@ pub record IsMade (spec : Specification) (on : List Block) (all : pool.Assembly)
 
 abbrev pub chain_on : Specification → List Block → Chain
 chain_on spec blocks = record { spec = spec; blocks = blocks }
-
--- the most items, and the most bytes of an item
-unfoldable pub most_items : ℕ
-most_items = 1000
-
-unfoldable pub most_bytes : ℕ
-most_bytes = 2 ^ 20

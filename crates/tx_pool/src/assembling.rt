@@ -17,7 +17,8 @@ ghost use Rattle.verdict_defs.specs.Chain.{verdict_over};
 ghost use Rattle.verdict_defs.specs.declared.verdict.Verdict.TheVariants.{Joined};
 ghost use Rattle.pool_defs.specs.Assembly as pool;
 ghost use Rattle.pool_defs.specs.Laws.{breakable};
-ghost use Rattle.tx_pool.specs.Assembling.{IsAssembled, IsMade, chain_on, most_items, most_bytes};
+ghost use Rattle.pool_defs.specs.Size.{most_items, most_bytes};
+ghost use Rattle.tx_pool.specs.Assembling.{IsAssembled, IsMade, chain_on};
 
 use crate::cellbase::cellbase_after;
 use crate::draft::Draft;

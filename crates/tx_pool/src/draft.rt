@@ -21,7 +21,7 @@ ghost use Rattle.block_judge.specs.Progress.{AreProposed, CanMove};
 ghost use Rattle.block_judge.specs.Standing.{StandsFor, seen};
 ghost use Rattle.pool_defs.specs.Start as start;
 ghost use Rattle.pool_defs.specs.Assembly as pool;
-ghost use Rattle.tx_pool.specs.Assembling.{most_items, most_bytes};
+ghost use Rattle.pool_defs.specs.Size.{most_items, most_bytes};
 ghost use Rattle.tx_pool.specs.Draft.{ComesTo, Fits, IsEmpty, IsPut, IsSoFar, draft_of, with_line};
 
 use block_judge::{BlockCells, Context, JudgeStop, PassedTransaction, is_cellbase, judge_appended};

@@ -123,7 +123,7 @@ row-there kept parent site founds list i default seen is below = (
 
 -- ---- Maturity
 
--- one that is no output of a cellbase behind the genesis
+-- one that is no output of a cellbase after the genesis
 pub mature-genesis : (transaction height : ℕ) (over : Bool) → height ≡ 0 → true ≡ (not ((transaction == 0) && nat_lt 0 height) || over)
 mature-genesis transaction height over none = grind (arith, nat_tests)
 

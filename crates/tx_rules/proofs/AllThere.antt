@@ -46,7 +46,7 @@ there-more {Y = Y} f xs i x y ys so_far there is =
     ∙ ap (λ (found : Option Y). all_there (map f (take i xs) ++ found ∷ [])) (sym is)
     ∙ ap all_there (sym (map-append f (take i xs) (x ∷ [])) ∙ ap (map f) (sym (take-push xs i x there)))
 
--- behind others
+-- after others
 pub there-more-behind : {X Y : Type 0} (f : X → Option Y) (xs : List X) (i : ℕ) (x : X) (y : Y) (old new : List Y)
     → Some new ≡ option_map (λ ys. old ++ ys) (all_there (map f (take i xs))) → slice_get xs i ≡ Some x → f x ≡ Some y
     → Some (new ++ y ∷ []) ≡ option_map (λ ys. old ++ ys) (all_there (map f (take (i + 1) xs)))

@@ -1,4 +1,4 @@
--- J18 to J20 by the rows alone, and what stops behind them.
+-- J18 to J20 by the rows alone, and what stops after them.
 use Rattle.std.proofs.Common.{◌≡◌, ◌<◌, Bool, true, false, cond, Option, None, List, Result, Ok, Err, refl, ap, ◌∙◌, subst, inl, inr, arith}
 use Rattle.std.specs.Prelude.{is_some, ◌≤◌}
 use Rattle.codec_defs.specs.Schema.{OutPoint, Transaction}
@@ -30,7 +30,7 @@ once-named rows t found once named = ap (λ (b : Bool). cond b (named_rows rows 
 
 -- ---- What stops later
 
--- the rules behind J20
+-- the rules after J20
 pub later-21 : IsLater (Broken CellDeps)
 later-21 = (omega arith, omega arith)
 
@@ -147,7 +147,7 @@ follows-on proposed rows t stop follows = record {
   live = λ same. follows.live (cc);
 }
 
--- what is kept where a step goes on, and what it answers behind it
+-- what is kept where a step goes on, and what it answers after it
 by_true : (b : Bool) → (b ≡ false → ⊥) → b ≡ true
 by_true true none = refl
 by_true false none = absurd (none refl)

@@ -26,7 +26,7 @@ use Rattle.tx_defs.specs.Rules.{has_form}
 use Rattle.tx_rules.specs.At.{AtValue, IsSiteOf, place_of_height, found_row, find_row, named_rows, input_rows, spends_rows}
 use Rattle.tx_rules.specs.Copying.{row_in}
 use Rattle.tx_rules.specs.Outcome.{IsTried, rules_to_27}
-use Rattle.tx_rules.specs.Steps.{spending_rules, naming_rules, using_rules, finding_rules, paying_rules, StopsAt, Tells, Stops}
+use Rattle.tx_rules.specs.Steps.{spending_rules, naming_rules, using_rules, finding_rules, paying_rules, StopsAt, AnswersBy, Stops}
 use Rattle.tx_rules.specs.declared.resolving.TxStop.{TxStop}
 use Rattle.tx_rules.specs.declared.resolving.TxStop.TheVariants.{Broken, Read}
 use Rattle.tx_rules.proofs.AllThere.{all_there-back}
@@ -203,14 +203,14 @@ pub tried-of : {T : Type 0} (proposed : Bool) (result : Result T TxStop) (rule :
 tried-of {T = T} proposed result rule stops same = subst (λ (r : Result T TxStop). Stops proposed r) same stops
 
 pub broken-of : {T : Type 0} (proposed : Bool) (site : Site) (t : Transaction) (result : Result T TxStop) (rule : Rule)
-    → Tells (finding_rules proposed site t ++ paying_rules site t) result → result ≡ Err (Broken rule)
+    → AnswersBy (finding_rules proposed site t ++ paying_rules site t) result → result ≡ Err (Broken rule)
     → first_failing (rules_to_27 proposed site t) ≡ Some (rule_number rule)
 broken-of {T = T} proposed site t result rule tells same =
-    all-rules proposed site t ∙ subst (λ (r : Result T TxStop). Tells (finding_rules proposed site t ++ paying_rules site t) r) same tells
+    all-rules proposed site t ∙ subst (λ (r : Result T TxStop). AnswersBy (finding_rules proposed site t ++ paying_rules site t) r) same tells
 
-pub undamaged-of : {T : Type 0} (rules : List (ℕ × Bool)) (result : Result T TxStop) (damage : Damage) → Tells rules result
+pub undamaged-of : {T : Type 0} (rules : List (ℕ × Bool)) (result : Result T TxStop) (damage : Damage) → AnswersBy rules result
     → result ≡ Err (Read (Damaged damage)) → ⊥
-undamaged-of {T = T} rules result damage tells same = subst (λ (r : Result T TxStop). Tells rules r) same tells
+undamaged-of {T = T} rules result damage tells same = subst (λ (r : Result T TxStop). AnswersBy rules r) same tells
 
 -- the rows that are spent are those that are named
 pub rows-named : (rows : OutPoint → Option Row) (t : Transaction) (spent : List (OutPoint × Row)) → input_rows rows t ≡ Some spent

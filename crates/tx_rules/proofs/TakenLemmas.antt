@@ -199,7 +199,7 @@ copies-cells stored at seen site founds rows copies is are_seen are each =
       go fs cs (All-tail (λ (found : Found). site.cell found.out_point ≡ Some found.cell) f fs fs_seen) zipped.1,
     )
 
--- ---- The block in hand
+-- ---- The current block
 
 -- it is the one at its place, where something is told
 pub hand-block : (told now : Option (List Stored)) (hand : Option ℕ) (place : ℕ) (view : Block) → now ≡ told → hand ≡ Some place

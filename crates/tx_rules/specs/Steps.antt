@@ -53,9 +53,9 @@ StopsAt rules (Read NoMemory) = Unit {0}
 StopsAt rules (Read (Damaged damage)) = ⊥
 
 -- what a step of some rules answers: something where each is kept
-abbrev pub Tells : {T : Type 0} → List (ℕ × Bool) → Result T TxStop → Type 0
-Tells rules (Ok v) = first_failing rules ≡ None
-Tells rules (Err stop) = StopsAt rules stop
+abbrev pub AnswersBy : {T : Type 0} → List (ℕ × Bool) → Result T TxStop → Type 0
+AnswersBy rules (Ok v) = first_failing rules ≡ None
+AnswersBy rules (Err stop) = StopsAt rules stop
 
 -- why a step stops, whatever is told: at a rule that is tried, and what is damaged stands in LOG
 abbrev pub IsStop : Bool → TxStop → Type 0

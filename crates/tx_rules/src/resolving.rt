@@ -17,7 +17,7 @@ ghost use Rattle.tx_defs.specs.Rules as defs;
 ghost use Rattle.tx_defs.specs.Capacity as rules;
 ghost use Rattle.tx_defs.specs.Resolving.{inputs, deps, heights};
 ghost use Rattle.tx_rules.specs.At.{AtValue, IsPlaced, IsSiteOf, found_row, input_rows};
-ghost use Rattle.tx_rules.specs.Steps.{spending_rules, naming_rules, using_rules, finding_rules, paying_rules, Tells, Stops, StopsLater, AreFound, Pays};
+ghost use Rattle.tx_rules.specs.Steps.{spending_rules, naming_rules, using_rules, finding_rules, paying_rules, AnswersBy, Stops, StopsLater, AreFound, Pays};
 ghost use Rattle.tx_rules.specs.declared.resolving.TxStop.TheVariants.{Read};
 ghost use Rattle.tx_rules.specs.Reading.{read_stop_of};
 ghost use Rattle.tx_rules.specs.Copying.{row_in, CopiesItsRow, HoldsOutput};
@@ -100,7 +100,7 @@ fn spent_rows<C: Cells>(
     ensures stops { Stops proposed result }
     ensures by_rows { FollowsRows proposed (C.rows cells.now) tx.now result }
     ensures unread { result ≡ Err (Read DiskFault) → ⊥ }
-    ensures tells { (stored : List Stored) (at : AtValue) (site : Site) → IsSiteOf stored at (C.rows cells.now) site → Tells (spending_rules proposed site tx.now) result }
+    ensures judged { (stored : List Stored) (at : AtValue) (site : Site) → IsSiteOf stored at (C.rows cells.now) site → AnswersBy (spending_rules proposed site tx.now) result }
     ensures form { IfOk result (λ _. IsTrue (defs.has_form tx.now)) }
     ensures rows { IfOk result (λ rows. input_rows (C.rows cells.now) tx.now ≡ Some rows.items) }
 {
@@ -136,8 +136,8 @@ fn named_rows<C: Cells, B: Blocks>(
     requires counts { B.count blocks.old ≡ length at.now.entries }
     ensures read { HasRead B.told B.count B.loans_of B.faults B.damages blocks.old blocks.new (read_stop_of result) }
     ensures later { StopsLater result }
-    ensures tells { (stored : List Stored) (site : Site) → B.told blocks.old ≡ Some stored → IsSiteOf stored at.now (C.rows cells.now) site
-        → Tells (naming_rules site tx.now) result }
+    ensures judged { (stored : List Stored) (site : Site) → B.told blocks.old ≡ Some stored → IsSiteOf stored at.now (C.rows cells.now) site
+        → AnswersBy (naming_rules site tx.now) result }
     ensures cells { (stored : List Stored) (site : Site) → B.told blocks.old ≡ Some stored → IsSiteOf stored at.now (C.rows cells.now) site
         → IfOk result (λ named. named.0.items ≡ map (found_row (blocks_of stored) at.now.parent) (deps site tx.now)) }
     ensures places { (stored : List Stored) (site : Site) → B.told blocks.old ≡ Some stored → IsSiteOf stored at.now (C.rows cells.now) site
@@ -170,9 +170,9 @@ fn try_cells<C: Cells>(
     requires hash { hash ≡ transaction_hash tx.now }
     ensures later { StopsLater result }
     ensures unread { result ≡ Err (Read DiskFault) → ⊥ }
-    ensures tells { (stored : List Stored) (site : Site) → IsSiteOf stored at.now (C.rows cells.now) site
+    ensures judged { (stored : List Stored) (site : Site) → IsSiteOf stored at.now (C.rows cells.now) site
         → spent.now ≡ map (found_row (blocks_of stored) at.now.parent) (inputs site tx.now)
-        → named.now ≡ map (found_row (blocks_of stored) at.now.parent) (deps site tx.now) → Tells (using_rules site tx.now) result }
+        → named.now ≡ map (found_row (blocks_of stored) at.now.parent) (deps site tx.now) → AnswersBy (using_rules site tx.now) result }
 {
     match are_mature(at, spent) {
         Ok(true) => {}
@@ -208,9 +208,9 @@ fn paid_by(
     ensures fits { IfOk result (λ balance. nat_abs balance.interest < 2 ^ 96) }
     ensures later { StopsLater result }
     ensures unread { result ≡ Err (Read DiskFault) → ⊥ }
-    ensures tells { (stored : List Stored) (rows : OutPoint → Option Row) (site : Site) → IsSiteOf stored at.now rows site
+    ensures judged { (stored : List Stored) (rows : OutPoint → Option Row) (site : Site) → IsSiteOf stored at.now rows site
         → AllZip (Copies (blocks_of stored) at.now.parent) (inputs site tx.now) copies.now
-        → places.now ≡ map (slice_index (branch_places (blocks_of stored) at.now.parent)) (heights site tx.now) → Tells (paying_rules site tx.now) result }
+        → places.now ≡ map (slice_index (branch_places (blocks_of stored) at.now.parent)) (heights site tx.now) → AnswersBy (paying_rules site tx.now) result }
     ensures paid { (stored : List Stored) (rows : OutPoint → Option Row) (site : Site) → IsSiteOf stored at.now rows site
         → AllZip (Copies (blocks_of stored) at.now.parent) (inputs site tx.now) copies.now
         → places.now ≡ map (slice_index (branch_places (blocks_of stored) at.now.parent)) (heights site tx.now) → IfOk result (Pays site tx.now) }
@@ -243,8 +243,8 @@ fn find<C: Cells, B: Blocks>(
     ensures read { HasRead B.told B.count B.loans_of B.faults B.damages blocks.old blocks.new (read_stop_of result) }
     ensures stops { Stops proposed result }
     ensures by_rows { FollowsRows proposed (C.rows cells.now) tx.now result }
-    ensures tells { (stored : List Stored) (site : Site) → B.told blocks.old ≡ Some stored → IsSiteOf stored at.now (C.rows cells.now) site
-        → Tells (finding_rules proposed site tx.now) result }
+    ensures judged { (stored : List Stored) (site : Site) → B.told blocks.old ≡ Some stored → IsSiteOf stored at.now (C.rows cells.now) site
+        → AnswersBy (finding_rules proposed site tx.now) result }
     ensures found { (stored : List Stored) (site : Site) → B.told blocks.old ≡ Some stored → IsSiteOf stored at.now (C.rows cells.now) site
         → IfOk result (λ it. AreFound (blocks_of stored) at.now.parent site tx.now it.spent.items it.named.items it.places.items) }
     ensures form { IfOk result (λ _. IsTrue (defs.has_form tx.now)) }
@@ -283,9 +283,9 @@ fn copy_cells<B: Blocks>(
     ensures read { HasRead B.told B.count B.loans_of B.faults B.damages blocks.old blocks.new (read_stop_of result) }
     ensures fits { IfOk result (λ it. nat_abs it.balance.interest < 2 ^ 96) }
     ensures later { StopsLater result }
-    ensures tells { (stored : List Stored) (rows : OutPoint → Option Row) (site : Site) → B.told blocks.old ≡ Some stored → IsSiteOf stored at.now rows site
+    ensures judged { (stored : List Stored) (rows : OutPoint → Option Row) (site : Site) → B.told blocks.old ≡ Some stored → IsSiteOf stored at.now rows site
         → AreFound (blocks_of stored) at.now.parent site tx.now finding.now.spent.items finding.now.named.items finding.now.places.items
-        → Tells (paying_rules site tx.now) result }
+        → AnswersBy (paying_rules site tx.now) result }
     ensures inputs { (stored : List Stored) (rows : OutPoint → Option Row) (site : Site) → B.told blocks.old ≡ Some stored → IsSiteOf stored at.now rows site
         → AreFound (blocks_of stored) at.now.parent site tx.now finding.now.spent.items finding.now.named.items finding.now.places.items
         → IfOk result (λ it. AllZip (Copies (blocks_of stored) at.now.parent) (inputs site tx.now) it.inputs.items) }

@@ -140,17 +140,17 @@ fn answer_at(
     Some(whole)
 }
 
-/// What the transaction of the next block after those of its front is answered.
+/// What a transaction is answered that stands after those of an earlier block with the same place.
 pub(crate) fn within<L: Ledger>(
     alloc: Global,
     steps: &mut Steps<L>,
     chain: &mut Chain,
-    front: &[u8],
+    earlier: &[u8],
     bytes: &[u8],
 ) -> Option<String> {
-    let place = BlockView::read(front)?.transactions_count();
+    let place = BlockView::read(earlier)?.transactions_count();
     let mut state = chain.first_state(alloc)?;
-    let answer = match chain.apply_all(&mut state, steps, front) {
+    let answer = match chain.apply_all(&mut state, steps, earlier) {
         Some(()) => answer_at(alloc, chain, &state, place, bytes),
         None => None,
     };

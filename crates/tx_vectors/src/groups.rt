@@ -9,16 +9,33 @@ use script_defs::Failure;
 use script_run::{ScriptStop, run_groups};
 use std::alloc::Global;
 
+/// Bytes that rows name.
+#[derive(Drop)]
+pub(crate) struct Blob {
+    name: String,
+    bytes: Vec<u8>,
+}
+
+/// A blob with this name and the bytes of a column.
+pub(crate) fn blob_with(alloc: Global, name: &str, bytes: Vec<u8>) -> Option<Blob> {
+    let name = String::from_str(alloc, name).ok()?;
+    Some(Blob { name, bytes })
+}
+
 /// The greatest budget of a call.
 const MOST_CYCLES: u64 = 1 << 40;
 
-fn blob_of<'a>(blobs: &'a [Vec<u8>], place: &str) -> Option<&'a [u8]> {
-    let place: usize = place.parse().ok()?;
-    Some(blobs.get(place)?.as_slice())
+fn blob_of<'a>(blobs: &'a [Blob], name: &str) -> Option<&'a [u8]> {
+    for blob in blobs {
+        if blob.name.as_str() == name {
+            return Some(blob.bytes.as_slice());
+        }
+    }
+    None
 }
 
 /// A cell of a row. What is kept of it is computed here; its out-point is any.
-fn cell_of(alloc: Global, blobs: &[Vec<u8>], text: &str) -> Option<Resolved> {
+fn cell_of(alloc: Global, blobs: &[Blob], text: &str) -> Option<Resolved> {
     let (block, text) = text.split_once(',')?;
     let (tx, text) = text.split_once(',')?;
     let (output, content) = text.split_once(',')?;
@@ -37,7 +54,7 @@ fn cell_of(alloc: Global, blobs: &[Vec<u8>], text: &str) -> Option<Resolved> {
     })
 }
 
-fn cells_of(alloc: Global, blobs: &[Vec<u8>], column: &str) -> Option<Vec<Resolved>> {
+fn cells_of(alloc: Global, blobs: &[Blob], column: &str) -> Option<Vec<Resolved>> {
     let mut cells = Vec::new(alloc);
     if column == "-" {
         return Some(cells);
@@ -62,7 +79,7 @@ fn places_of(alloc: Global, column: &str) -> Option<Vec<u32>> {
 /// A transaction with the cells of its inputs, its resolved deps and the places of its header deps.
 fn resolved_of<'a>(
     alloc: Global,
-    blobs: &[Vec<u8>],
+    blobs: &[Blob],
     tx: TxView<'a>,
     columns: &str,
 ) -> Option<ResolvedTx<'a>> {
@@ -125,7 +142,7 @@ fn agree(alloc: Global, chain: &mut Chain, tx: &ResolvedTx<'_>, asked: &Asked) -
 
 fn agrees_on(
     alloc: Global,
-    blobs: &[Vec<u8>],
+    blobs: &[Blob],
     chain: &mut Chain,
     asked: &Asked,
     columns: &str,
@@ -141,7 +158,7 @@ fn agrees_on(
 /// Whether a transaction is answered as its row wants, so many times; None where that is none.
 pub(crate) fn agrees(
     alloc: Global,
-    blobs: &[Vec<u8>],
+    blobs: &[Blob],
     chain: &mut Chain,
     rounds: u32,
     columns: &str,

@@ -200,9 +200,9 @@ impl Chain {
         &self,
         state: &mut State,
         steps: &mut Steps<L>,
-        front: &[u8],
+        last: &[u8],
     ) -> Option<()> {
-        apply_all(state, steps, self.items.get(1..)?, front)
+        apply_all(state, steps, self.items.get(1..)?, last)
     }
 }
 

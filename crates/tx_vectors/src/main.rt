@@ -8,7 +8,7 @@
 //! The other rows are about a chain. `spec` and `genesis` begin a chain, and `block` puts
 //! a block with its ext on it. `shadow`, `transaction` and `within` stand after the last block, where all blocks stand in a
 //! row: tests/rows/transactions.py makes them, and says what their columns are. `groups` and `rounds` are about a transaction's
-//! script groups, and name by their places the bytes of the rows `blob`: tests/rows/script_groups.py makes them, and says
+//! script groups, and call bytes by the names that rows `blob` give them: tests/rows/script_groups.py makes them, and says
 //! what theirs are. bench/scripts.py makes rows `rounds` too, to measure how long they take.
 #![tactic(auto)]
 
@@ -28,6 +28,7 @@ use cell_model::ListBlocks;
 use cell_state::State;
 use cells::is_text;
 use epochs::Spec;
+use groups::{Blob, blob_with};
 use kept::{Chain, of_genesis};
 use outside::Steps;
 use row_table::{Row, Subject, all_agree};
@@ -46,7 +47,7 @@ struct Table<'s, L: Ledger> {
     state: Option<State>,
     spec: Option<Spec>,
     chain: Option<Chain>,
-    blobs: Vec<Vec<u8>>,
+    blobs: Vec<Blob>,
 }
 
 /// The bytes of two columns.
@@ -89,14 +90,17 @@ fn agrees_within<L: Ledger>(
     columns: &str,
 ) -> Option<bool> {
     let (wanted, columns) = columns.split_once('\t')?;
-    let (front, block) = pair(alloc, columns)?;
-    is_text(answers::within(alloc, steps, chain, &front, &block), wanted)
+    let (earlier, block) = pair(alloc, columns)?;
+    is_text(
+        answers::within(alloc, steps, chain, &earlier, &block),
+        wanted,
+    )
 }
 
 fn agrees_in_rounds(
     alloc: Global,
     chain: &mut Chain,
-    blobs: &[Vec<u8>],
+    blobs: &[Blob],
     columns: &str,
 ) -> Option<bool> {
     let (rounds, columns) = columns.split_once('\t')?;
@@ -107,7 +111,7 @@ fn agrees_in_rounds(
 fn agrees_on_chain<L: Ledger>(
     alloc: Global,
     chain: &mut Chain,
-    blobs: &[Vec<u8>],
+    blobs: &[Blob],
     steps: &mut Steps<L>,
     word: &str,
     columns: &str,
@@ -137,7 +141,9 @@ impl<'s, L: Ledger> Table<'s, L> {
     }
 
     fn take_blob(&mut self, alloc: Global, row: &mut Row) -> Option<bool> {
-        Some(self.blobs.push(row.bytes(alloc)?).is_ok())
+        let name = row.word();
+        let blob = blob_with(alloc, name, row.bytes(alloc)?)?;
+        Some(self.blobs.push(blob).is_ok())
     }
 
     fn agrees_on_chain(&mut self, alloc: Global, word: &str, columns: &str) -> Option<bool> {

@@ -107,7 +107,7 @@ all-at bound (p ∷ ps) zero place all there =
     subst (λ (n : ℕ). n < bound) (same_Some p place there) (All-head (λ n. n < bound) p ps all)
 all-at bound (p ∷ ps) (suc height) place all there = all-at bound ps height place (All-tail (λ n. n < bound) p ps all) there
 
--- no place behind the entries is
+-- no place after the entries is
 pub not-kept : (kept : List Block) (entries : List Entry) (parent place : ℕ) → IndexesBlocks kept entries → parent < length entries → length entries ≤ place
     → false ≡ is_on (branch_places kept parent) place
 unfolding branch_places

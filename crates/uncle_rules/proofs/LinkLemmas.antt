@@ -74,7 +74,7 @@ any-unlinked hash test (first ∷ later) none = by_parts (last_of later hash) re
     by_parts None is false at none rest =
         or_from (passes_with hash test first) (list_any (passes_with hash test) later) (and_left (bytes_eq first.hash hash) (test first) at) (rest is)
 
--- the last entry with a hash, behind those before it
+-- the last entry with a hash, after those before it
 pub record IsLast (hash : List ℕ) (test : Entry → Bool) (entries : List Entry) (i : ℕ) : Type 0 where
   pub entry : Entry
   pub there : slice_get entries i ≡ Some entry

@@ -44,7 +44,7 @@ fn is_earlier(block: &BlockView<'_>, earlier: usize, hash: &[u8; 32], number: Op
     false
 }
 
-/// Whether a header with this hash and number is known to the uncle behind a block's first ones.
+/// Whether a header with this hash and number is known to the uncle after a block's first ones.
 fn is_known(
     tree: &Tree,
     uncles: &Uncles,

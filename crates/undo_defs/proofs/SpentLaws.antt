@@ -59,9 +59,9 @@ spent-row (Spends p ∷ later) rows o row has = by_row (rows p) refl has (spent-
 
 -- ---- and each such row is spent
 
-behind-row : (p : OutPoint) (found : Option Row) (later : List (OutPoint × Row)) (one : OutPoint × Row) → Contains later one → Contains (row_at p found ++ later) one
-behind-row p None later one has = has
-behind-row p (Some row) later one has = Contains-there (p, row) later one has
+after-row : (p : OutPoint) (found : Option Row) (later : List (OutPoint × Row)) (one : OutPoint × Row) → Contains later one → Contains (row_at p found ++ later) one
+after-row p None later one has = has
+after-row p (Some row) later one has = Contains-there (p, row) later one has
 
 row-spent : (events : List Event) (rows : OutPoint → Option Row) (o : OutPoint) (row : Row) → rows o ≡ Some row → IsTrue (is_spend (find (names o) events))
     → Contains (spent_of events rows) (o, row)
@@ -84,7 +84,7 @@ row-spent (Spends p ∷ later) rows o row is spend = by_test (same_out_point p o
         subst (λ (found : Option Row). Contains (row_at p found ++ spent_of later (without p rows)) (o, row)) (sym (ap rows one ∙ is))
         (subst (λ (q : OutPoint). Contains ((p, row) ∷ spent_of later (without p rows)) (q, row)) one (Contains-here (p, row) (spent_of later (without p rows))))
     by_test false apart it rest =
-        behind-row p (rows p) (spent_of later (without p rows)) (o, row) (rest (ap (λ (b : Bool). if b then None else rows o) apart ∙ is) it)
+        after-row p (rows p) (spent_of later (without p rows)) (o, row) (rest (ap (λ (b : Bool). if b then None else rows o) apart ∙ is) it)
 
 -- ---- No out-point is spent twice
 

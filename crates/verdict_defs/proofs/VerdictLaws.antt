@@ -168,7 +168,7 @@ kept-stays chain items = (IsKept-over chain items, chain_over-front chain items)
 
 -- ---- On its branch alone
 
--- a place that is found is so with more blocks behind, and so is its branch
+-- a place that is found is so with more blocks after, and so is its branch
 place_of-more : (kept more : List Block) (hash : List ℕ) (place : ℕ) → place_of kept hash ≡ Some place → place_of (kept ++ more) hash ≡ Some place
 place_of-more kept [] hash place is = ap (λ (blocks : List Block). place_of blocks hash) (append-nil kept) ∙ is
 place_of-more kept (b ∷ more) hash place is =
@@ -182,7 +182,7 @@ branch-more kept (b ∷ more) place below =
     ap (λ (blocks : List Block). branch blocks place) (sym (append_assoc kept (b ∷ []) more))
     ∙ branch-more (kept ++ b ∷ []) more place (omega (arith, below, length_push kept b)) ∙ branch-push kept b place below
 
--- what may join may do so behind more blocks
+-- what may join may do so after more blocks
 may_join-more : (spec : Specification) (kept more : List Block) (b : Block) → MayJoin spec kept b → place_of (kept ++ more) (block_hash b) ≡ None
     → length (kept ++ more) < kept_limit → MayJoin spec (kept ++ more) b
 may_join-more spec kept more b may new room =

@@ -42,7 +42,7 @@ abbrev pub KeepingKeeps : Type 0
 KeepingKeeps = ((genesis : Block) → IsKept (genesis ∷ []))
     × ((spec : Specification) (kept : List Block) (item : List ℕ) → IsKept kept → IsKept (kept_after spec kept item))
 
--- Law: after any items kept blocks are still so, and those that were kept stay in front of what joined.
+-- Law: after any items kept blocks are still so, and those that were kept stay before what joined.
 abbrev pub KeptStays : Type 0
 KeptStays = (chain : Chain) (items : List (List ℕ)) → (IsKept chain.blocks → IsKept (chain_over chain items).blocks)
     × ((more : List Block) × ((chain_over chain items).blocks ≡ chain.blocks ++ more))

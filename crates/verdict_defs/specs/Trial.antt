@@ -13,7 +13,7 @@ use Rattle.verdict_defs.specs.Chain.{Chain}
 use Rattle.verdict_defs.specs.declared.trial.Trial.{Trial}
 use Rattle.verdict_defs.specs.declared.trial.Trial.TheVariants.{Passes, Refused}
 
--- by the first rule that it breaks behind a branch: where there is none, its fee, and the cycles that its scripts take
+-- by the first rule that it breaks after a branch: where there is none, its fee, and the cycles that its scripts take
 abbrev pub trial_by : Specification → List Block → Transaction → Option ℕ → Trial
 trial_by spec branch t (Some rule) = Refused rule
 trial_by spec branch t None = Passes (fee (site_after spec branch) t) (cycles_of (scene_of (site_after spec branch) t) spec.max_cycles)

@@ -28,7 +28,7 @@ length-overwritten xs at ys h =
     )
     (omega (arith, h))
 
--- an item before those that are written, and one behind them
+-- an item before those that are written, and one after them
 pub get_or-before : {X : Type 0} (xs : List X) (at : ℕ) (ys : List X) (i : ℕ) (d : X) → at ≤ length xs → i < at
     → get_or (overwritten xs at ys) i d ≡ get_or xs i d
 get_or-before xs at ys i d h before =
@@ -38,9 +38,9 @@ get_or-before xs at ys i d h before =
     ∙ get_or_append_left (take at xs) ys d i (omega (arith, front, before))
     ∙ get_or-take at xs i d before
 
-pub get_or-behind : {X : Type 0} (xs : List X) (at : ℕ) (ys : List X) (i : ℕ) (d : X) → at ≤ length xs → at + length ys ≤ i
+pub get_or-after : {X : Type 0} (xs : List X) (at : ℕ) (ys : List X) (i : ℕ) (d : X) → at ≤ length xs → at + length ys ≤ i
     → get_or (overwritten xs at ys) i d ≡ get_or xs i d
-get_or-behind xs at ys i d h behind =
+get_or-after xs at ys i d h behind =
     let front : length (take at xs) ≡ at = length-take-le at xs h in
     let start : length (take at xs ++ ys) ≡ at + length ys = length-append (take at xs) ys ∙ ap (λ n. n + length ys) front in
     let place : length (take at xs ++ ys) + (i - (at + length ys)) ≡ i = omega (arith, start, behind) in
@@ -205,7 +205,7 @@ byte-kept old new at number place i bytes whole pair is low high =
       | inr from ↦ elim (cases_lt i (place + length bytes)) [
         | inl within ↦ absurd (false≢true (sym (data-page old place (length bytes) i whole is.inside is.written from within)
             ∙ code-page old at number i whole pair low high))
-        | inr behind ↦ get_or-behind old.bytes place bytes i 0 room behind
+        | inr behind ↦ get_or-after old.bytes place bytes i 0 room behind
       ]
     ]
 
@@ -256,7 +256,7 @@ kind-kept kinds first pages i inside was =
       | inr from ↦ elim (cases_lt i (first + pages)) [
         | inl within ↦ ap is_code (get_or-written kinds first (replicate pages Code) i Data (omega (arith, inside)) from (omega (arith, size, within))
             ∙ get_or-replicate pages (i - first) Code Data (omega (arith, from, within)))
-        | inr behind ↦ ap is_code (get_or-behind kinds first (replicate pages Code) i Data (omega (arith, inside)) (omega (arith, size, behind))) ∙ was
+        | inr behind ↦ ap is_code (get_or-after kinds first (replicate pages Code) i Data (omega (arith, inside)) (omega (arith, size, behind))) ∙ was
       ]
     ]
 

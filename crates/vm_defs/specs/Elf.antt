@@ -125,7 +125,7 @@ broken_header file =
     else if not (has_table file) then Some 4
     else None
 
--- of a segment behind earlier ones
+-- of a segment after earlier ones
 unfoldable pub broken_segment : List ℕ → List Segment → Segment → Option ℕ
 broken_segment file earlier segment =
     if not (can_be_read segment) || (can_run segment && can_be_written segment) then Some 5
@@ -138,7 +138,7 @@ abbrev pub first_of : Option ℕ → Option ℕ → Option ℕ
 first_of (Some condition) later = Some condition
 first_of None later = later
 
--- of each segment in turn, behind earlier ones
+-- of each segment in turn, after earlier ones
 unfoldable pub broken_segments : List ℕ → List Segment → List Segment → Option ℕ
 broken_segments file earlier [] = None
 broken_segments file earlier (segment ∷ later) =

@@ -31,7 +31,7 @@ length-cleared page new at count full h edit =
     let room : at + length (replicate {A = ℕ} count 0) ≤ length page = rw (length-replicate {A = ℕ} count 0, full) h in
     rw edit (length-overwritten page at (replicate count 0) room ∙ full)
 
--- more zeros behind those that were written
+-- more zeros after those that were written
 pub clear-more : (old now new : Pages) (at cleared size : ℕ) → now ≡ written old at (replicate cleared 0)
     → new ≡ written now (at + cleared) (replicate size 0) → new ≡ written old at (replicate (cleared + size) 0)
 clear-more old now new at cleared size before after =

@@ -18,7 +18,7 @@ AreOf-get_or n (page ∷ pages) (suc i) all h = AreOf-get_or n pages i all.1 (om
 room-after : (xs : List ℕ) (o count n : ℕ) → length xs ≡ n → o + count ≤ n → count ≤ length (drop o xs)
 room-after xs o count n is le = rw (length-drop o xs) (omega (arith, is, le))
 
--- what stands from a byte on: the rest of its page, and the pages behind
+-- what stands from a byte on: the rest of its page, and the pages after
 pub drop-concat : (n : ℕ) (pages : List (List ℕ)) (i o : ℕ) → AreOf n pages → i < length pages → o ≤ n
     → drop (n * i + o) (concat pages) ≡ drop o (get_or pages i []) ++ concat (drop (suc i) pages)
 drop-concat n [] i o all h le = absurd (omega arith)

@@ -1,9 +1,9 @@
--- Ranges of a list that is written over, or has more behind it.
+-- Ranges of a list that is written over, or has more after it.
 use Rattle.std.proofs.Common.{◌≡◌, ℕ, ◌+◌, ◌-◌, ◌<◌, ◌≤◌, ◌⊎◌, List, ◌++◌, length, drop, replicate, get_or, slice_range, sym, ◌∙◌, ap, arith, inl, inr}
 use Rattle.std.proofs.lemmas.Bool.{cases_lt}
 use Rattle.std.proofs.lemmas.List.{get_or-drop, get_or-append-add, get_or-take, get_or_append_left, length-append, length-drop, length-replicate, length-take-le, same_lists}
 use Rattle.vm_defs.specs.Memory.{overwritten}
-use Rattle.vm_defs.proofs.CodeLaws.{get_or-before, get_or-behind, get_or-written, length-overwritten}
+use Rattle.vm_defs.proofs.CodeLaws.{get_or-before, get_or-after, get_or-written, length-overwritten}
 
 pub length-range : {X : Type 0} (xs : List X) (start count : ℕ) → start + count ≤ length xs → length (slice_range xs start (start + count)) ≡ count
 length-range xs start count h =
@@ -37,7 +37,7 @@ range-range xs start count o n h le =
     get_or-range (slice_range xs start (start + count)) o n i d inner ∙ get_or-range xs start count (o + i) d (omega (arith, inner, le))
     ∙ ap (λ k. get_or xs k d) place ∙ sym (get_or-range xs (start + o) n i d inner))
 
--- more behind the list
+-- more after the list
 pub range-append : {X : Type 0} (xs ys : List X) (start count : ℕ) → start + count ≤ length xs
     → slice_range (xs ++ ys) start (start + count) ≡ slice_range xs start (start + count)
 range-append xs ys start count h =
@@ -52,7 +52,7 @@ range-beside xs at ys start count room h apart =
     let size = length-overwritten xs at ys room in
     same-range (overwritten xs at ys) xs start count (omega (arith, size, h)) h (λ i d low high. elim apart [
       | inl before ↦ get_or-before xs at ys i d (omega (arith, room)) (omega (arith, high, before))
-      | inr behind ↦ get_or-behind xs at ys i d (omega (arith, room)) (omega (arith, low, behind))
+      | inr behind ↦ get_or-after xs at ys i d (omega (arith, room)) (omega (arith, low, behind))
     ])
 
 -- one that it lies in
@@ -76,12 +76,12 @@ range-written xs start count o ys h le =
             let place : start + i - (start + o) ≡ i - o = omega arith in
             get_or-written xs (start + o) ys (start + i) d (omega (arith, room)) (omega (arith, from)) (omega (arith, within))
             ∙ ap (λ k. get_or ys k d) place ∙ sym (get_or-written range o ys i d (omega (arith, edge)) from within)
-        | inr past ↦ get_or-behind xs (start + o) ys (start + i) d (omega (arith, room)) (omega (arith, past))
-            ∙ sym (get_or-behind range o ys i d (omega (arith, edge)) past ∙ get_or-range xs start count i d inner)
+        | inr past ↦ get_or-after xs (start + o) ys (start + i) d (omega (arith, room)) (omega (arith, past))
+            ∙ sym (get_or-after range o ys i d (omega (arith, edge)) past ∙ get_or-range xs start count i d inner)
       ]
     ])
 
--- what stands behind the list
+-- what stands after the list
 pub range-behind : (xs : List ℕ) (count : ℕ) → slice_range (xs ++ replicate count 0) (length xs) (length xs + count) ≡ replicate count 0
 range-behind xs count =
     let zeros = replicate {A = ℕ} count 0 in

@@ -360,7 +360,7 @@ none-is-not bytes starts dirty page start p is below none allocated =
     let test : not (start == 0) ≡ false = rw none refl in
     false≢true (sym test ∙ allocated-is bytes starts dirty page start p is below ∙ allocated)
 
--- a page that is not allocated gets bytes behind the others
+-- a page that is not allocated gets bytes after the others
 pub record Makes (bytes new starts : List ℕ) (dirty : List Bool) (page start : ℕ) : Type 0 where
   pub placed : ArePlaced bytes starts dirty
   pub below : page < page_count

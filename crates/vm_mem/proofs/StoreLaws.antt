@@ -3,7 +3,7 @@ use Rattle.std.proofs.Common.{◌≡◌, inl, inr, ℕ, zero, suc, ◌+◌, ◌-
 use Rattle.std.proofs.Math.Nat.{div-div-eq-div-mul, mod-add-div, pow-succ'}
 use Rattle.std.proofs.lemmas.Bool.Decides.{nat_tests}
 use Rattle.vm_defs.specs.Memory.{Memory, bytes_of, is_out_of_range, load, memory_size, number_of}
-use Rattle.vm_defs.proofs.CodeLaws.{get_or-before, get_or-behind, get_or-written, store-is}
+use Rattle.vm_defs.proofs.CodeLaws.{get_or-before, get_or-after, get_or-written, store-is}
 use Rattle.vm_defs.proofs.Numbers.{number-none, number-step}
 use Rattle.vm_mem.specs.Laws.{LoadsWhatWasStored, StoreLeavesTheRest}
 
@@ -90,5 +90,5 @@ store-leaves-the-rest old new at bytes place count whole stores apart =
     ap (λ (memory : Memory). get_or memory.bytes i 0) stored.stored
     ∙ elim apart [
       | inl before ↦ get_or-before old.bytes at bytes i 0 (omega (arith, room, whole)) (omega (arith, high, before))
-      | inr behind ↦ get_or-behind old.bytes at bytes i 0 (omega (arith, room, whole)) (omega (arith, low, behind))
+      | inr behind ↦ get_or-after old.bytes at bytes i 0 (omega (arith, room, whole)) (omega (arith, low, behind))
     ]))

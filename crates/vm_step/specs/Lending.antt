@@ -9,6 +9,6 @@ abbrev pub with_memory : RunningMachine → PagedMemory → RunningMachine
 with_memory running memory =
     record running { machine = record running.machine { memory = memory.memory }; allocated = memory.allocated }
 
--- the machine ends with the memory that is left behind the reference, and is else as it was
+-- the machine ends with the memory that the reference leaves, and is else as it was
 abbrev pub LendsMemory : MutBor RunningMachine → MutBor PagedMemory → Fml
 LendsMemory machine lent = Lends the_row memory_row machine lent (with_memory machine.now)

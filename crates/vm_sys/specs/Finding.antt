@@ -4,7 +4,7 @@ use Rattle.sys_defs.specs.World as world
 use Rattle.vm_sys.specs.declared.world.Found.{Found}
 use Rattle.vm_sys.specs.declared.world.Found.TheVariants.{Here, NoIndex, Missing, Unknown}
 
--- with the bytes of what is in hand (where an item is here, its bytes are: the clause `here` of `find`)
+-- with the bytes of the current item (where an item is here, its bytes are: the clause `here` of `find`)
 abbrev pub item_of : Found → Option (List ℕ) → world.Item
 item_of Here (Some bytes) = world.Here bytes
 item_of Here None = world.Unknown

@@ -24,13 +24,13 @@ pub enum Found {
     Unknown,
 }
 
-/// What a script may ask for. The item that was found last is in hand. What is damaged stands in LOG, where the kept
+/// What a script may ask for. The item that was found last is the current one. What is damaged stands in LOG, where the kept
 /// blocks are.
 pub trait World {
     /// What each call asks for, where it tells that.
     ghost told: { Self → Option Items };
 
-    /// The bytes of the item in hand.
+    /// The bytes of the current item.
     ghost here: { Self → Option (List ℕ) };
 
     /// How often it has failed.
@@ -58,7 +58,7 @@ pub trait World {
         ensures undamaged { IsSome (told self.old) → (damage : Damage) → result ≡ Err (Damaged damage) → ⊥ }
         ensures damage { (damage : Damage) → result ≡ Err (Damaged damage) → damage.area ≡ Log };
 
-    /// The bytes of the item in hand.
+    /// The bytes of the current item.
     fn bytes(&self) -> &[u8]
         requires { IsSome (here self.now) }
         ensures { here self.now ≡ Some result.now };

@@ -9,5 +9,5 @@ returns c = record {
   sound_holds_its_own = sound-holds-its-own;
   sound_has_its_number = sound-has-its-number;
   is_of_its_tip = is-of-its-tip;
-  tells_its_rows = tells-its-rows;
+  lists_its_rows = tells-its-rows;
 }

@@ -6,7 +6,7 @@ use Rattle.elf_load.proofs.Segments.{Placing, no_code-at, placing-more, placing-
 use Rattle.elf_load.proofs.Allocating.{Allocating, allocating-all, allocating-more}
 use Rattle.elf_load.proofs.placing.place_segments.Goals as goal
 
--- the segments of the program headers behind one
+-- the segments of the program headers after one
 abbrev left : List ℕ → ℕ → List Segment
 left file index = segments_from (e_phnum file - (index + 1)) file (e_phoff file + program_header_size * (index + 1))
 

@@ -42,5 +42,5 @@ returns-clause-next g c = λ limit most.
     let whole : IsItemAt limit c.args.input_limit c.args.offset (take c.in-Ok.item.len (c.fill.new.item ++ drop (length c.fill.new.item) c.in-Ok.item.items)) (c.args.word.now ++ given) =
     rw (written_whole c.in-Ok.item.len c.fill.new.item c.in-Ok.item.items (omega (arith, same, c.in-Ok.ensures.len)))
     (read_whole limit c.args.input_limit c.args.offset c.args.size c.in-Ok-fill.n c.args.word.now c.fill.new.item c.told-word c.requires.word
-    c.requires.least most c.requires.within same c.in-Ok-fill.ensures.front (omega (arith, c.if-n-size.false, c.in-Ok-fill.ensures.read, long))) in
+    c.requires.least most c.requires.within same c.in-Ok-fill.ensures.prefix (omega (arith, c.if-n-size.false, c.in-Ok-fill.ensures.read, long))) in
     (given, c.in-Ok-fill.ensures.given, whole)

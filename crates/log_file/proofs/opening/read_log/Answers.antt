@@ -8,28 +8,28 @@ use Rattle.log_file.proofs.opening.read_log.Goals as goal
 pub returns-in-Err-read_blocks-clause-not_a_store : goal.returns-in-Err-read_blocks-clause-not_a_store
 returns-in-Err-read_blocks-clause-not_a_store g c =
     let front = c.in-Ok.ensures in
-    told_wrong_blocks _ _ c.in-Ok.front.0 c.args.len c.new-reader.result c.read_head.new.reader (blocks_with (g.V.Visitor.visited c.read_head.new.visitor) c.in-Ok.front.1.entries) _ _
-    (λ e. ap Err (same_stop _ _ e)) front.as_before.reads c.requires.len c.new-reader.ensures.reading front.found (c.in-Err-read_blocks.ensures.wrong c.in-Ok.front.0)
+    told_wrong_blocks _ _ c.in-Ok.head.0 c.args.len c.new-reader.result c.read_head.new.reader (blocks_with (g.V.Visitor.visited c.read_head.new.visitor) c.in-Ok.head.1.entries) _ _
+    (λ e. ap Err (same_stop _ _ e)) front.as_before.reads c.requires.len c.new-reader.ensures.reading front.found (c.in-Err-read_blocks.ensures.wrong c.in-Ok.head.0)
 
-all_read : (g : _) (c : goal.After-drop-reader-inside-2 g) → IfSome (g.D.Disk.reads_as c.args.disk.now) (λ image. IsRead image.log c.in-Ok.front.0 c.read_blocks.new.reader
+all_read : (g : _) (c : goal.After-drop-reader-inside-2 g) → IfSome (g.D.Disk.reads_as c.args.disk.now) (λ image. IsRead image.log c.in-Ok.head.0 c.read_blocks.new.reader
     (blocks_with (g.V.Visitor.visited c.read_blocks.new.visitor) c.read_blocks.new.tree.entries))
 all_read g c =
     let front = c.in-Ok.ensures in
-    told_read _ _ c.in-Ok.front.0 c.args.len c.new-reader.result c.read_head.new.reader c.read_blocks.new.reader
-    (blocks_with (g.V.Visitor.visited c.read_head.new.visitor) c.in-Ok.front.1.entries) (blocks_with (g.V.Visitor.visited c.read_blocks.new.visitor) c.read_blocks.new.tree.entries)
-    front.as_before.reads c.requires.len c.new-reader.ensures.reading front.start front.found (c.in-Ok-read_blocks.ensures.found c.in-Ok.front.0)
+    told_read _ _ c.in-Ok.head.0 c.args.len c.new-reader.result c.read_head.new.reader c.read_blocks.new.reader
+    (blocks_with (g.V.Visitor.visited c.read_head.new.visitor) c.in-Ok.head.1.entries) (blocks_with (g.V.Visitor.visited c.read_blocks.new.visitor) c.read_blocks.new.tree.entries)
+    front.as_before.reads c.requires.len c.new-reader.ensures.reading front.start front.found (c.in-Ok-read_blocks.ensures.found c.in-Ok.head.0)
 
 pub returns-clause-opened : goal.returns-clause-opened
-returns-clause-opened g c = told_opened _ c.in-Ok.front.0 c.read_blocks.new.reader (blocks_with (g.V.Visitor.visited c.read_blocks.new.visitor) c.read_blocks.new.tree.entries) (all_read g c)
+returns-clause-opened g c = told_opened _ c.in-Ok.head.0 c.read_blocks.new.reader (blocks_with (g.V.Visitor.visited c.read_blocks.new.visitor) c.read_blocks.new.tree.entries) (all_read g c)
 
 pub returns-clause-ends : goal.returns-clause-ends
 returns-clause-ends g c =
-    told_ends _ c.in-Ok.front.0 c.read_blocks.new.reader (blocks_with (g.V.Visitor.visited c.read_blocks.new.visitor) c.read_blocks.new.tree.entries) c.at-place.result c.at-place.ensures.value
+    told_ends _ c.in-Ok.head.0 c.read_blocks.new.reader (blocks_with (g.V.Visitor.visited c.read_blocks.new.visitor) c.read_blocks.new.tree.entries) c.at-place.result c.at-place.ensures.value
     (all_read g c)
 
 pub returns-clause-gate : goal.returns-clause-gate
 returns-clause-gate g c =
-    told_gate _ c.in-Ok.front.0 c.read_blocks.new.reader (blocks_with (g.V.Visitor.visited c.read_blocks.new.visitor) c.read_blocks.new.tree.entries) c.at-place.result c.ahead.result.now
+    told_gate _ c.in-Ok.head.0 c.read_blocks.new.reader (blocks_with (g.V.Visitor.visited c.read_blocks.new.visitor) c.read_blocks.new.tree.entries) c.at-place.result c.ahead.result.now
     c.is_open-open_gate.result c.at-place.ensures.value c.ahead.ensures c.is_open-open_gate.ensures (all_read g c)
 
 pub returns-in-Err-clause-opened : goal.returns-in-Err-clause-opened

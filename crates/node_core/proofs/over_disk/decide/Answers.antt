@@ -1,5 +1,5 @@
 use Rattle.std.proofs.Common.{sym, ap, ◌∙◌, subst}
-use Rattle.outside.proofs.Endings.{behind}
+use Rattle.outside.proofs.Endings.{after_still}
 use Rattle.chain_tree.specs.Entries.{TreeValue}
 use Rattle.chain_tree.specs.Reading.{stop_of}
 use Rattle.chain_tree.specs.Told.{blocks_of}
@@ -29,7 +29,7 @@ returns-clause-looked g c =
     (subst (λ after. HasOnlyRead g.D.Disk.content_of g.D.Disk.reads_as g.D.Disk.faults c.args.disk.now c.decide.new.blocks.disk.now c.args.kept.now c.args.cache.now after (stop_of c.decide.result)) (sym cache)
     (has-looked c.args.kept.now c.decide.new.blocks.tree.now.entries c.args.cache.now _ (ap (λ it. it.entries) c.decide.ensures.read.loans ∙ same) content
     (g.met.D.Disk.content_rests _ _ content).reads c.requires.own c.decide.new.blocks.kept (ap (λ it. it.most) loans ∙ ap (λ (it : CacheValue). it.most) c.new-store.ensures.cache) c.decide.ensures.read.damage
-    (behind (ap g.D.Disk.faults c.new-store.ensures.disk) c.decide.ensures.read.cause)
+    (after_still (ap g.D.Disk.faults c.new-store.ensures.disk) c.decide.ensures.read.cause)
     (λ other. c.decide.ensures.read.found other ∙ ap (λ (it : CacheValue). it.damages) c.new-store.ensures.cache)))
 
 pub returns-clause-ready : goal.returns-clause-ready

@@ -1,5 +1,5 @@
 use Rattle.std.proofs.Common.{◌≡◌, ◌-◌, List}
-use Rattle.outside.specs.Disk.{LeavesOnly, TellsAsBefore}
+use Rattle.outside.specs.Disk.{LeavesOnly, IsKnownAsBefore}
 use Rattle.log_defs.specs.Log.{Record}
 use Rattle.log_defs.specs.Rest.{IsSettled}
 use Rattle.report_defs.specs.Report.{input_limit}
@@ -19,7 +19,7 @@ invariant-items g l = record {
       × ((records : List Record) → IsSettled l.fn.opened.place records (g.D.Disk.reads_as l.fn.disk) (g.D.Disk.images l.fn.disk)
       → HasGrown w.items records l.node.place (g.D.Disk.reads_as l.disk) (g.D.Disk.images l.disk) (LeavesOnly g.D.Disk.moment g.D.Disk.left_since l.fn.disk l.disk));
   own : IsItsOwn l.node (g.D.Disk.reads_as l.disk) (g.D.Disk.images l.disk);
-  told : TellsAsBefore (g.D.Disk.reads_as l.fn.disk) (g.D.Disk.reads_as l.disk);
+  told : IsKnownAsBefore (g.D.Disk.reads_as l.fn.disk) (g.D.Disk.reads_as l.disk);
   input_unchanged : g.S.Source.faults l.input ≡ g.S.Source.faults l.fn.input;
   out_unchanged : g.K.Sink.faults l.out ≡ g.K.Sink.faults l.fn.out;
   disk_unchanged : g.D.Disk.faults l.disk ≡ g.D.Disk.faults l.fn.disk;

@@ -53,7 +53,7 @@ returns-in-Err-clause-said g c = (
   takes_none (g.K.Sink.taken c.args.out.now),
   inr (record {
     stop = disk_stops c.in-Err.status (c.in-Err.ensures.stop c.in-Err.status refl);
-    front = (text_of (report_of_new c.args.specification.now c.args.genesis.now), refl);
+    prefix = (text_of (report_of_new c.args.specification.now c.args.genesis.now), refl);
     silent = λ _. refl;
   }),
 )

@@ -7,7 +7,7 @@ returns-in-Err-clause-written g c =
       take before.0 c.args.text.now,
       before.2,
       record {
-        front = (drop before.0 c.args.text.now, sym (take-append-drop before.0 c.args.text.now));
+        prefix = (drop before.0 c.args.text.now, sym (take-append-drop before.0 c.args.text.now));
         shorter = omega (arith, before.1, length-take-le before.0 c.args.text.now (omega (arith, before.1)));
       },
     )

@@ -1,6 +1,6 @@
 use Rattle.std.proofs.Common.{[], refl, ap}
 use Rattle.std.specs.Prelude.{Err}
-use Rattle.outside.proofs.Endings.{no_fault, counts-as, no_answer, behind}
+use Rattle.outside.proofs.Endings.{no_fault, counts-as, no_answer, after_still}
 use Rattle.outside.proofs.Streams.{takes_none}
 use Rattle.report_defs.specs.declared.command.Command.TheVariants.{Query}
 use Rattle.node_core.specs.Node.{IsSoundOn}
@@ -95,7 +95,7 @@ pub returns-clause-out_faults : goal.returns-clause-out_faults
 returns-clause-out_faults g c = c.find_and_answer-status.ensures.faults
 
 pub returns-clause-disk_faults : goal.returns-clause-disk_faults
-returns-clause-disk_faults g c = behind (c.in-Ok.ensures.cause.unchanged (no_answer _ _)) c.find_and_answer-status.ensures.disk.cause
+returns-clause-disk_faults g c = after_still (c.in-Ok.ensures.cause.unchanged (no_answer _ _)) c.find_and_answer-status.ensures.disk.cause
 
 pub returns-clause-rests : goal.returns-clause-rests
 returns-clause-rests g c = λ now told other.

@@ -1,6 +1,6 @@
 use Rattle.std.proofs.Common.{[], ap, refl}
 use Rattle.std.specs.Prelude.{Err}
-use Rattle.outside.proofs.Endings.{no_answer, behind}
+use Rattle.outside.proofs.Endings.{no_answer, after_still}
 use Rattle.outside.proofs.Streams.{gives_none, takes_none}
 use Rattle.node_run.proofs.LookLemmas.{tells_looked, leaves_looked, only_read_looked}
 use Rattle.node_run.proofs.QuestionLemmas.{question_opened, question_unopened}
@@ -33,7 +33,7 @@ returns-clause-question g c =
     )
 
 pub returns-clause-disk_faults : goal.returns-clause-disk_faults
-returns-clause-disk_faults g c = behind (c.in-Ok.ensures.cause.unchanged (no_answer _ _)) c.read_and_answer-status.ensures.disk.cause
+returns-clause-disk_faults g c = after_still (c.in-Ok.ensures.cause.unchanged (no_answer _ _)) c.read_and_answer-status.ensures.disk.cause
 
 pub returns-clause-no_log : goal.returns-clause-no_log
 returns-clause-no_log g c = λ now told none. absurd (opened_there (g.D.Disk.reads_as c.args.disk.now) c.in-Ok.node.chain now c.in-Ok.ensures.kept told none)

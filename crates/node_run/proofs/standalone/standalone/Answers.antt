@@ -66,7 +66,7 @@ returns-clause-text g c =
           (subst (λ limit. IsFile limit left c.in-Ok.file.items read.0) c.limit_of-limit.ensures.limit read.2)
           (subst (λ file. IsReportOfFile c.args.command file (report_without_lines answer.bytes.items answer.status)) c.deref.ensures.value c.in-Ok-answer_to.ensures)
           (c.in-Err-write_text.ensures.stop c.in-Err-write_text.status refl)
-          (subst (λ text. IsPrefix written.0 text) c.deref-2.ensures.value written.2.front),
+          (subst (λ text. IsPrefix written.0 text) c.deref-2.ensures.value written.2.prefix),
     )
 
 pub returns-in-Err-clause-status : goal.returns-in-Err-clause-status

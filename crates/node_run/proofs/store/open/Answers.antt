@@ -1,7 +1,7 @@
 use Rattle.std.proofs.Common.{ap, subst}
 use Rattle.std.specs.Prelude.{Err}
 use Rattle.outside.specs.declared.disk.Area.TheVariants.{Log}
-use Rattle.node_core.proofs.KeepingLemmas.{tells_as_before}
+use Rattle.node_core.proofs.KeepingLemmas.{known_as_before}
 use Rattle.outside.proofs.Endings.{no_fault, counts-as, no_answer}
 use Rattle.report_defs.specs.Status.{IsOneOf}
 use Rattle.node_run.specs.Store.{opening_stops}
@@ -56,10 +56,10 @@ pub returns-in-Err-clause-sound : goal.returns-in-Err-clause-sound
 returns-in-Err-clause-sound g c = λ _ _ _. tt
 
 pub returns-in-Ok-clause-told : goal.returns-in-Ok-clause-told
-returns-in-Ok-clause-told g c = tells_as_before Log _ _ c.in-Ok.ensures.left.others
+returns-in-Ok-clause-told g c = known_as_before Log _ _ c.in-Ok.ensures.left.others
 
 pub returns-in-Err-clause-told : goal.returns-in-Err-clause-told
-returns-in-Err-clause-told g c = tells_as_before Log _ _ c.in-Err.ensures.left.others
+returns-in-Err-clause-told g c = known_as_before Log _ _ c.in-Err.ensures.left.others
 
 pub returns-in-Ok-clause-settled : goal.returns-in-Ok-clause-settled
 returns-in-Ok-clause-settled g c = c.in-Ok.ensures.settled

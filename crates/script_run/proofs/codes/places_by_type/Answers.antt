@@ -14,10 +14,10 @@ deps-init c hash = ap (lookup (bytes_eq hash)) c.new-places.ensures.empty ∙ ty
 
 pub deps-preserved : goal.deps-preserved
 deps-preserved c hash =
-    let first = length c.args.deps.now - 1 - c.deps.behind in
+    let first = length c.args.deps.now - 1 - c.deps.done in
     let key : c.meta.inside.type_hash ≡ c.index-deps-first.result.row.type_hash =
     ap (λ (row : Row). row.type_hash) c.meta.view_is ∙ ap (λ (dep : ResolvedValue). dep.row.type_hash) c.dep.view_is in
-    type-more c.args.deps.now c.deps.behind first c.index-deps-first.result hash (get bytes_eq c.deps.places hash) (get bytes_eq c.match-type_hash.places hash)
+    type-more c.args.deps.now c.deps.done first c.index-deps-first.result hash (get bytes_eq c.deps.places hash) (get bytes_eq c.match-type_hash.places hash)
     c.deps-test.true refl c.index-deps-first.is (c.deps.invariant hash)
     (elim c.match-type_hash.branch [
       | in-Some+in_ok-insert w ↦
@@ -31,4 +31,4 @@ deps-preserved c hash =
     ])
 
 pub returns : goal.returns
-returns c hash = c.deps.invariant hash ∙ all-behind (typed_with hash) c.args.deps.now c.deps.behind c.deps-test.false
+returns c hash = c.deps.invariant hash ∙ all-behind (typed_with hash) c.args.deps.now c.deps.done c.deps-test.false

@@ -1,6 +1,6 @@
 use Rattle.std.proofs.Common.{◌≡◌, ℕ, ◌+◌, ◌<◌, ◌≤◌, length, drop, get_or, ap, ◌∙◌, subst, arith}
 use Rattle.std.specs.Prelude.{Err}
-use Rattle.outside.proofs.Endings.{counts-as, behind, no_answer}
+use Rattle.outside.proofs.Endings.{counts-as, after_still, no_answer}
 use Rattle.verdict_defs.specs.Chain.{Chain}
 use Rattle.node_core.specs.Steps.{steps_over}
 use Rattle.sessions.specs.Sessions.{items_in, KeepsPrefix}
@@ -50,7 +50,7 @@ importing-preserved g c =
 
 pub returns-in-Err-clause-fault : goal.returns-in-Err-clause-fault
 returns-in-Err-clause-fault g c =
-    behind c.importing.invariant.unchanged
+    after_still c.importing.invariant.unchanged
     (counts-as c.in-Err.ensures.cause (λ e. ap Err (c.end_of_import.ensures.fault.0 e)) (λ e. c.end_of_import.ensures.fault.1 (same_error _ _ e)))
 
 pub returns-clause-kept : goal.returns-clause-kept

@@ -1,6 +1,6 @@
 use Rattle.std.proofs.Common.{ap, subst, length, arith}
 use Rattle.std.specs.Prelude.{Err}
-use Rattle.outside.proofs.Endings.{counts-as, behind, no_answer}
+use Rattle.outside.proofs.Endings.{counts-as, after_still, no_answer}
 use Rattle.verdict_defs.specs.Chain.{Chain}
 use Rattle.node_core.specs.Node.{IsOn}
 use Rattle.node_core.specs.Steps.{steps_over}
@@ -23,7 +23,7 @@ returns-in-Ok-clause-kept g c = λ chain only image left.
     (c.import_items.ensures.kept image left)
 
 pub returns-in-Ok-clause-fault : goal.returns-in-Ok-clause-fault
-returns-in-Ok-clause-fault g c = behind (c.in-Ok.ensures.cause.unchanged (no_answer _ _)) c.import_items.ensures.fault
+returns-in-Ok-clause-fault g c = after_still (c.in-Ok.ensures.cause.unchanged (no_answer _ _)) c.import_items.ensures.fault
 
 pub returns-in-Ok-clause-steps : goal.returns-in-Ok-clause-steps
 returns-in-Ok-clause-steps g c = λ chain only.

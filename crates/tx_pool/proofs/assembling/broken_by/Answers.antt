@@ -5,7 +5,7 @@ use Rattle.chain_tree.specs.Told.{blocks_of}
 use Rattle.rule_names.specs.Number.{rule_number}
 use Rattle.block_judge.specs.declared.stop.JudgeStop.TheVariants.{Read}
 use Rattle.block_judge.proofs.Exits.{same_stop}
-use Rattle.tx_pool.proofs.SightLemmas.{first-at-sight}
+use Rattle.block_judge.proofs.SightLemmas.{first-at-sight}
 use Rattle.tx_pool.proofs.AssemblingLemmas.{known-as, breaks-2, after-2}
 use Rattle.tx_pool.proofs.assembling.broken_by.Goals as goal
 

@@ -28,7 +28,7 @@ returns-in-Err g c = record {
   read = c.in-Err.ensures.read;
   fits = tt;
   later = later-read c.in-Err.stop (λ damage same. c.in-Err.ensures.read.damage damage (ap Some same));
-  tells = λ stored rows site told is found.
+  judged = λ stored rows site told is found.
       let spent : c.deref.result.now ≡ map (found_row (blocks_of stored) c.args.at.now.parent) (inputs site c.args.tx.now) = c.deref.ensures.value ∙ found.spent_are in
       read-stops (paying_rules site c.args.tx.now) c.in-Err.stop
       (λ damage same. c.in-Err.ensures.undamaged stored rows site (inputs site c.args.tx.now) told is (inputs-seen site c.args.tx.now) spent damage (ap Err same));
@@ -46,14 +46,14 @@ returns-in-Err-paid_by g c = record {
       c.in-Err-paid_by.ensures.unread c.in-Ok.ensures.read;
   fits = tt;
   later = c.in-Err-paid_by.ensures.later;
-  tells = λ stored rows site told is found.
+  judged = λ stored rows site told is found.
       let spent : c.deref.result.now ≡ map (found_row (blocks_of stored) c.args.at.now.parent) (inputs site c.args.tx.now) = c.deref.ensures.value ∙ found.spent_are in
       let copied : AllZip (Copies (blocks_of stored) c.args.at.now.parent) (inputs site c.args.tx.now) c.in-Ok.inputs.items =
       c.in-Ok.ensures.copied stored rows site (inputs site c.args.tx.now) told is (inputs-seen site c.args.tx.now) spent in
       let copies : AllZip (Copies (blocks_of stored) c.args.at.now.parent) (inputs site c.args.tx.now) c.deref-2.result.now =
       subst (λ (cs : List ResolvedValue). AllZip (Copies (blocks_of stored) c.args.at.now.parent) (inputs site c.args.tx.now) cs) (sym c.deref-2.ensures.value) copied in
       let places : c.deref-3.result.now ≡ map (slice_index (branch_places (blocks_of stored) c.args.at.now.parent)) (heights site c.args.tx.now) = c.deref-3.ensures.value ∙ found.places_are in
-      c.in-Err-paid_by.ensures.tells stored rows site is copies places;
+      c.in-Err-paid_by.ensures.judged stored rows site is copies places;
   inputs = λ stored rows site told is found. tt;
   deps = λ stored rows site told is found. tt;
   paid = λ stored rows site told is found. tt;
@@ -67,7 +67,7 @@ returns-in-Err-fetch_all g c = record {
   read = read_on c.in-Ok.ensures.read c.in-Err-fetch_all.ensures.read;
   fits = tt;
   later = later-read c.in-Err-fetch_all.stop (λ damage same. c.in-Err-fetch_all.ensures.read.damage damage (ap Some same));
-  tells = λ stored rows site told is found.
+  judged = λ stored rows site told is found.
       let named : c.deref-4.result.now ≡ map (found_row (blocks_of stored) c.args.at.now.parent) (deps site c.args.tx.now) = c.deref-4.ensures.value ∙ found.named_are in
       read-stops (paying_rules site c.args.tx.now) c.in-Err-fetch_all.stop
       (λ damage same. c.in-Err-fetch_all.ensures.undamaged stored rows site (deps site c.args.tx.now) (c.in-Ok.ensures.read.told ∙ told) is (deps-seen site c.args.tx.now) named
@@ -85,14 +85,14 @@ returns-in-Ok-fetch_all g c = record {
   read = read_on c.in-Ok.ensures.read c.in-Ok-fetch_all.ensures.read;
   fits = c.in-Ok-paid_by.ensures.fits;
   later = tt;
-  tells = λ stored rows site told is found.
+  judged = λ stored rows site told is found.
       let spent : c.deref.result.now ≡ map (found_row (blocks_of stored) c.args.at.now.parent) (inputs site c.args.tx.now) = c.deref.ensures.value ∙ found.spent_are in
       let copied : AllZip (Copies (blocks_of stored) c.args.at.now.parent) (inputs site c.args.tx.now) c.in-Ok.inputs.items =
       c.in-Ok.ensures.copied stored rows site (inputs site c.args.tx.now) told is (inputs-seen site c.args.tx.now) spent in
       let copies : AllZip (Copies (blocks_of stored) c.args.at.now.parent) (inputs site c.args.tx.now) c.deref-2.result.now =
       subst (λ (cs : List ResolvedValue). AllZip (Copies (blocks_of stored) c.args.at.now.parent) (inputs site c.args.tx.now) cs) (sym c.deref-2.ensures.value) copied in
       let places : c.deref-3.result.now ≡ map (slice_index (branch_places (blocks_of stored) c.args.at.now.parent)) (heights site c.args.tx.now) = c.deref-3.ensures.value ∙ found.places_are in
-      c.in-Ok-paid_by.ensures.tells stored rows site is copies places;
+      c.in-Ok-paid_by.ensures.judged stored rows site is copies places;
   inputs = λ stored rows site told is found.
       let spent : c.deref.result.now ≡ map (found_row (blocks_of stored) c.args.at.now.parent) (inputs site c.args.tx.now) = c.deref.ensures.value ∙ found.spent_are in
       c.in-Ok.ensures.copied stored rows site (inputs site c.args.tx.now) told is (inputs-seen site c.args.tx.now) spent;

@@ -22,9 +22,9 @@ returns-in-Err g c = record {
   read = read_stopped c.args.proposed c.in-Err.stop c.in-Err.ensures.stops c.in-Err.ensures.unread (unread c.args.blocks.now);
   stops = c.in-Err.ensures.stops;
   by_rows = follows-on c.args.proposed (g.C.Cells.rows c.args.cells.now) c.args.tx.now c.in-Err.stop c.in-Err.ensures.by_rows;
-  tells = λ stored site told is.
+  judged = λ stored site told is.
       stops-front (spending_rules c.args.proposed site c.args.tx.now) (naming_rules site c.args.tx.now ++ using_rules site c.args.tx.now) c.in-Err.stop
-      (c.in-Err.ensures.tells stored c.args.at.now site is);
+      (c.in-Err.ensures.judged stored c.args.at.now site is);
   found = λ stored site told is. tt;
   form = tt;
   spent = tt;
@@ -36,10 +36,10 @@ returns-in-Err-named_rows g c = record {
   read = c.in-Err-named_rows.ensures.read;
   stops = later-stops c.args.proposed c.in-Err-named_rows.stop c.in-Err-named_rows.ensures.later;
   by_rows = follows-behind c.args.proposed (g.C.Cells.rows c.args.cells.now) c.args.tx.now c.in-Ok.spent _ c.in-Ok.ensures.by_rows c.in-Err-named_rows.ensures.later;
-  tells = λ stored site told is.
+  judged = λ stored site told is.
       stops-back (spending_rules c.args.proposed site c.args.tx.now) (naming_rules site c.args.tx.now ++ using_rules site c.args.tx.now) c.in-Err-named_rows.stop
-      (c.in-Ok.ensures.tells stored c.args.at.now site is)
-      (stops-front (naming_rules site c.args.tx.now) (using_rules site c.args.tx.now) c.in-Err-named_rows.stop (c.in-Err-named_rows.ensures.tells stored site told is));
+      (c.in-Ok.ensures.judged stored c.args.at.now site is)
+      (stops-front (naming_rules site c.args.tx.now) (using_rules site c.args.tx.now) c.in-Err-named_rows.stop (c.in-Err-named_rows.ensures.judged stored site told is));
   found = λ stored site told is. tt;
   form = tt;
   spent = tt;
@@ -52,15 +52,15 @@ returns-in-Err-try_cells g c = record {
       (later-stops c.args.proposed c.in-Err-try_cells.stop c.in-Err-try_cells.ensures.later) c.in-Err-try_cells.ensures.unread c.in-Ok-named_rows.ensures.read;
   stops = later-stops c.args.proposed c.in-Err-try_cells.stop c.in-Err-try_cells.ensures.later;
   by_rows = follows-behind c.args.proposed (g.C.Cells.rows c.args.cells.now) c.args.tx.now c.in-Ok.spent _ c.in-Ok.ensures.by_rows c.in-Err-try_cells.ensures.later;
-  tells = λ stored site told is.
+  judged = λ stored site told is.
       let named : c.deref-2.result.now ≡ map (found_row (blocks_of stored) c.args.at.now.parent) (deps site c.args.tx.now) =
       c.deref-2.ensures.value ∙ c.in-Ok-named_rows.ensures.cells stored site told is in
       let spent : c.deref.result.now ≡ map (found_row (blocks_of stored) c.args.at.now.parent) (inputs site c.args.tx.now) =
       c.deref.ensures.value ∙ spent-inputs stored c.args.at.now (g.C.Cells.rows c.args.cells.now) site c.args.tx.now c.in-Ok.spent.items is c.in-Ok.ensures.rows in
       stops-back (spending_rules c.args.proposed site c.args.tx.now) (naming_rules site c.args.tx.now ++ using_rules site c.args.tx.now) c.in-Err-try_cells.stop
-      (c.in-Ok.ensures.tells stored c.args.at.now site is)
-      (stops-back (naming_rules site c.args.tx.now) (using_rules site c.args.tx.now) c.in-Err-try_cells.stop (c.in-Ok-named_rows.ensures.tells stored site told is)
-      (c.in-Err-try_cells.ensures.tells stored site is spent named));
+      (c.in-Ok.ensures.judged stored c.args.at.now site is)
+      (stops-back (naming_rules site c.args.tx.now) (using_rules site c.args.tx.now) c.in-Err-try_cells.stop (c.in-Ok-named_rows.ensures.judged stored site told is)
+      (c.in-Err-try_cells.ensures.judged stored site is spent named));
   found = λ stored site told is. tt;
   form = tt;
   spent = tt;
@@ -72,14 +72,14 @@ returns-in-Ok-try_cells g c = record {
   read = c.in-Ok-named_rows.ensures.read;
   stops = tt;
   by_rows = follows-behind c.args.proposed (g.C.Cells.rows c.args.cells.now) c.args.tx.now c.in-Ok.spent _ c.in-Ok.ensures.by_rows tt;
-  tells = λ stored site told is.
+  judged = λ stored site told is.
       let named : c.deref-2.result.now ≡ map (found_row (blocks_of stored) c.args.at.now.parent) (deps site c.args.tx.now) =
       c.deref-2.ensures.value ∙ c.in-Ok-named_rows.ensures.cells stored site told is in
       let spent : c.deref.result.now ≡ map (found_row (blocks_of stored) c.args.at.now.parent) (inputs site c.args.tx.now) =
       c.deref.ensures.value ∙ spent-inputs stored c.args.at.now (g.C.Cells.rows c.args.cells.now) site c.args.tx.now c.in-Ok.spent.items is c.in-Ok.ensures.rows in
-      keeps-all (spending_rules c.args.proposed site c.args.tx.now) (naming_rules site c.args.tx.now ++ using_rules site c.args.tx.now) (c.in-Ok.ensures.tells stored c.args.at.now site is)
-      (keeps-all (naming_rules site c.args.tx.now) (using_rules site c.args.tx.now) (c.in-Ok-named_rows.ensures.tells stored site told is)
-      (c.in-Ok-try_cells.ensures.tells stored site is spent named));
+      keeps-all (spending_rules c.args.proposed site c.args.tx.now) (naming_rules site c.args.tx.now ++ using_rules site c.args.tx.now) (c.in-Ok.ensures.judged stored c.args.at.now site is)
+      (keeps-all (naming_rules site c.args.tx.now) (using_rules site c.args.tx.now) (c.in-Ok-named_rows.ensures.judged stored site told is)
+      (c.in-Ok-try_cells.ensures.judged stored site is spent named));
   found = λ stored site told is. record {
     spent_are = spent-inputs stored c.args.at.now (g.C.Cells.rows c.args.cells.now) site c.args.tx.now c.in-Ok.spent.items is c.in-Ok.ensures.rows;
     named_are = c.in-Ok-named_rows.ensures.cells stored site told is;

@@ -33,14 +33,14 @@ returns-in-Err g c = record {
   fits = tt;
   broken = λ stored site told is rule same.
       broken-of c.args.proposed site c.args.tx.now _ rule
-      (stops-front (finding_rules c.args.proposed site c.args.tx.now) (paying_rules site c.args.tx.now) c.in-Err.stop (c.in-Err.ensures.tells stored site told is)) same;
+      (stops-front (finding_rules c.args.proposed site c.args.tx.now) (paying_rules site c.args.tx.now) c.in-Err.stop (c.in-Err.ensures.judged stored site told is)) same;
   unbroken = λ stored site told is. tt;
   resolved = λ stored site told is. tt;
   fee = λ stored site told is. tt;
   interest = λ stored site told is. tt;
   undamaged = λ stored site told is damage same.
       undamaged-of (finding_rules c.args.proposed site c.args.tx.now ++ paying_rules site c.args.tx.now) _ damage
-      (stops-front (finding_rules c.args.proposed site c.args.tx.now) (paying_rules site c.args.tx.now) c.in-Err.stop (c.in-Err.ensures.tells stored site told is)) same;
+      (stops-front (finding_rules c.args.proposed site c.args.tx.now) (paying_rules site c.args.tx.now) c.in-Err.stop (c.in-Err.ensures.judged stored site told is)) same;
 }
 
 pub returns-in-Err-copy_cells : goal.returns-in-Err-copy_cells
@@ -53,16 +53,16 @@ returns-in-Err-copy_cells g c = record {
   fits = tt;
   broken = λ stored site told is rule same.
       broken-of c.args.proposed site c.args.tx.now _ rule
-      (stops-back (finding_rules c.args.proposed site c.args.tx.now) (paying_rules site c.args.tx.now) c.in-Err-copy_cells.stop (c.in-Ok.ensures.tells stored site told is)
-      (c.in-Err-copy_cells.ensures.tells stored (g.C.Cells.rows c.args.cells.now) site (c.in-Ok.ensures.read.told ∙ told) is (c.in-Ok.ensures.found stored site told is))) same;
+      (stops-back (finding_rules c.args.proposed site c.args.tx.now) (paying_rules site c.args.tx.now) c.in-Err-copy_cells.stop (c.in-Ok.ensures.judged stored site told is)
+      (c.in-Err-copy_cells.ensures.judged stored (g.C.Cells.rows c.args.cells.now) site (c.in-Ok.ensures.read.told ∙ told) is (c.in-Ok.ensures.found stored site told is))) same;
   unbroken = λ stored site told is. tt;
   resolved = λ stored site told is. tt;
   fee = λ stored site told is. tt;
   interest = λ stored site told is. tt;
   undamaged = λ stored site told is damage same.
       undamaged-of (finding_rules c.args.proposed site c.args.tx.now ++ paying_rules site c.args.tx.now) _ damage
-      (stops-back (finding_rules c.args.proposed site c.args.tx.now) (paying_rules site c.args.tx.now) c.in-Err-copy_cells.stop (c.in-Ok.ensures.tells stored site told is)
-      (c.in-Err-copy_cells.ensures.tells stored (g.C.Cells.rows c.args.cells.now) site (c.in-Ok.ensures.read.told ∙ told) is (c.in-Ok.ensures.found stored site told is))) same;
+      (stops-back (finding_rules c.args.proposed site c.args.tx.now) (paying_rules site c.args.tx.now) c.in-Err-copy_cells.stop (c.in-Ok.ensures.judged stored site told is)
+      (c.in-Err-copy_cells.ensures.judged stored (g.C.Cells.rows c.args.cells.now) site (c.in-Ok.ensures.read.told ∙ told) is (c.in-Ok.ensures.found stored site told is))) same;
 }
 
 pub returns : goal.returns
@@ -85,8 +85,8 @@ returns g c = record {
       subst (λ (z : ℤ). nat_abs z < 2 ^ 96) (sym (to_z-of_z w128 c.in-Ok-copy_cells.copied.balance.interest (search rules))) c.in-Ok-copy_cells.ensures.fits;
   broken = λ stored site told is rule same. absurd (no_answer _ _ same);
   unbroken = λ stored site told is.
-      all-rules c.args.proposed site c.args.tx.now ∙ keeps-all (finding_rules c.args.proposed site c.args.tx.now) (paying_rules site c.args.tx.now) (c.in-Ok.ensures.tells stored site told is)
-      (c.in-Ok-copy_cells.ensures.tells stored (g.C.Cells.rows c.args.cells.now) site (c.in-Ok.ensures.read.told ∙ told) is (c.in-Ok.ensures.found stored site told is));
+      all-rules c.args.proposed site c.args.tx.now ∙ keeps-all (finding_rules c.args.proposed site c.args.tx.now) (paying_rules site c.args.tx.now) (c.in-Ok.ensures.judged stored site told is)
+      (c.in-Ok-copy_cells.ensures.judged stored (g.C.Cells.rows c.args.cells.now) site (c.in-Ok.ensures.read.told ∙ told) is (c.in-Ok.ensures.found stored site told is));
   resolved = λ stored site told is. record {
     inputs_are = c.in-Ok-copy_cells.ensures.inputs stored (g.C.Cells.rows c.args.cells.now) site (c.in-Ok.ensures.read.told ∙ told) is (c.in-Ok.ensures.found stored site told is);
     deps_are = c.in-Ok-copy_cells.ensures.deps stored (g.C.Cells.rows c.args.cells.now) site (c.in-Ok.ensures.read.told ∙ told) is (c.in-Ok.ensures.found stored site told is);

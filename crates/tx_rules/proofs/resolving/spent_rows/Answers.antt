@@ -17,7 +17,7 @@ returns-in-Ok-false g c =
       stops = tried-18 c.args.proposed;
       by_rows = follows-form c.args.proposed (g.C.Cells.rows c.args.cells.now) c.args.tx.now form;
       unread = broken_unread DiskFault;
-      tells = λ stored at site is. no-form c.args.proposed site c.args.tx.now form;
+      judged = λ stored at site is. no-form c.args.proposed site c.args.tx.now form;
       form = tt;
       rows = tt;
     }
@@ -27,7 +27,7 @@ returns-in-Err g c = record {
   stops = tt;
   by_rows = follows-memory c.args.proposed (g.C.Cells.rows c.args.cells.now) c.args.tx.now;
   unread = memory_unread;
-  tells = λ stored at site is. tt;
+  judged = λ stored at site is. tt;
   form = tt;
   rows = tt;
 }
@@ -39,7 +39,7 @@ returns-then-not-proposed g c =
       stops = tried-19 c.args.proposed c.if-not-proposed.true;
       by_rows = follows-unproposed c.args.proposed (g.C.Cells.rows c.args.cells.now) c.args.tx.now form c.if-not-proposed.true;
       unread = broken_unread DiskFault;
-      tells = λ stored at site is. not-proposed c.args.proposed site c.args.tx.now form c.if-not-proposed.true;
+      judged = λ stored at site is. not-proposed c.args.proposed site c.args.tx.now form c.if-not-proposed.true;
       form = tt;
       rows = tt;
     }
@@ -53,7 +53,7 @@ returns-in-Ok-false-are_inputs_distinct g c =
       stops = tried-20 c.args.proposed;
       by_rows = follows-lost c.args.proposed (g.C.Cells.rows c.args.cells.now) c.args.tx.now form c.if-not-proposed.false lost;
       unread = broken_unread DiskFault;
-      tells = λ stored at site is. spends-badly c.args.proposed site c.args.tx.now form c.if-not-proposed.false (spends-by-rows stored at (g.C.Cells.rows c.args.cells.now) site c.args.tx.now is ∙ lost);
+      judged = λ stored at site is. spends-badly c.args.proposed site c.args.tx.now form c.if-not-proposed.false (spends-by-rows stored at (g.C.Cells.rows c.args.cells.now) site c.args.tx.now is ∙ lost);
       form = tt;
       rows = tt;
     }
@@ -63,7 +63,7 @@ returns-in-Err-are_inputs_distinct g c = record {
   stops = tt;
   by_rows = follows-memory c.args.proposed (g.C.Cells.rows c.args.cells.now) c.args.tx.now;
   unread = memory_unread;
-  tells = λ stored at site is. tt;
+  judged = λ stored at site is. tt;
   form = tt;
   rows = tt;
 }
@@ -79,7 +79,7 @@ returns-in-Ok-Some g c =
       stops = tt;
       by_rows = follows-kept c.args.proposed (g.C.Cells.rows c.args.cells.now) c.args.tx.now _ form c.if-not-proposed.false kept tt;
       unread = no_answer _ _;
-      tells = λ stored at site is. spends-well c.args.proposed site c.args.tx.now form c.if-not-proposed.false (spends-by-rows stored at (g.C.Cells.rows c.args.cells.now) site c.args.tx.now is ∙ kept);
+      judged = λ stored at site is. spends-well c.args.proposed site c.args.tx.now form c.if-not-proposed.false (spends-by-rows stored at (g.C.Cells.rows c.args.cells.now) site c.args.tx.now is ∙ kept);
       form = form;
       rows = some;
     }
@@ -94,7 +94,7 @@ returns-in-Ok-None g c =
       stops = tried-20 c.args.proposed;
       by_rows = follows-lost c.args.proposed (g.C.Cells.rows c.args.cells.now) c.args.tx.now form c.if-not-proposed.false lost;
       unread = broken_unread DiskFault;
-      tells = λ stored at site is. spends-badly c.args.proposed site c.args.tx.now form c.if-not-proposed.false (spends-by-rows stored at (g.C.Cells.rows c.args.cells.now) site c.args.tx.now is ∙ lost);
+      judged = λ stored at site is. spends-badly c.args.proposed site c.args.tx.now form c.if-not-proposed.false (spends-by-rows stored at (g.C.Cells.rows c.args.cells.now) site c.args.tx.now is ∙ lost);
       form = tt;
       rows = tt;
     }
@@ -104,7 +104,7 @@ returns-in-Err-live_inputs g c = record {
   stops = tt;
   by_rows = follows-memory c.args.proposed (g.C.Cells.rows c.args.cells.now) c.args.tx.now;
   unread = memory_unread;
-  tells = λ stored at site is. tt;
+  judged = λ stored at site is. tt;
   form = tt;
   rows = tt;
 }

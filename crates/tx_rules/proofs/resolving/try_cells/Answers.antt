@@ -14,7 +14,7 @@ pub returns-in-Ok-false : goal.returns-in-Ok-false
 returns-in-Ok-false g c = record {
   later = later-23;
   unread = broken_unread DiskFault;
-  tells = λ stored site is spent named.
+  judged = λ stored site is spent named.
       let young : list_all (is_mature site) (inputs site c.args.tx.now) ≡ false =
       sym (c.in-Ok-false.ensures.mature stored (g.C.Cells.rows c.args.cells.now) site (inputs site c.args.tx.now) is (inputs-seen site c.args.tx.now) spent)
       ∙ c.in-Ok-false.field-0-test in
@@ -25,7 +25,7 @@ pub returns-in-Err : goal.returns-in-Err
 returns-in-Err g c = record {
   later = c.in-Err.ensures.damage c.in-Err.damage refl;
   unread = damage_unread c.in-Err.damage;
-  tells = λ stored site is spent named.
+  judged = λ stored site is spent named.
       c.in-Err.ensures.undamaged stored (g.C.Cells.rows c.args.cells.now) site (inputs site c.args.tx.now) is (inputs-seen site c.args.tx.now) spent c.in-Err.damage refl;
 }
 
@@ -33,7 +33,7 @@ pub returns-in-Ok-false-are_mature : goal.returns-in-Ok-false-are_mature
 returns-in-Ok-false-are_mature g c = record {
   later = later-23;
   unread = broken_unread DiskFault;
-  tells = λ stored site is spent named.
+  judged = λ stored site is spent named.
       let mature : list_all (is_mature site) (inputs site c.args.tx.now) ≡ true =
       sym (c.in-Ok-true.ensures.mature stored (g.C.Cells.rows c.args.cells.now) site (inputs site c.args.tx.now) is (inputs-seen site c.args.tx.now) spent)
       ∙ c.in-Ok-true.field-0-test in
@@ -47,7 +47,7 @@ pub returns-in-Err-are_mature : goal.returns-in-Err-are_mature
 returns-in-Err-are_mature g c = record {
   later = c.in-Err-are_mature.ensures.damage c.in-Err-are_mature.damage refl;
   unread = damage_unread c.in-Err-are_mature.damage;
-  tells = λ stored site is spent named.
+  judged = λ stored site is spent named.
       c.in-Err-are_mature.ensures.undamaged stored (g.C.Cells.rows c.args.cells.now) site (deps site c.args.tx.now) is (deps-seen site c.args.tx.now) named
       c.in-Err-are_mature.damage refl;
 }
@@ -56,7 +56,7 @@ pub returns-in-Ok-false-meets_each_since : goal.returns-in-Ok-false-meets_each_s
 returns-in-Ok-false-meets_each_since g c = record {
   later = later-24;
   unread = broken_unread DiskFault;
-  tells = λ stored site is spent named.
+  judged = λ stored site is spent named.
       let mature : list_all (is_mature site) (inputs site c.args.tx.now) ≡ true =
       sym (c.in-Ok-true.ensures.mature stored (g.C.Cells.rows c.args.cells.now) site (inputs site c.args.tx.now) is (inputs-seen site c.args.tx.now) spent)
       ∙ c.in-Ok-true.field-0-test in
@@ -73,7 +73,7 @@ pub returns-in-Err-meets_each_since : goal.returns-in-Err-meets_each_since
 returns-in-Err-meets_each_since g c = record {
   later = c.in-Err-meets_each_since.ensures.damage c.in-Err-meets_each_since.damage refl;
   unread = damage_unread c.in-Err-meets_each_since.damage;
-  tells = λ stored site is spent named.
+  judged = λ stored site is spent named.
       c.in-Err-meets_each_since.ensures.undamaged stored (g.C.Cells.rows c.args.cells.now) site (inputs site c.args.tx.now) is (inputs-seen site c.args.tx.now) spent
       c.in-Err-meets_each_since.damage refl;
 }
@@ -82,7 +82,7 @@ pub returns-then-not-makes_good_cells : goal.returns-then-not-makes_good_cells
 returns-then-not-makes_good_cells g c = record {
   later = later-25;
   unread = broken_unread DiskFault;
-  tells = λ stored site is spent named.
+  judged = λ stored site is spent named.
       let mature : list_all (is_mature site) (inputs site c.args.tx.now) ≡ true =
       sym (c.in-Ok-true.ensures.mature stored (g.C.Cells.rows c.args.cells.now) site (inputs site c.args.tx.now) is (inputs-seen site c.args.tx.now) spent)
       ∙ c.in-Ok-true.field-0-test in
@@ -100,7 +100,7 @@ pub returns : goal.returns
 returns g c = record {
   later = tt;
   unread = no_answer _ _;
-  tells = λ stored site is spent named.
+  judged = λ stored site is spent named.
       let mature : list_all (is_mature site) (inputs site c.args.tx.now) ≡ true =
       sym (c.in-Ok-true.ensures.mature stored (g.C.Cells.rows c.args.cells.now) site (inputs site c.args.tx.now) is (inputs-seen site c.args.tx.now) spent)
       ∙ c.in-Ok-true.field-0-test in

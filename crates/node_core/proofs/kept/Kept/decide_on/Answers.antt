@@ -10,7 +10,8 @@ use Rattle.rule_names.specs.Number.{rule_number}
 use Rattle.verdict_defs.specs.declared.verdict.Verdict.TheVariants.{Refused}
 use Rattle.node_core.specs.Node.{KeptValue}
 use Rattle.node_core.proofs.DecidingLemmas.{within-blocks, verdict-refused}
-use Rattle.node_core.proofs.SightLemmas.{first-at-sight, wants-passed}
+use Rattle.block_judge.proofs.SightLemmas.{first-at-sight}
+use Rattle.node_core.proofs.SightLemmas.{wants-passed}
 use Rattle.node_core.proofs.StepLemmas.{takes-some}
 use Rattle.node_core.proofs.JoiningLemmas.{at-parent, at-tip}
 use Rattle.node_core.proofs.SourceLemmas.{tells-on, same_stop}

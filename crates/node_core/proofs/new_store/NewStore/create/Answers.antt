@@ -4,7 +4,7 @@ use Rattle.outside.proofs.Moments.{leaves_also, leaves_then, now_too}
 use Rattle.log_file.proofs.Creating.{fault_is_no_memory}
 use Rattle.log_file.proofs.Exits.{no_error, fault_counts, stop_counts, answer_counts, counts_on}
 use Rattle.node_core.specs.Node.{NewStoreValue, IsNew, KeepsLog}
-use Rattle.node_core.proofs.KeepingLemmas.{tells_as_before}
+use Rattle.node_core.proofs.KeepingLemmas.{known_as_before}
 use Rattle.node_core.proofs.OpenLemmas.{same_stop}
 use Rattle.node_core.proofs.NewLemmas.{log_kept_a, log_kept_b, keeps_log, made_new, cleared_first}
 use Rattle.node_core.proofs.new_store.NewStore.create.Goals as goal
@@ -72,15 +72,15 @@ returns-in-Ok-create-clause-cause g c =
     answer_counts _ _ _ _ (c.in-Ok-create.ensures.cause.unchanged (no_error _ _) ∙ c.in-Ok-clear.ensures.cause.unchanged refl ∙ c.in-Ok.ensures.cause.unchanged refl)
 
 pub returns-in-Err-clause-told : goal.returns-in-Err-clause-told
-returns-in-Err-clause-told g c = tells_as_before SnapA _ _ c.clear.ensures.others
+returns-in-Err-clause-told g c = known_as_before SnapA _ _ c.clear.ensures.others
 
 pub returns-in-Err-clear-clause-told : goal.returns-in-Err-clear-clause-told
-returns-in-Err-clear-clause-told g c = tells_as_before SnapB _ _ c.clear-2.ensures.others ∙ tells_as_before SnapA _ _ c.clear.ensures.others
+returns-in-Err-clear-clause-told g c = known_as_before SnapB _ _ c.clear-2.ensures.others ∙ known_as_before SnapA _ _ c.clear.ensures.others
 
 pub returns-in-Err-create-clause-told : goal.returns-in-Err-create-clause-told
 returns-in-Err-create-clause-told g c =
-    tells_as_before Log _ _ c.create.ensures.others ∙ tells_as_before SnapB _ _ c.clear-2.ensures.others ∙ tells_as_before SnapA _ _ c.clear.ensures.others
+    known_as_before Log _ _ c.create.ensures.others ∙ known_as_before SnapB _ _ c.clear-2.ensures.others ∙ known_as_before SnapA _ _ c.clear.ensures.others
 
 pub returns-in-Ok-create-clause-told : goal.returns-in-Ok-create-clause-told
 returns-in-Ok-create-clause-told g c =
-    tells_as_before Log _ _ c.create.ensures.others ∙ tells_as_before SnapB _ _ c.clear-2.ensures.others ∙ tells_as_before SnapA _ _ c.clear.ensures.others
+    known_as_before Log _ _ c.create.ensures.others ∙ known_as_before SnapB _ _ c.clear-2.ensures.others ∙ known_as_before SnapA _ _ c.clear.ensures.others

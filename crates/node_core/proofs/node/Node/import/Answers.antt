@@ -68,7 +68,7 @@ returns-in-Err-take_snapshot-clause-untouched g c = λ other.
       memory = no-memory c.stop_of_snapshot.result c.in-Err-take_snapshot.stop c.stop_of_snapshot.ensures.memory c.stop_of_snapshot.ensures.fault other;
       due = subst (λ (d : Option ℕ). IsSome d) due (due-some (snapshot_at c.len-joined.result) c.take_snapshot.result c.in-Err-take_snapshot.stop
           (λ none. (c.take_snapshot.ensures.none none).0) c.in-Err-take_snapshot.is);
-      behind = λ records settled.
+      joined = λ records settled.
           behind-beside g.D.Disk.reads_as g.D.Disk.images g.D.Disk.moment g.D.Disk.left_since g.met.D.Disk.counts_now c.import_block.new.disk
           c.take_snapshot.new.disk (snapshot_at c.len-joined.result) c.take_snapshot.ensures.log c.take_snapshot.ensures.others
           records c.args.item.now c.in-Ok.answer.1 c.in-Ok.answer.0.place joined (c.in-Ok.ensures.settled records settled);
