@@ -1,9 +1,10 @@
 // The body of an entry, checked.
-ghost use Rattle.std.specs.Prelude.{◌≡◌, ◌≤◌, ◌-◌, Some, take, drop, length, IfOk, IfSome};
+ghost use Rattle.std.specs.Prelude.{◌≡◌, ◌≤◌, ◌-◌, Some, take, drop, map, length, IfOk, IfSome};
 ghost use Rattle.std.specs.Option.{option_map};
 ghost use Rattle.codec_defs.specs.Shape.{decoded};
 ghost use Rattle.codec_defs.specs.Schema as schema;
 ghost use Rattle.codec_defs.specs.Schema.{Block};
+ghost use Rattle.chain_defs.specs.Hashes.{transaction_hash};
 ghost use Rattle.cell_model.specs.ListBlocks.{ids_of, IsCanonical};
 ghost use Rattle.block_store.specs.Stored.{parts_in, stored_in};
 
@@ -52,6 +53,18 @@ fn proposal_ids(alloc: Global, block: &BlockView<'_>) -> Result<Vec<[u8; 10]>, N
     Ok(ids)
 }
 
+/// The same, by the hashes of all transactions of the block.
+fn ids_by(alloc: Global, hashes: &[[u8; 32]]) -> Result<Vec<[u8; 10]>, NoMemory>
+    ensures { IfOk result (λ ids. ids.items ≡ map (take 10) (drop 1 hashes.now)) }
+{
+    let count = hashes.len();
+    let mut ids = Vec::with_capacity(alloc, count.saturating_sub(1))?;
+    'later: for i in 1..count {
+        ids.push(proposal_id(&hashes[i]))?;
+    }
+    Ok(ids)
+}
+
 /// Where the block of a body begins and ends. The ext, if the entry has one, stands after it, to the end.
 fn block_range(place: u32, body: &[u8]) -> Option<(usize, usize)>
     ensures parts { option_map (λ at. (take (at.1 - at.0) (drop at.0 body.now), drop at.1 body.now)) result ≡ parts_in place body.now }
@@ -69,12 +82,18 @@ fn block_range(place: u32, body: &[u8]) -> Option<(usize, usize)>
 }
 
 impl KeptBody {
-    /// The body of a block after the genesis with its ext.
-    pub fn of(alloc: Global, block: &[u8], ext: &[u8]) -> Result<KeptBody, NoMemory>
-        requires { IsCanonical block.now }
+    /// The body of a block after the genesis with its ext, where the hashes of its transactions are known.
+    pub fn of(
+        alloc: Global,
+        block: &[u8],
+        ext: &[u8],
+        hashes: &[[u8; 32]],
+    ) -> Result<KeptBody, NoMemory>
+        requires canonical { IsCanonical block.now }
+        requires hashes { (b : Block) → decoded schema.block block.now ≡ Some b → hashes.now ≡ map transaction_hash b.transactions }
         ensures { (b : Block) → decoded schema.block block.now ≡ Some b → IfOk result (λ body. body ≡ record { block = b; ext = ext.now }) }
     {
-        let ids = proposal_ids(alloc, &BlockView::from_encoding(block))?;
+        let ids = ids_by(alloc, hashes)?;
         let mut bytes = block.to_vec(alloc)?;
         bytes.extend_from_slice(ext)?;
         Ok(KeptBody {

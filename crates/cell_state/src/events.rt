@@ -1,5 +1,5 @@
 // The events of a block, one after the other.
-ghost use Rattle.std.specs.Prelude.{◌≡◌, ◌+◌, ◌<◌, ◌^◌, ℕ, length, IfSome, Some, slice_get};
+ghost use Rattle.std.specs.Prelude.{◌≡◌, ◌+◌, ◌<◌, ◌^◌, ℕ, length, map, IfSome, Some, slice_get};
 ghost use Rattle.std.specs.Option.{option_map};
 ghost use Rattle.chain_defs.specs.Hashes.{transaction_hash};
 ghost use Rattle.cell_defs.specs.Events.{events_of, events_of_block, out_point_of};
@@ -7,7 +7,7 @@ ghost use Rattle.cell_defs.specs.Row.{row_of};
 ghost use Rattle.cell_state.specs.Walk.{height_of, spends_at, made_cell, value_of, IsNext};
 
 use crate::made::Made;
-use cell_model::{CellMeta, LastScript, OutPoint, data_at, meta_with, tx_hash};
+use cell_model::{CellMeta, LastScript, OutPoint, data_at, meta_with};
 use mol_schema::{BlockView, OutPointView, TxView};
 use std::marker::Model;
 
@@ -97,20 +97,30 @@ fn event_at<'a>(
     Some(Event::Makes(out_point, made))
 }
 
+/// The hash of the transaction at a place of a block.
+fn hash_of(block: &BlockView<'_>, hashes: &[[u8; 32]], tx: &TxView<'_>, place: usize) -> [u8; 32]
+    requires hashes { hashes.now ≡ map transaction_hash block.now.transactions }
+    requires there { slice_get block.now.transactions place ≡ Some tx.now }
+    ensures { result ≡ transaction_hash tx.now }
+{
+    hashes[place]
+}
+
 /// The events of a block that are still to come. Clauses see their list.
 #[derive(Drop)]
 pub(crate) struct Events<'b, 'a> {
     block: &'b BlockView<'a>,
+    /// The hashes of its transactions.
+    hashes: &'b [[u8; 32]],
     genesis: bool,
-    /// The place of the transaction that is walked, and its hash.
+    /// The place of the transaction that is walked.
     place: usize,
-    tx_hash: [u8; 32],
     /// How many of its events have come.
     index: usize,
 }
 
 impl<'b, 'a> Model for Events<'b, 'a> {
-    ghost use Rattle.std.specs.Prelude.{◌≡◌, List, IfSome, slice_get};
+    ghost use Rattle.std.specs.Prelude.{◌≡◌, List, map};
     ghost use Rattle.chain_defs.specs.Hashes.{transaction_hash};
     ghost use Rattle.cell_defs.specs.Events as events;
     ghost use Rattle.cell_state.specs.Walk.{height_of, events_left};
@@ -119,32 +129,24 @@ impl<'b, 'a> Model for Events<'b, 'a> {
 
     ghost view = { λ walk. events_left walk.block.now.transactions (height_of walk.genesis) walk.place walk.index };
 
-    ghost invariant = { λ walk. IfSome (slice_get walk.block.now.transactions walk.place) (λ t. walk.tx_hash ≡ transaction_hash t) };
-}
-
-/// The hash of the transaction at a place; zero bytes where there is none.
-pub(crate) fn hash_at(block: &BlockView<'_>, place: usize) -> [u8; 32]
-    ensures { IfSome (slice_get block.now.transactions place) (λ t. result ≡ transaction_hash t) }
-{
-    if place < block.transactions_count() {
-        tx_hash(&block.transactions_item(place))
-    } else {
-        [0; 32]
-    }
+    ghost invariant = { λ walk. walk.hashes.now ≡ map transaction_hash walk.block.now.transactions };
 }
 
 impl<'b, 'a> Events<'b, 'a> {
-    /// All events of a block, which is the genesis or stands at a height above 0. The hash of its first transaction is
-    /// given, so that it is made once where the events are walked twice.
-    pub(crate) fn of(block: &'b BlockView<'a>, genesis: bool, first: [u8; 32]) -> Events<'b, 'a>
-        requires { IfSome (slice_get block.now.transactions 0) (λ t. first ≡ transaction_hash t) }
+    /// All events of a block, which is the genesis or stands at a height above 0. The hashes are those of its transactions.
+    pub(crate) fn of(
+        block: &'b BlockView<'a>,
+        hashes: &'b [[u8; 32]],
+        genesis: bool,
+    ) -> Events<'b, 'a>
+        requires { hashes.now ≡ map transaction_hash block.now.transactions }
         ensures { result ≡ events_of_block (height_of genesis) block.now }
     {
         Events {
             block,
+            hashes,
             genesis,
             place: 0,
-            tx_hash: first,
             index: 0,
         }
     }
@@ -155,20 +157,14 @@ impl<'b, 'a> Events<'b, 'a> {
     {
         while self.place < self.block.transactions_count() {
             let tx = self.block.transactions_item(self.place);
-            let event = event_at(
-                &tx,
-                self.tx_hash,
-                self.genesis,
-                self.place as u32,
-                self.index,
-            );
+            let tx_hash = hash_of(self.block, self.hashes, &tx, self.place);
+            let event = event_at(&tx, tx_hash, self.genesis, self.place as u32, self.index);
             if let Some(event) = event {
                 self.index += 1;
                 return Some(event);
             }
             self.place += 1;
             self.index = 0;
-            self.tx_hash = hash_at(self.block, self.place);
         }
         None
     }

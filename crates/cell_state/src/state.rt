@@ -1,7 +1,8 @@
 // The live cells of a branch.
-ghost use Rattle.std.specs.Prelude.{◌≡◌, ◌≤◌, ◌<◌, ◌+◌, ◌^◌, ℕ, List, Option, None, Some, length, if◌then◌else◌, IfOk, IfErr, OnOk, OnErr, IsOk};
+ghost use Rattle.std.specs.Prelude.{◌≡◌, ◌≤◌, ◌<◌, ◌+◌, ◌^◌, ℕ, List, Option, None, Some, length, map, if◌then◌else◌, IfOk, IfErr, OnOk, OnErr, IsOk};
 ghost use Rattle.std.specs.Option.{option_map};
 ghost use Rattle.codec_defs.specs.Schema as schema;
+ghost use Rattle.chain_defs.specs.Hashes.{transaction_hash};
 ghost use Rattle.cell_defs.specs.Events.{events_of_block, same_out_point};
 ghost use Rattle.cell_defs.specs.Row.{Row, row_after, ListsRows};
 ghost use Rattle.cell_state.specs.Fit.{IsFirstOdd};
@@ -11,7 +12,7 @@ ghost use Rattle.undo_defs.specs.Laws.{ComesBefore};
 ghost use Rattle.cell_state.specs.declared.odd.Odd.TheVariants.{Live};
 ghost use Rattle.cell_state.specs.State.{Grows, rows, count, outputs_of};
 
-use crate::events::{Events, hash_at};
+use crate::events::Events;
 use crate::odd::Odd;
 use crate::slots::{Slot, Slots};
 use cell_model::{CellMeta, Cells, Ext, LastScript, OutPoint};
@@ -61,13 +62,18 @@ impl State {
         }
     }
 
-    /// The cells that a genesis leaves. Of one without transactions there is none.
-    pub fn genesis(alloc: Global, block: &BlockView<'_>) -> Result<State, NoMemory>
+    /// The cells that a genesis leaves. Of one without transactions there is none. The hashes are those of its transactions.
+    pub fn genesis(
+        alloc: Global,
+        block: &BlockView<'_>,
+        hashes: &[[u8; 32]],
+    ) -> Result<State, NoMemory>
+        requires { hashes.now ≡ map transaction_hash block.now.transactions }
         ensures { IfOk result (λ state. (o : schema.OutPoint) → rows state o ≡ row_after 0 (events_of_block 0 block.now) (λ _. None) o) }
     {
         let mut slots = Slots::new(alloc);
         let mut last = LastScript::new();
-        slots.replay(Events::of(block, true, hash_at(block, 0)), 0, &mut last)?;
+        slots.replay(Events::of(block, hashes, true), 0, &mut last)?;
         Ok(State { slots, last })
     }
 
@@ -93,14 +99,16 @@ impl State {
     }
 
     /// Takes the events of the block at a place, which is no genesis, in their order. Where one does not fit, no row
-    /// changes. It takes no memory, and is one step either way.
+    /// changes. The hashes are those of its transactions: none is made here. It takes no memory, and is one step either way.
     pub fn apply<L: Ledger>(
         &mut self,
         block: &BlockView<'_>,
+        hashes: &[[u8; 32]],
         e: u32,
         steps: &mut Steps<L>,
     ) -> Result<(), Odd>
-        requires { outputs_of block.now ≤ self.old.spare }
+        requires hashes { hashes.now ≡ map transaction_hash block.now.transactions }
+        requires spare { outputs_of block.now ≤ self.old.spare }
         ensures rows { OnOk result ((height : ℕ) (o : schema.OutPoint) → 0 < height
             → rows self.new o ≡ row_after e (events_of_block height block.now) (rows self.old) o) }
         ensures fit { OnOk result ((height : ℕ) → 0 < height → AllFit (events_of_block height block.now) (are_live (rows self.old))) }
@@ -111,15 +119,14 @@ impl State {
         ensures of_branch { OnOk result (Grows block.now e self.old self.new) }
     {
         steps.tick();
-        let first = hash_at(block, 0);
-        match self.slots.mark(Events::of(block, false, first)) {
+        match self.slots.mark(Events::of(block, hashes, false)) {
             Ok(()) => {
                 self.slots
-                    .settle(Events::of(block, false, first), e, &mut self.last);
+                    .settle(Events::of(block, hashes, false), e, &mut self.last);
                 Ok(())
             }
             Err(odd) => {
-                self.slots.unmark_all(Events::of(block, false, first));
+                self.slots.unmark_all(Events::of(block, hashes, false));
                 Err(odd)
             }
         }
@@ -127,14 +134,17 @@ impl State {
 
     /// Takes a block back that is no genesis: drops the cells that it makes and that are live, and then puts the rows
     /// of its ext back, in their order. Where one of them finds its out-point live by then, no row changes, and the
-    /// answer is `Live` with the out-point of the first such row. It takes no memory, and is one step either way.
+    /// answer is `Live` with the out-point of the first such row. The hashes are those of its transactions. It takes no
+    /// memory, and is one step either way.
     pub fn undo<L: Ledger>(
         &mut self,
         block: &BlockView<'_>,
+        hashes: &[[u8; 32]],
         ext: &Ext,
         steps: &mut Steps<L>,
     ) -> Result<(), Odd>
-        requires { length ext.now.spent ≤ self.old.spare }
+        requires hashes { hashes.now ≡ map transaction_hash block.now.transactions }
+        requires spare { length ext.now.spent ≤ self.old.spare }
         ensures rows { OnOk result ((height : ℕ) (o : schema.OutPoint)
             → rows self.new o ≡ undone (events_of_block height block.now) ext.now.spent (rows self.old) o) }
         ensures free { OnOk result ((height : ℕ) → first_clash (events_of_block height block.now) ext.now.spent (rows self.old) ≡ None) }
@@ -147,7 +157,7 @@ impl State {
         ensures steps { steps.new ≡ steps.old + 1 }
     {
         steps.tick();
-        self.slots.undo(block, &ext.spent)
+        self.slots.undo(block, hashes, &ext.spent)
     }
 
     /// Adds a row. It takes no memory, and is one step.

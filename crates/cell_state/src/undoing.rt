@@ -2,10 +2,11 @@
 // applied, marks come first: what the block made is dropped, then the rows that it spent are put back. With them the
 // slots say what is live by then, and keep the rows from before. Then the rows are written, or else every slot is given
 // back as it was.
-ghost use Rattle.std.specs.Prelude.{◌≡◌, ◌≤◌, ◌+◌, Option, Some, None, false, length, if◌then◌else◌, IfErr, OnOk, OnErr};
+ghost use Rattle.std.specs.Prelude.{◌≡◌, ◌≤◌, ◌+◌, Option, Some, None, false, length, map, if◌then◌else◌, IfErr, OnOk, OnErr};
 ghost use Rattle.std.specs.Option.{option_map};
 ghost use Rattle.std.specs.List.{list_any};
 ghost use Rattle.codec_defs.specs.Schema as schema;
+ghost use Rattle.chain_defs.specs.Hashes.{transaction_hash};
 ghost use Rattle.cell_defs.specs.Events.{events_of_block, same_out_point};
 ghost use Rattle.cell_defs.specs.Row.{Row};
 ghost use Rattle.cell_laws.specs.Laws.{makes};
@@ -15,7 +16,7 @@ ghost use Rattle.cell_state.specs.Slots.{at, rows, settled, AreSettled};
 ghost use Rattle.cell_state.specs.Passes.{spent_mark, made_mark, unmarked, settled_spent};
 ghost use Rattle.cell_state.specs.Undo.{passed, is_at, row_written, AreThere};
 
-use crate::events::{Event, Events, hash_at};
+use crate::events::{Event, Events};
 use crate::odd::Odd;
 use crate::slots::{Slot, Slots};
 use cell_model::{CellMeta, OutPoint};
@@ -110,12 +111,15 @@ impl Slots {
             self.unmark(*o);
         }
     }
-    /// Takes a block back that is no genesis, with the rows that it spent.
+
+    /// Takes a block back that is no genesis, with the rows that it spent. The hashes are those of its transactions.
     pub(crate) fn undo(
         &mut self,
         block: &BlockView<'_>,
+        hashes: &[[u8; 32]],
         spent: &[(OutPoint, CellMeta)],
     ) -> Result<(), Odd>
+        requires hashes { hashes.now ≡ map transaction_hash block.now.transactions }
         requires settled { AreSettled self.old }
         requires spare { length spent.now ≤ self.old.spare }
         ensures at { OnOk result ((o : schema.OutPoint) → at self.new o ≡ settled (undone (events_of_block 1 block.now) spent.now (rows self.old) o)) }
@@ -124,16 +128,15 @@ impl Slots {
         ensures unchanged { OnErr result ((o : schema.OutPoint) → at self.new o ≡ at self.old o) }
         ensures spare { self.old.spare ≤ self.new.spare + length spent.now }
     {
-        let first = hash_at(block, 0);
-        self.mark_made_dropped(Events::of(block, false, first));
+        self.mark_made_dropped(Events::of(block, hashes, false));
         match self.mark_put_back(spent) {
             Ok(()) => {
-                self.settle_dropped(Events::of(block, false, first));
+                self.settle_dropped(Events::of(block, hashes, false));
                 self.write_rows(spent);
                 Ok(())
             }
             Err(odd) => {
-                self.unmark_all(Events::of(block, false, first));
+                self.unmark_all(Events::of(block, hashes, false));
                 self.unmark_rows(spent);
                 Err(odd)
             }

@@ -14,7 +14,6 @@ use Rattle.chain_defs.specs.Branch.{branch}
 use Rattle.chain_defs.specs.Tip.{tip_place, best_branch}
 use Rattle.chain_defs.proofs.KeptLaws.{place_of-below}
 use Rattle.rule_defs.specs.Header.{has_version, parent_of, header_rules}
-use Rattle.cell_defs.specs.Ext.{Ext}
 use Rattle.cell_defs.specs.Row.{Row, live_row}
 use Rattle.cell_state.specs.State.{StateValue, rows}
 use Rattle.chain_tree.specs.declared.entry.Entry.{Entry}
@@ -50,7 +49,7 @@ use Rattle.node_core.specs.Node.{KeptValue, kept_of, AreKept, AreOfTip}
 use Rattle.node_core.proofs.JoiningLemmas.{few-heights}
 use Rattle.node_core.proofs.OwnLemmas.{have-own-fees}
 use Rattle.node_core.proofs.SightLemmas.{header-at-sight}
-use Rattle.node_core.specs.Judging.{IsEntryOn, IsJudged, IsDecidedBlock, IsDecided, MayBeKept, IsReadyBlock, IsReadyItem}
+use Rattle.node_core.specs.Judging.{IsEntryOn, HasPassed, IsJudged, IsDecidedBlock, IsDecided, MayBeKept, IsReadyBlock, IsReadyItem}
 
 pub none-there : {T : Type 0} (o : Option T) → is_some o ≡ false → o ≡ None
 none-there None is = refl
@@ -145,18 +144,20 @@ follows-by-header spec on b unbroken =
 pub room-for : (count number : ℕ) (room : Bool) → room ≡ nat_lt count kept_limit → room ≡ true → count ≡ number → number < kept_limit
 room-for count number room is so same = omega (arith, (Decides-ltb count kept_limit).0 (sym is ∙ so), same)
 
-pub may-be-kept : (chain : Chain) (b : Block) (entry : Entry) (ext : Ext) → IsEntryOn chain.blocks b entry
-    → broken_at_sight chain.spec (branch chain.blocks entry.parent) b ≡ None → length chain.blocks < kept_limit → is_rated b.header.dao ≡ true
-    → length ext.fees ≡ length b.transactions - 1 → MayBeKept chain b (record { entry = entry; ext = ext })
-may-be-kept chain b entry ext on passed room rated fees = record {
+pub may-be-kept : (chain : Chain) (b : Block) (joining : Joining) → IsEntryOn chain.blocks b joining.entry
+    → HasPassed chain joining.entry.parent b joining.hashes.items → length chain.blocks < kept_limit → is_rated b.header.dao ≡ true
+    → length joining.ext.fees ≡ length b.transactions - 1 → MayBeKept chain b joining
+may-be-kept chain b joining on passed room rated fees = record {
   ready = record {
     entry = on;
-    next = follows-by-header chain.spec (branch chain.blocks entry.parent) b (header-at-sight chain.spec (branch chain.blocks entry.parent) b passed);
+    next = follows-by-header chain.spec (branch chain.blocks joining.entry.parent) b
+        (header-at-sight chain.spec (branch chain.blocks joining.entry.parent) b passed.sight);
     room = room;
     rated = rated;
     fees = fees;
+    hashes = passed.hashes_are;
   };
-  sight = passed;
+  sight = passed.sight;
 }
 
 -- ---- The verdict on a block

@@ -34,13 +34,14 @@ pub record HasPassed (chain : Chain) (parent : ℕ) (b : Block) (hashes : List (
   pub some : 0 < length b.transactions
   pub sight : broken_at_sight chain.spec (branch chain.blocks parent) b ≡ None
 
--- All that is asked of a block to be kept, whether or not those before it joined.
+-- All that is asked of a block to be kept, whether or not those before it joined; what travels with it are the hashes of its transactions.
 pub record IsReady (kept : List Block) (b : Block) (joining : Joining) : Type 0 where
   pub entry : IsEntryOn kept b joining.entry
   pub next : IsTrue (follows b (parent_of (branch kept joining.entry.parent)))
   pub room : length kept < kept_limit
   pub rated : IsTrue (is_rated b.header.dao)
   pub fees : length joining.ext.fees ≡ length b.transactions - 1
+  pub hashes : joining.hashes.items ≡ map transaction_hash b.transactions
 
 -- It has passed at sight after a chain too.
 pub record MayBeKept (chain : Chain) (b : Block) (joining : Joining) : Type 0 where

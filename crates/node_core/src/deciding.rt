@@ -54,11 +54,12 @@ fn has_room(count: u32) -> bool
     count < KEPT_LIMIT
 }
 
-/// A block that can join: its entry and its ext.
+/// A block that can join: its entry, its ext, and the hashes of its transactions, which were made to judge it.
 #[derive(Drop)]
 pub(crate) struct Joining {
     pub(crate) entry: Entry,
     pub(crate) ext: Ext,
+    pub(crate) hashes: Vec<[u8; 32]>,
 }
 
 /// What is to become of an item.
@@ -125,11 +126,11 @@ impl Kept {
         blocks: &mut B,
         state: &State,
         block: &BlockView<'_>,
-        hashes: &[[u8; 32]],
+        hashes: Vec<[u8; 32]>,
         entry: Entry,
     ) -> Result<Decision, ReadStop>
         requires entry { IsEntryOn self.now.chain.blocks block.now entry }
-        requires passed { HasPassed self.now.chain entry.parent block.now hashes.now }
+        requires passed { HasPassed self.now.chain entry.parent block.now hashes.items }
         requires counts { B.count blocks.old ≡ length self.now.chain.blocks }
         ensures read { HasRead B.told B.count B.loans_of B.faults B.damages blocks.old blocks.new (stop_of result) }
         ensures ready { IfOk result (IsReadyBlock self.now.chain block.now) }
@@ -147,12 +148,12 @@ impl Kept {
             cells: state,
             parent,
         };
-        match judge(alloc, &context, blocks, block, hashes) {
+        match judge(alloc, &context, blocks, block, &hashes) {
             Err(JudgeStop::Broken(rule)) => Ok(Decision::Stays(Verdict::Refused(rule.number()))),
             Err(JudgeStop::Read(stop)) => Err(stop),
             Ok(ext) => {
                 if has_room(self.tree.len()) {
-                    Ok(Decision::Joins(Joining { entry, ext }))
+                    Ok(Decision::Joins(Joining { entry, ext, hashes }))
                 } else {
                     Ok(Decision::Stays(Verdict::Full))
                 }
@@ -211,7 +212,7 @@ impl Kept {
             Ok(there) => there,
             Err(stop) => return Err(stop),
         };
-        let decision = match self.judge_on(alloc, blocks, &there, block, &hashes, entry) {
+        let decision = match self.judge_on(alloc, blocks, &there, block, hashes, entry) {
             Ok(decision) => decision,
             Err(stop) => {
                 drop(there);

@@ -11,6 +11,7 @@ ghost use Rattle.node_core.specs.Gathering.{counts_fees, fits_at, AreLeftBy};
 
 use crate::kept::Kept;
 use crate::recorded::Recorded;
+use block_rules::transaction_hashes;
 use cell_state::State;
 use chain_tree::{Entry, Tree};
 use dao_math::is_rated;
@@ -86,7 +87,8 @@ fn take_cells(
     ensures later { 0 < place → cells.new ≡ cells.old }
 {
     if place == 0 {
-        *cells = Some(State::genesis(alloc, block)?);
+        let hashes = transaction_hashes(alloc, block)?;
+        *cells = Some(State::genesis(alloc, block, &hashes)?);
     }
     Ok(())
 }

@@ -1,9 +1,10 @@
 // What is kept, and how the live cells of the tip grow.
-ghost use Rattle.std.specs.Prelude.{◌≡◌, ◌≢◌, ◌≤◌, ◌<◌, ◌+◌, ◌++◌, ◌∷◌, ◌^◌, [], ℕ, List, length, Some, None, Err, IfOk, OnOk};
+ghost use Rattle.std.specs.Prelude.{◌≡◌, ◌≢◌, ◌≤◌, ◌<◌, ◌+◌, ◌++◌, ◌∷◌, ◌^◌, [], ℕ, List, length, map, Some, None, Err, IfOk, OnOk};
 ghost use Rattle.codec_defs.specs.Shape.{decoded};
 ghost use Rattle.codec_defs.specs.Schema as schema;
 ghost use Rattle.codec_defs.specs.Schema.{Block};
 ghost use Rattle.chain_defs.specs.Kept.{place_of};
+ghost use Rattle.chain_defs.specs.Hashes.{transaction_hash};
 ghost use Rattle.chain_tree.specs.Entries.{place_of_hash, FollowsParent};
 ghost use Rattle.uncle_rules.specs.Embedded.{embedded_in};
 ghost use Rattle.chain_defs.specs.Tip as tips;
@@ -63,13 +64,16 @@ pub(crate) fn is_above_tip(tree: &Tree, entry: &Entry) -> bool
     tree.entry(tree.tip()).number < entry.number
 }
 
-/// The cells with those of a block at a place after its parent's branch. Damaged where its events do not fit.
+/// The cells with those of a block at a place after its parent's branch. The hashes are those of its transactions. Damaged
+/// where its events do not fit.
 fn grown<L: Ledger>(
     cells: State,
     block: &BlockView<'_>,
+    hashes: &[[u8; 32]],
     place: u32,
     steps: &mut Steps<L>,
 ) -> Result<State, ReadStop>
+    requires { hashes.now ≡ map transaction_hash block.now.transactions }
     ensures of_branch { IfOk result (λ state. Grows block.now place cells state) }
     ensures undamaged { (height : ℕ) → 0 < height → AllFit (events_of_block height block.now) (are_live (rows cells))
         → (damage : a_damage) → result ≡ Err (Damaged damage) → ⊥ }
@@ -85,7 +89,7 @@ fn grown<L: Ledger>(
             return Err(ReadStop::NoMemory);
         }
     }
-    match state.apply(block, place, steps) {
+    match state.apply(block, hashes, place, steps) {
         Ok(()) => Ok(state),
         Err(_) => {
             drop(state);
@@ -108,6 +112,7 @@ impl Kept {
         steps: &mut Steps<L>,
     ) -> Result<State, ReadStop>
         requires few { length tree.now.entries < 2 ^ 32 }
+        requires hashes { joining.hashes.items ≡ map transaction_hash block.now.transactions }
         ensures live { (kept : List Block) → IndexesBlocks kept tree.now.entries → IsReady kept block.now joining
             → AreOfFound kept (place_for kept (Joins joining)) (rows state) → IfOk result (λ next. AreOfTip (kept ++ block.now ∷ []) (rows next)) }
         ensures undamaged { (kept : List Block) (height : ℕ) → IndexesBlocks kept tree.now.entries → IsReady kept block.now joining
@@ -121,7 +126,7 @@ impl Kept {
         if !is_above_tip(tree, &joining.entry) {
             return Ok(state);
         }
-        grown(state, block, tree.len(), steps)
+        grown(state, block, &joining.hashes, tree.len(), steps)
     }
 
     /// Keeps the block of an item that was judged, with its ext, and answers the live cells of the tip; its record will have

@@ -256,7 +256,7 @@ fn join<D: Disk, L: Ledger>(
         }
     };
     let rec = next_rec(&log, &body);
-    let held = match KeptBody::of(alloc, item, &ext) {
+    let held = match KeptBody::of(alloc, item, &ext, &joining.hashes) {
         Ok(held) => held,
         Err(_) => {
             drop((kept, state, cache));

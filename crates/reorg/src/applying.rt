@@ -15,7 +15,7 @@ ghost use Rattle.cell_state.specs.State.{rows};
 ghost use Rattle.reorg.specs.Damages.{IsAtRecord};
 ghost use Rattle.reorg.specs.Moves.{AreOf};
 
-use cell_state::{State, outputs_in};
+use cell_state::{State, outputs_in, tx_hashes};
 use chain_tree::{Blocks, Tree};
 use mol_schema::BlockView;
 use outside::{Area, Damage, ReadStop, Steps};
@@ -53,7 +53,11 @@ pub fn genesis_cells<B: Blocks>(
         Err(stop) => return Err(stop),
     }
     let block = blocks.block();
-    match State::genesis(alloc, &block) {
+    let hashes = match tx_hashes(alloc, &block) {
+        Ok(hashes) => hashes,
+        Err(_) => return Err(ReadStop::NoMemory),
+    };
+    match State::genesis(alloc, &block, &hashes) {
         Ok(state) => Ok(state),
         Err(_) => Err(ReadStop::NoMemory),
     }
@@ -62,6 +66,7 @@ pub fn genesis_cells<B: Blocks>(
 /// Takes the events of the kept block at a place, which is not the genesis. Damaged where the source finds it damaged, or
 /// its events do not fit.
 pub(crate) fn apply_at<B: Blocks, L: Ledger>(
+    alloc: Global,
     state: &mut State,
     tree: &Tree,
     blocks: &mut B,
@@ -90,7 +95,11 @@ pub(crate) fn apply_at<B: Blocks, L: Ledger>(
         Ok(()) => {}
         Err(_) => return Err(ReadStop::NoMemory),
     }
-    match state.apply(&block, place, steps) {
+    let hashes = match tx_hashes(alloc, &block) {
+        Ok(hashes) => hashes,
+        Err(_) => return Err(ReadStop::NoMemory),
+    };
+    match state.apply(&block, &hashes, place, steps) {
         Ok(()) => Ok(()),
         Err(_) => Err(ReadStop::Damaged(damage_at(tree, place))),
     }

@@ -12,7 +12,7 @@ ghost use Rattle.reorg.specs.Moves.{CanBeTakenBack};
 
 use crate::applying::damage_at;
 use cell_model::Ext;
-use cell_state::State;
+use cell_state::{State, tx_hashes};
 use chain_tree::{Blocks, Tree};
 use outside::{ReadStop, Steps};
 use std::alloc::Global;
@@ -54,7 +54,11 @@ pub(crate) fn undo_at<B: Blocks, L: Ledger>(
         Err(_) => return Err(ReadStop::NoMemory),
     }
     let block = blocks.block();
-    match state.undo(&block, &ext, steps) {
+    let hashes = match tx_hashes(alloc, &block) {
+        Ok(hashes) => hashes,
+        Err(_) => return Err(ReadStop::NoMemory),
+    };
+    match state.undo(&block, &hashes, &ext, steps) {
         Ok(()) => Ok(()),
         Err(_) => Err(ReadStop::Damaged(damage_at(tree, place))),
     }

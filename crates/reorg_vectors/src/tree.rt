@@ -5,7 +5,7 @@ ghost use Rattle.cell_model.specs.ListBlocks.{IsCanonical, IsExtFor};
 
 use blake2b_ckb::{Hasher, ckbhash};
 use cell_model::{CellMeta, Ext, ListBlocks, OutPoint};
-use cell_state::State;
+use cell_state::{State, tx_hashes};
 use chain_tree::{Entry, Tree};
 use mol_schema::{BlockView, HeaderView};
 use outside::{ReadStop, Steps};
@@ -117,7 +117,9 @@ impl Kept {
 
     /// The live cells of the genesis.
     pub(crate) fn first_state(&self, alloc: Global) -> Option<State> {
-        State::genesis(alloc, &BlockView::read(&self.genesis)?).ok()
+        let genesis = BlockView::read(&self.genesis)?;
+        let hashes = tx_hashes(alloc, &genesis).ok()?;
+        State::genesis(alloc, &genesis, &hashes).ok()
     }
 
     /// Goes from one place to another; None where one of them is not kept.

@@ -150,7 +150,7 @@ pub(crate) fn within<L: Ledger>(
 ) -> Option<String> {
     let place = BlockView::read(earlier)?.transactions_count();
     let mut state = chain.first_state(alloc)?;
-    let answer = match chain.apply_all(&mut state, steps, earlier) {
+    let answer = match chain.apply_all(alloc, &mut state, steps, earlier) {
         Some(()) => answer_at(alloc, chain, &state, place, bytes),
         None => None,
     };

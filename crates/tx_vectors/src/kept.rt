@@ -7,7 +7,7 @@ ghost use Rattle.chain_tree.specs.Blocks.{AreRated};
 
 use blake2b_ckb::ckbhash;
 use cell_model::{CellMeta, Cells, Ext, ListBlocks, OutPoint};
-use cell_state::{State, outputs_in};
+use cell_state::{State, outputs_in, tx_hashes};
 use chain_tree::{Entry, Tree};
 use dao_math::is_rated;
 use epochs::Spec;
@@ -109,6 +109,7 @@ fn join(tree: &mut Tree, entry: Entry) -> Option<()> {
 
 /// Applies a block at a place to live cells; None where it does not fit.
 fn apply<L: Ledger>(
+    alloc: Global,
     state: &mut State,
     steps: &mut Steps<L>,
     bytes: &[u8],
@@ -116,7 +117,8 @@ fn apply<L: Ledger>(
 ) -> Option<()> {
     let block = BlockView::read(bytes)?;
     state.reserve(outputs_in(&block)).ok()?;
-    state.apply(&block, place, steps).ok()
+    let hashes = tx_hashes(alloc, &block).ok()?;
+    state.apply(&block, &hashes, place, steps).ok()
 }
 
 pub(crate) fn out_point_in(bytes: &[u8]) -> Option<OutPoint> {
@@ -142,7 +144,8 @@ fn tree_of(alloc: Global, genesis: &BlockView<'_>) -> Option<Tree> {
 pub(crate) fn of_genesis(alloc: Global, spec: Spec, bytes: &[u8]) -> Option<Chain> {
     let genesis = BlockView::read(bytes)?;
     let tree = tree_of(alloc, &genesis)?;
-    let state = State::genesis(alloc, &genesis).ok()?;
+    let hashes = tx_hashes(alloc, &genesis).ok()?;
+    let state = State::genesis(alloc, &genesis, &hashes).ok()?;
     Some(Chain {
         spec,
         tree,
@@ -174,7 +177,7 @@ impl Chain {
         let place = self.tree.len();
         join(&mut self.tree, entry_of(&header, parent))?;
         self.keep(alloc, bytes, ext)?;
-        apply(&mut self.state, steps, bytes, place)
+        apply(alloc, &mut self.state, steps, bytes, place)
     }
 
     /// Gives an out-point that has no row the row of another; None where there is none.
@@ -192,17 +195,19 @@ impl Chain {
     /// The live cells after the genesis.
     pub(crate) fn first_state(&self, alloc: Global) -> Option<State> {
         let genesis = BlockView::read(self.items.first()?)?;
-        State::genesis(alloc, &genesis).ok()
+        let hashes = tx_hashes(alloc, &genesis).ok()?;
+        State::genesis(alloc, &genesis, &hashes).ok()
     }
 
     /// Applies the blocks after the genesis, which stand in a row, and one more.
     pub(crate) fn apply_all<L: Ledger>(
         &self,
+        alloc: Global,
         state: &mut State,
         steps: &mut Steps<L>,
         last: &[u8],
     ) -> Option<()> {
-        apply_all(state, steps, self.items.get(1..)?, last)
+        apply_all(alloc, state, steps, self.items.get(1..)?, last)
     }
 }
 
@@ -223,6 +228,7 @@ fn load_row<L: Ledger>(
 
 /// Applies blocks from the first place on, and one more.
 fn apply_all<L: Ledger>(
+    alloc: Global,
     state: &mut State,
     steps: &mut Steps<L>,
     items: &[Vec<u8>],
@@ -230,8 +236,8 @@ fn apply_all<L: Ledger>(
 ) -> Option<()> {
     let mut place = 1u32;
     for item in items {
-        apply(state, steps, item, place)?;
+        apply(alloc, state, steps, item, place)?;
         place = place.saturating_add(1);
     }
-    apply(state, steps, last, place)
+    apply(alloc, state, steps, last, place)
 }

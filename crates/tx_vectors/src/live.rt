@@ -5,7 +5,7 @@ use crate::kept::out_point_in;
 use crate::rows::{hash_on, made_up};
 use blake2b_ckb::Hasher;
 use cell_model::{Cells, Ext};
-use cell_state::{Odd, State, outputs_in};
+use cell_state::{Odd, State, outputs_in, tx_hashes};
 use mol_schema::BlockView;
 use outside::{NoMemory, Steps};
 use std::alloc::Global;
@@ -33,7 +33,9 @@ pub(crate) fn agrees<L: Ledger>(
 
 /// The live cells after a genesis alone.
 fn begins(alloc: Global, state: &mut Option<State>, bytes: &[u8]) -> Option<bool> {
-    *state = State::genesis(alloc, &BlockView::read(bytes)?).ok();
+    let block = BlockView::read(bytes)?;
+    let hashes = tx_hashes(alloc, &block).ok()?;
+    *state = State::genesis(alloc, &block, &hashes).ok();
     Some(state.is_some())
 }
 
@@ -105,7 +107,8 @@ fn applied<L: Ledger>(
 ) -> Option<String> {
     let block = BlockView::read(bytes)?;
     state.reserve(outputs_in(&block)).ok()?;
-    match state.apply(&block, place, steps) {
+    let hashes = tx_hashes(alloc, &block).ok()?;
+    match state.apply(&block, &hashes, place, steps) {
         Ok(()) => format!(in alloc; "ok {place}").ok(),
         Err(odd) => odd_text(alloc, place, odd),
     }
@@ -139,7 +142,8 @@ fn undone<L: Ledger>(
     let block = BlockView::read(block)?;
     let ext = Ext::read(alloc, ext).ok()??;
     state.reserve(ext.spent.len() as u64).ok()?;
-    match state.undo(&block, &ext, steps) {
+    let hashes = tx_hashes(alloc, &block).ok()?;
+    match state.undo(&block, &hashes, &ext, steps) {
         Ok(()) => format!(in alloc; "undone {place}").ok(),
         Err(odd) => odd_text(alloc, place, odd),
     }

@@ -33,9 +33,9 @@ join-requires-clause-canonical g c = (c.requires.ready.0, c.requires.ready.1, c.
 
 pub join-requires-clause-ext : goal.join-requires-clause-ext
 join-requires-clause-ext g c =
-    is_ext_for c.args.kept.chain c.args.item.now c.deref-2.result.now c.args.joining c.requires.ready
-    (subst (λ (ext : List ℕ). IsTrue (is_ext ext)) (sym c.deref-2.ensures.value) c.in-Ok.ensures.form)
-    (ap (λ (ext : List ℕ). count_at ext 0) c.deref-2.ensures.value ∙ c.in-Ok.ensures.fees)
+    is_ext_for c.args.kept.chain c.args.item.now c.deref-3.result.now c.args.joining c.requires.ready
+    (subst (λ (ext : List ℕ). IsTrue (is_ext ext)) (sym c.deref-3.ensures.value) c.in-Ok.ensures.form)
+    (ap (λ (ext : List ℕ). count_at ext 0) c.deref-3.ensures.value ∙ c.in-Ok.ensures.fees)
 
 pub put-requires : goal.put-requires
 put-requires g c = record {
@@ -56,8 +56,8 @@ append-requires-clause-filled g c =
 
 pub invariant_of-result : goal.invariant_of-result
 invariant_of-result g c = (
-  few_after c.args.kept c.in-Ok-join.joined.0 c.args.kept.chain c.args.item.now c.deref-2.result.now _ c.args.joining refl c.in-Ok-join.ensures.kept c.requires.ready,
-  within_after c.args.kept c.in-Ok-join.joined.0 c.args.kept.chain c.args.item.now c.deref-2.result.now _ c.args.joining refl c.in-Ok-join.ensures.kept c.requires.ready c.args.log.place c.in-Ok-append.log.place (length c.fill.new.body) c.requires.within
+  few_after c.args.kept c.in-Ok-join.joined.0 c.args.kept.chain c.args.item.now c.deref-3.result.now _ c.args.joining refl c.in-Ok-join.ensures.kept c.requires.ready,
+  within_after c.args.kept c.in-Ok-join.joined.0 c.args.kept.chain c.args.item.now c.deref-3.result.now _ c.args.joining refl c.in-Ok-join.ensures.kept c.requires.ready c.args.log.place c.in-Ok-append.log.place (length c.fill.new.body) c.requires.within
       c.in-Ok-append.ensures.place c.in-Ok.ensures.short,
 )
 
@@ -320,7 +320,7 @@ returns-in-Ok-append-clause-own g c =
     let below = place_of-below c.args.kept.chain.blocks ready.0.header.parent_hash c.args.joining.entry.parent ready.2.ready.entry.on_kept in
     let filled : c.fill.new.body ≡ after_gate (block_record c.args.item.now c.in-Ok.ext.items) =
     c.in-Ok.ensures.filled ∙ ap (λ (bytes : List ℕ). after_gate (block_record c.args.item.now bytes)) (sym c.in-Ok.ensures.bytes) in
-    let kept = c.in-Ok-join.ensures.kept ready.0 ready.1 ∙ ap (λ (bytes : List ℕ). kept_with c.args.kept ready.0 bytes (named_by c.args.joining.entry c.next_rec-rec.result)) c.deref-2.ensures.value in
+    let kept = c.in-Ok-join.ensures.kept ready.0 ready.1 ∙ ap (λ (bytes : List ℕ). kept_with c.args.kept ready.0 bytes (named_by c.args.joining.entry c.next_rec-rec.result)) c.deref-3.ensures.value in
     let held = c.in-Ok-of.ensures ready.0 ready.1 ∙ ap (λ (bytes : List ℕ). record { block = ready.0; ext = bytes }) c.deref.ensures.value in
     own_next c.args.kept c.in-Ok-join.joined.0 ready.0 c.args.item.now ext (named_by c.args.joining.entry c.next_rec-rec.result) c.next_rec-rec.result c.args.log.place c.args.cache c.put.new.self kept
     (as-many c.kept.inside.spec c.kept.inside.blocks.stored c.kept.inside.tree.entries c.args.kept c.kept.view_is) (omega (arith, below)) ready.1
@@ -334,12 +334,12 @@ returns-in-Ok-append-clause-own g c =
 
 pub returns-in-Ok-append-clause-kept : goal.returns-in-Ok-append-clause-kept
 returns-in-Ok-append-clause-kept g c =
-    is_after c.args.kept c.in-Ok-join.joined.0 c.args.kept.chain c.args.item.now c.deref-2.result.now _ c.args.joining refl c.in-Ok-join.ensures.kept
+    is_after c.args.kept c.in-Ok-join.joined.0 c.args.kept.chain c.args.item.now c.deref-3.result.now _ c.args.joining refl c.in-Ok-join.ensures.kept
 
 pub returns-in-Ok-append-clause-exts : goal.returns-in-Ok-append-clause-exts
 returns-in-Ok-append-clause-exts g c = λ decided have.
-    own_after c.args.kept c.in-Ok-join.joined.0 c.args.kept.chain c.args.item.now c.deref-2.result.now _ c.args.joining refl c.in-Ok-join.ensures.kept decided
-    (c.deref-2.ensures.value ∙ c.in-Ok.ensures.bytes) c.args.kept.exts refl have
+    own_after c.args.kept c.in-Ok-join.joined.0 c.args.kept.chain c.args.item.now c.deref-3.result.now _ c.args.joining refl c.in-Ok-join.ensures.kept decided
+    (c.deref-3.ensures.value ∙ c.in-Ok.ensures.bytes) c.args.kept.exts refl have
 
 pub returns-in-Ok-append-clause-live : goal.returns-in-Ok-append-clause-live
 returns-in-Ok-append-clause-live g c = c.in-Ok-join.ensures.live
@@ -354,7 +354,7 @@ returns-in-Ok-append-clause-image g c = λ decided only.
     let filled : c.fill.new.body ≡ after_gate (record_over c.args.kept.chain c.args.item.now) =
     c.in-Ok.ensures.filled ∙ ap after_gate (record_is c.args.kept.chain c.args.item.now c.args.joining decided) in
     let kept : c.in-Ok-join.joined.0.chain ≡ chain_after c.args.kept.chain c.args.item.now =
-    is_after c.args.kept c.in-Ok-join.joined.0 c.args.kept.chain c.args.item.now c.deref-2.result.now _ c.args.joining refl c.in-Ok-join.ensures.kept decided in
+    is_after c.args.kept c.in-Ok-join.joined.0 c.args.kept.chain c.args.item.now c.deref-3.result.now _ c.args.joining refl c.in-Ok-join.ensures.kept decided in
     subst (λ (chain : Chain). IsOnlyImage chain (g.D.Disk.reads_as c.append.new.disk) (g.D.Disk.images c.append.new.disk)) (sym kept)
     (only_after c.args.kept.chain (g.D.Disk.reads_as c.args.disk.now) (g.D.Disk.images c.args.disk.now) only c.args.log.place records of.settled
     c.args.item.now can c.requires.size form c.in-Ok-append.log.place (g.D.Disk.reads_as c.append.new.disk) (g.D.Disk.images c.append.new.disk)

@@ -33,6 +33,17 @@ returns-in-Err-reserve g c = record {
   most = omega arith;
 }
 
+pub returns-in-Err-tx_hashes : goal.returns-in-Err-tx_hashes
+returns-in-Err-tx_hashes g c = record {
+  read = read_short c.in-Ok.ensures.read;
+  rows = λ stored b tells there. tt;
+  fit = λ stored b tells there. tt;
+  undamaged = λ stored b height tells there above fit damage same. memory_undamaged damage same;
+  at_record = λ tells damage same. absurd (memory_undamaged damage same);
+  steps = tt;
+  most = omega arith;
+}
+
 pub returns-in-Ok-apply : goal.returns-in-Ok-apply
 returns-in-Ok-apply g c = record {
   read = c.in-Ok.ensures.read;

@@ -17,6 +17,13 @@ returns-in-Err g c = record {
   undamaged = λ stored tells damage same. c.in-Err.ensures.undamaged (is_told _ stored tells) damage (handed c.in-Err.stop _ same);
 }
 
+pub returns-in-Err-tx_hashes : goal.returns-in-Err-tx_hashes
+returns-in-Err-tx_hashes g c = record {
+  read = read_short c.in-Ok.ensures.read;
+  rows = λ stored tells indexes. tt;
+  undamaged = λ stored tells damage same. memory_undamaged damage same;
+}
+
 pub returns-in-Ok-genesis : goal.returns-in-Ok-genesis
 returns-in-Ok-genesis g c = record {
   read = c.in-Ok.ensures.read;

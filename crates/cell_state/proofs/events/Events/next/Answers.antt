@@ -22,7 +22,7 @@ loop-self-preserved c =
     let height = height_of now.genesis in (
       sym (left-over now.block.now.transactions height now.place now.index c.transactions_item-tx.result c.transactions_item-tx.ensures (sym c.in_default.ensures.event))
           ∙ c.loop-self.invariant.0,
-      c.hash_at-self-inside.ensures,
+      c.loop-self.invariant.1,
     )
 
 pub returns : goal.returns

@@ -12,7 +12,7 @@ use Rattle.cell_state.proofs.state.State.apply.Goals as goal
 
 pub mark-requires-clause-spare : goal.mark-requires-clause-spare
 mark-requires-clause-spare g c =
-    omega (arith, ap makes_in c.of.ensures, makes-block c.args.block.now 1, c.requires, ap (λ (v : StateValue). v.spare) c.self.view_is)
+    omega (arith, ap makes_in c.of.ensures, makes-block c.args.block.now 1, c.requires.spare, ap (λ (v : StateValue). v.spare) c.self.view_is)
 
 pub invariant_of-self : goal.invariant_of-self
 invariant_of-self g c =

@@ -116,6 +116,8 @@ returns-in-Ok-put-clause-reads g c = λ e. no_answer _ _ e
 pub state_with-requires : goal.state_with-requires
 state_with-requires g c = record {
   few = omega (arith, few-entries c.self.inside.blocks.stored c.self.inside.tree.entries c.self.inside.uncles c.self.invariant);
+  hashes =
+      (ready-for c.args.self.chain.blocks c.args.item.now c.in-Some.block c.args.joining c.requires.canonical (sym c.in-Some.ensures.value)).hashes;
 }
 
 pub returns-in_default-clause-undamaged : goal.returns-in_default-clause-undamaged

@@ -75,7 +75,7 @@ returns-then-has_room-clause-read g c = c.in-Ok.ensures.read
 pub returns-then-has_room-clause-ready : goal.returns-then-has_room-clause-ready
 returns-then-has_room-clause-ready g c =
     let whole = ap (λ (v : KeptValue). v.chain) c.self.view_is in
-    may-be-kept c.args.self.now.chain c.args.block.now c.args.entry c.in-Ok.ext c.requires.entry c.requires.passed.sight
+    may-be-kept c.args.self.now.chain c.args.block.now (record { entry = c.args.entry; ext = c.in-Ok.ext; hashes = c.args.hashes }) c.requires.entry c.requires.passed
     (room-for c.len.result _ c.has_room.result c.has_room.ensures c.if-has_room.true
     (c.len.ensures.of_blocks (blocks_of c.self.inside.blocks.stored) c.self.invariant.indexed ∙ ap (λ (v : Chain). length v.blocks) whole))
     c.in-Ok.ensures.rated c.in-Ok.ensures.fees
@@ -88,7 +88,7 @@ returns-then-has_room-clause-decided g c tells live =
     let stands = whole-at-hand c.self.inside.spec stored c.self.inside.tree.entries c.self.inside.uncles
     c.args.state.now c.args.self.now c.args.block.now c.args.entry c.self.view_is c.self.invariant c.requires.entry tells.joined live in
     let passes = subst (λ (v : Chain). broken_at_sight v.spec (branch v.blocks c.args.entry.parent) c.args.block.now ≡ None) (sym whole) c.requires.passed.sight in
-    is-judged c.args.self.now.chain c.args.block.now (record { entry = c.args.entry; ext = c.in-Ok.ext }) c.requires.entry
+    is-judged c.args.self.now.chain c.args.block.now (record { entry = c.args.entry; ext = c.in-Ok.ext; hashes = c.args.hashes }) c.requires.entry
     (subst (λ (v : Chain). first_broken v.spec (branch v.blocks c.args.entry.parent) c.args.block.now ≡ None) whole
     (c.in-Ok.ensures.unbroken stored told stands passes))
     (room-for c.len.result _ c.has_room.result c.has_room.ensures c.if-has_room.true
