@@ -5,7 +5,7 @@ use Rattle.outside.specs.declared.disk.Damage.{Damage}
 use Rattle.outside.specs.declared.disk.ReadStop.{ReadStop}
 use Rattle.outside.specs.declared.disk.ReadStop.TheVariants.{DiskFault, NoMemory, Damaged}
 use Rattle.chain_tree.specs.Told.{Stored}
-use Rattle.chain_tree.specs.Reading.{HasRead}
+use Rattle.chain_tree.specs.Reading.{Findings, HasRead}
 use Rattle.tx_rules.specs.declared.resolving.TxStop.{TxStop}
 use Rattle.tx_rules.specs.declared.resolving.TxStop.TheVariants as resolving_stop
 use Rattle.tx_rules.specs.Reading as resolving
@@ -96,7 +96,7 @@ not_both holds fails = subst IsFalse (sym fails ∙ holds) tt
 
 -- ---- What was read of kept blocks
 
-module _ {S L : Type 0} {tells : S → Option (List Stored)} {counts : S → ℕ} {loans_of : S → L} {faults damages : S → ℕ} where
+module _ {S L : Type 0} {tells : S → Option (List Stored)} {counts : S → ℕ} {loans_of : S → L} {faults : S → ℕ} {damages : S → Findings} where
   -- the stop of a step is answered as another that says the same of them
   pub read_as : {old new : S} {stop other : Option ReadStop} → stop ≡ other → HasRead tells counts loans_of faults damages old new stop
       → HasRead tells counts loans_of faults damages old new other

@@ -185,3 +185,6 @@ stopped T one other is = cc
 
 pub stopped-back : (T : Type 0) (one other : ReadStop) → Some one ≡ Some other → failed T one ≡ failed T other
 stopped-back T one other is = cc
+
+pub stop-is : (one other : ReadStop) → failed Unit one ≡ failed Unit other → one ≡ other
+stop-is one other is = cc

@@ -4,15 +4,16 @@ use Rattle.std.specs.Map.{lookup}
 use Rattle.cell_defs.specs.Ext.{is_ext}
 use Rattle.outside.specs.Image.{Image}
 use Rattle.chain_tree.specs.Told.{Stored}
+use Rattle.chain_tree.specs.Reading.{Findings}
 use Rattle.chain_tree.specs.declared.entry.Entry.{Entry}
 use Rattle.block_store.specs.Stored.{stored_at}
 
--- What clauses see of a cache: the blocks that it holds, the last used first; how many it holds at most; and how often damage was found as a block
--- was read for it.
+-- What clauses see of a cache: the blocks that it holds, the last used first; how many it holds at most; and the damage that was found as a block was
+-- read for it.
 pub record CacheValue : Type 0 where
   pub held : List (ℕ × Stored)
   pub most : ℕ
-  pub damages : ℕ
+  pub damages : Findings
 
 -- What a store of kept blocks has on loan, by the names of the loans, and what stays of it while blocks are read: the content of its disk, the
 -- entries of its tree, and how many blocks its cache holds at most.

@@ -2,27 +2,30 @@
 ghost use Rattle.std.specs.Prelude.{◌≡◌, ◌≤◌, ◌<◌, List, [], length, Option, Some, is_some, nat_eq, IfOk, IfSome, OnOk, OnErr, IsSome, IsTrue};
 ghost use Rattle.lru.specs.LruCache.{lru_cache, promoted, put_entries};
 ghost use Rattle.cell_defs.specs.Ext.{is_ext};
-ghost use Rattle.outside.specs.Causes.{Rose};
+ghost use Rattle.outside.specs.Causes.{counted};
 ghost use Rattle.outside.specs.Image.{Image};
 ghost use Rattle.outside.specs.declared.disk.Damage.{Damage};
 ghost use Rattle.outside.specs.declared.disk.ReadStop.TheVariants.{Damaged};
+ghost use Rattle.chain_tree.specs.Reading.{found_next, nothing_found};
 ghost use Rattle.chain_tree.specs.declared.entry.Entry.{Entry};
 ghost use Rattle.block_store.specs.Held.{held_at, Holds, NothingNew, OnlyAdds, IsKept};
 
 use crate::body::KeptBody;
 use lru::LruCache;
-use outside::{NoMemory, ReadStop};
+use outside::{Damage, NoMemory, ReadStop};
 use std::alloc::Global;
 use std::marker::Model;
 use std::num::NonZeroUsize;
 
 /// The bodies of entries, each by the entry's place, up to a number of them: the one that was used longest ago makes
-/// room. It counts how often damage was found as a body was read for it. Clauses see the blocks with their exts, the
-/// last used first, how many there may be, and the count.
+/// room. It remembers what damage was found as a body was read for it. Clauses see the blocks with their exts, the
+/// last used first, how many there may be, and that damage.
 #[derive(Drop)]
 pub struct Cache {
     bodies: LruCache<u32, KeptBody>,
-    damages: u64,
+    /// How often damage was found, and where last.
+    found: u64,
+    last: Option<Damage>,
 }
 
 impl Model for Cache {
@@ -30,20 +33,20 @@ impl Model for Cache {
 
     ghost Value = { CacheValue };
 
-    ghost view = { λ cache. record { held = cache.bodies.entries; most = cache.bodies.cap; damages = cache.damages } };
+    ghost view = { λ cache. record { held = cache.bodies.entries; most = cache.bodies.cap; damages = record { count = cache.found; last = cache.last } } };
 
     ghost invariant = { λ cache. HaveForm cache.bodies.entries };
 }
 
-/// A count of damage after a stop, as far as a count goes.
-fn counted(damages: u64, stop: ReadStop) -> u64
-    ensures rose { (damage : Damage) → stop ≡ Damaged damage → Rose damages result }
-    ensures same { ((damage : Damage) → stop ≡ Damaged damage → ⊥) → result ≡ damages }
+/// How often damage was found and where last, after a stop. It counts as far as a count goes.
+fn noted(found: u64, last: Option<Damage>, stop: ReadStop) -> (u64, Option<Damage>)
+    ensures next { (damage : Damage) → stop ≡ Damaged damage → result ≡ (counted found, Some damage) }
+    ensures same { ((damage : Damage) → stop ≡ Damaged damage → ⊥) → result ≡ (found, last) }
 {
     match stop {
-        ReadStop::Damaged(_) => damages.saturating_add(1),
-        ReadStop::DiskFault => damages,
-        ReadStop::NoMemory => damages,
+        ReadStop::Damaged(damage) => (found.saturating_add(1), Some(damage)),
+        ReadStop::DiskFault => (found, last),
+        ReadStop::NoMemory => (found, last),
     }
 }
 
@@ -53,7 +56,7 @@ impl Cache {
         requires { 1 ≤ blocks }
         ensures empty { IfOk result (λ cache. cache.held ≡ []) }
         ensures most { IfOk result (λ cache. cache.most ≡ blocks) }
-        ensures undamaged { IfOk result (λ cache. cache.damages ≡ 0) }
+        ensures undamaged { IfOk result (λ cache. cache.damages ≡ nothing_found) }
         ensures agrees { (entries : List Entry) (reads : Option Image) → IfOk result (λ cache. IfSome reads (IsKept entries cache.held)) }
     {
         let Some(most) = NonZeroUsize::new(blocks) else {
@@ -61,7 +64,8 @@ impl Cache {
         };
         Ok(Cache {
             bodies: LruCache::new(alloc, most)?,
-            damages: 0,
+            found: 0,
+            last: None,
         })
     }
 
@@ -111,13 +115,15 @@ impl Cache {
         self.bodies.len()
     }
 
-    /// Counts a stop of a reading where it is damage.
+    /// Notes a stop of a reading where it is damage.
     pub(crate) fn note(&mut self, stop: ReadStop)
         ensures held { self.new.held ≡ self.old.held }
         ensures most { self.new.most ≡ self.old.most }
-        ensures rose { (damage : Damage) → stop ≡ Damaged damage → Rose self.old.damages self.new.damages }
+        ensures next { (damage : Damage) → stop ≡ Damaged damage → self.new.damages ≡ found_next damage self.old.damages }
         ensures same { ((damage : Damage) → stop ≡ Damaged damage → ⊥) → self.new.damages ≡ self.old.damages }
     {
-        self.damages = counted(self.damages, stop);
+        let (found, last) = noted(self.found, self.last, stop);
+        self.found = found;
+        self.last = last;
     }
 }

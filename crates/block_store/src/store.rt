@@ -1,13 +1,12 @@
 // Kept blocks on the disk, as a source of blocks.
 ghost use Rattle.std.specs.Prelude.{◌≡◌, ◌<◌, ℕ, List, Option, Some, None, Err, length, OnOk, OnErr, IfSome, IsSome, IsSomeAnd, IsOk};
 ghost use Rattle.std.proofs.Props.{props};
-ghost use Rattle.outside.specs.Causes.{Rose};
 ghost use Rattle.outside.specs.declared.disk.Area.TheVariants.{Log as log_area};
 ghost use Rattle.outside.specs.declared.disk.Damage.{Damage};
 ghost use Rattle.outside.specs.declared.disk.ReadStop.TheVariants.{Damaged};
 ghost use Rattle.chain_tree.specs.declared.entry.Entry.{Entry};
 ghost use Rattle.chain_tree.specs.Entries.{entry_at};
-ghost use Rattle.chain_tree.specs.Reading.{HasRead, stop_of};
+ghost use Rattle.chain_tree.specs.Reading.{HasRead, stop_of, found_next};
 ghost use Rattle.block_store.specs.Stored.{stored_at, told_by};
 ghost use Rattle.block_store.specs.Held.{Lent, held_at, IsKept, IsInHand};
 
@@ -19,7 +18,7 @@ use outside::{Disk, ReadStop};
 use std::alloc::Global;
 
 /// The kept blocks of a tree, as LOG has them. It borrows the disk, the tree of the entries, and a cache of what was
-/// read before, which counts the damage that it finds.
+/// read before, which remembers the damage that it finds.
 #[derive(Drop)]
 pub struct Store<'d, D: Disk> {
     alloc: Global,
@@ -91,7 +90,7 @@ impl<'d, D: Disk> Blocks for Store<'d, D> {
             (λ it. D.faults it.disk.now) (λ it. it.cache.now.damages) self.old self.new (stop_of result) }
         ensures taken { OnOk result (self.new.hand ≡ Some e) }
         ensures dropped { OnErr result (self.new.hand ≡ None) }
-        ensures counted { (damage : Damage) → result ≡ Err (Damaged damage) → Rose self.old.cache.now.damages self.new.cache.now.damages }
+        ensures counted { (damage : Damage) → result ≡ Err (Damaged damage) → self.new.cache.now.damages ≡ found_next damage self.old.cache.now.damages }
         ensures undamaged { IsSome (told_by (D.reads_as self.old.disk.now) self.old.tree.now.entries)
             → (damage : Damage) → result ≡ Err (Damaged damage) → ⊥ }
         ensures place { (damage : Damage) → result ≡ Err (Damaged damage)

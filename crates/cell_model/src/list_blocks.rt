@@ -109,6 +109,7 @@ impl ListBlocks {
 
 impl Blocks for ListBlocks {
     ghost use Rattle.std.proofs.Common.{refl, lit≤};
+    ghost use Rattle.chain_tree.specs.Reading.{nothing_found};
     ghost use Rattle.cell_model.specs.ListBlocks.{current_place, hand_is_within};
 
     ghost told = { λ it. Some it.stored };
@@ -119,7 +120,7 @@ impl Blocks for ListBlocks {
 
     ghost faults = { λ _. 0 };
 
-    ghost damages = { λ _. 0 };
+    ghost damages = { λ _. nothing_found };
 
     ghost Loans = { Unit {0} };
 

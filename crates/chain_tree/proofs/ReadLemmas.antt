@@ -6,7 +6,7 @@ use Rattle.outside.specs.declared.disk.ReadStop.{ReadStop}
 use Rattle.outside.specs.declared.disk.ReadStop.TheVariants.{DiskFault, NoMemory, Damaged}
 use Rattle.outside.proofs.Endings.{no_fault, after_still}
 use Rattle.chain_tree.specs.Told.{Stored}
-use Rattle.chain_tree.specs.Reading.{HasRead, stop_of}
+use Rattle.chain_tree.specs.Reading.{Findings, HasRead, stop_of}
 
 pub no_stop : (stop : ReadStop) → None ≡ Some stop → ⊥
 no_stop stop same = absurd (cc)
@@ -27,7 +27,7 @@ pub stopped : {T : Type 0} (result : Result T ReadStop) (stop : ReadStop) → st
 stopped (Ok value) stop same = absurd (no_stop stop same)
 stopped (Err other) stop same = let is : other ≡ stop = cc in ap Err is
 
-module _ {S L : Type 0} {tells : S → Option (List Stored)} {counts : S → ℕ} {loans_of : S → L} {faults damages : S → ℕ} where
+module _ {S L : Type 0} {tells : S → Option (List Stored)} {counts : S → ℕ} {loans_of : S → L} {faults : S → ℕ} {damages : S → Findings} where
   -- before any reading
   pub unread : (blocks : S) → HasRead tells counts loans_of faults damages blocks blocks None
   unread blocks = record {
@@ -36,7 +36,7 @@ module _ {S L : Type 0} {tells : S → Option (List Stored)} {counts : S → ℕ
     loans = refl;
     damage = λ damage is. absurd (no_stop (Damaged damage) is);
     cause = no_fault _ _ refl (no_stop DiskFault);
-    found = λ undamaged. refl;
+    found = λ other. refl;
   }
 
   -- reading after reading
@@ -48,7 +48,7 @@ module _ {S L : Type 0} {tells : S → Option (List Stored)} {counts : S → ℕ
     loans = after.loans ∙ before.loans;
     damage = after.damage;
     cause = after_still (before.cause.unchanged (no_stop DiskFault)) after.cause;
-    found = λ undamaged. after.found undamaged ∙ before.found (λ damage is. no_stop (Damaged damage) is);
+    found = λ other. after.found other ∙ before.found (λ damage is last. no_stop (Damaged damage) is);
   }
 
   -- of a source that is the one which was left
@@ -65,7 +65,7 @@ module _ {S L : Type 0} {tells : S → Option (List Stored)} {counts : S → ℕ
     loans = read.loans;
     damage = of_log;
     cause = no_fault _ _ (read.cause.unchanged (no_stop DiskFault)) no_fault_is;
-    found = λ undamaged. read.found (λ damage is. no_stop (Damaged damage) is);
+    found = λ other. read.found (λ damage is last. no_stop (Damaged damage) is);
   }
 
   -- an end after it that is a call's which reads none
@@ -91,15 +91,3 @@ module _ {S L : Type 0} {tells : S → Option (List Stored)} {counts : S → ℕ
   pub read_wrong : {old new : S} {stop : ReadStop} (damage : Damage) → stop ≡ Damaged damage → damage.area ≡ Log
       → HasRead tells counts loans_of faults damages old new None → HasRead tells counts loans_of faults damages old new (Some stop)
   read_wrong damage is area read = read_so (ap Some (sym is)) (read_till (Some (Damaged damage)) (λ other same. in_log damage other area same) (no_damage_fault damage) read)
-
-  -- damage that is said of another place
-  pub read_elsewhere : {old new : S} (one other : Damage) → other.area ≡ Log → HasRead tells counts loans_of faults damages old new (Some (Damaged one))
-      → HasRead tells counts loans_of faults damages old new (Some (Damaged other))
-  read_elsewhere one other area read = record {
-    told = read.told;
-    count = read.count;
-    loans = read.loans;
-    damage = λ damage is. in_log other damage area is;
-    cause = no_fault _ _ (read.cause.unchanged (no_damage_fault one)) (no_damage_fault other);
-    found = λ undamaged. absurd (undamaged other refl);
-  }

@@ -1,6 +1,6 @@
 -- Kept blocks that are read: why a call was stopped, and what it leaves of their source and finds there.
 use Rattle.std.specs.Prelude.{◌≡◌, ℕ, List, Option, Some, None, Result, Ok, Err}
-use Rattle.outside.specs.Causes.{CountsFault}
+use Rattle.outside.specs.Causes.{CountsFault, counted}
 use Rattle.outside.specs.declared.disk.Area.TheVariants.{Log}
 use Rattle.outside.specs.declared.disk.Damage.{Damage}
 use Rattle.outside.specs.declared.disk.ReadStop.{ReadStop}
@@ -12,13 +12,30 @@ abbrev pub stop_of : {T : Type 0} → Result T ReadStop → Option ReadStop
 stop_of (Ok value) = None
 stop_of (Err stop) = Some stop
 
+-- What a source has found damaged: how often, and what it named last.
+pub record Findings : Type 0 where
+  pub count : ℕ
+  pub last : Option Damage
+
+-- none yet
+abbrev pub nothing_found : Findings
+nothing_found = record { count = 0; last = None }
+
+-- one more
+abbrev pub found_next : Damage → Findings → Findings
+found_next damage before = record { count = counted before.count; last = Some damage }
+
+-- What a source finds damaged is answered as it named it: a call that ends with anything else than what was found last found none.
+abbrev pub AnswersFound : Findings → Findings → Option ReadStop → Type 0
+AnswersFound before after stop = ((damage : Damage) → stop ≡ Some (Damaged damage) → after.last ≡ Some damage → ⊥) → after ≡ before
+
 -- What a call leaves of a source and finds there: it tells what it told, as many blocks, on the same loans. Damage is in LOG, a fault is counted,
--- and damage that is found is answered: a call with any other answer found none.
-pub record HasRead {S L : Type 0} (tells : S → Option (List Stored)) (counts : S → ℕ) (loans_of : S → L) (faults damages : S → ℕ) (old new : S)
-    (stop : Option ReadStop) : Type 0 where
+-- and damage that the source finds is answered with the place that the source named.
+pub record HasRead {S L : Type 0} (tells : S → Option (List Stored)) (counts : S → ℕ) (loans_of : S → L) (faults : S → ℕ) (damages : S → Findings)
+    (old new : S) (stop : Option ReadStop) : Type 0 where
   pub told : tells new ≡ tells old
   pub count : counts new ≡ counts old
   pub loans : loans_of new ≡ loans_of old
   pub damage : (damage : Damage) → stop ≡ Some (Damaged damage) → damage.area ≡ Log
   pub cause : CountsFault (faults old) (faults new) (stop ≡ Some DiskFault)
-  pub found : ((damage : Damage) → stop ≡ Some (Damaged damage) → ⊥) → damages new ≡ damages old
+  pub found : AnswersFound (damages old) (damages new) stop

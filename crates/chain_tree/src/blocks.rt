@@ -2,11 +2,10 @@
 ghost use Rattle.std.specs.Prelude.{◌≡◌, ◌-◌, ◌^◌, ◌<◌, ◌≤◌, Option, Some, None, Err, List, ℕ, length, map, drop, slice_get, OnOk, OnErr, IfSome, IsSome, IsTrue};
 ghost use Rattle.chain_defs.specs.Hashes.{proposal_id};
 ghost use Rattle.cell_defs.specs.Ext.{is_ext};
-ghost use Rattle.outside.specs.Causes.{Rose};
 ghost use Rattle.outside.specs.declared.disk.Damage.{Damage};
 ghost use Rattle.outside.specs.declared.disk.ReadStop.TheVariants.{Damaged};
 ghost use Rattle.chain_tree.specs.Told.{Stored};
-ghost use Rattle.chain_tree.specs.Reading.{HasRead, stop_of};
+ghost use Rattle.chain_tree.specs.Reading.{Findings, HasRead, stop_of, found_next};
 
 use mol_schema::BlockView;
 use outside::ReadStop;
@@ -26,8 +25,8 @@ pub trait Blocks {
     /// How often it has failed.
     ghost faults: { Self → ℕ };
 
-    /// How often it has found damage.
-    ghost damages: { Self → ℕ };
+    /// The damage that it has found.
+    ghost damages: { Self → Findings };
 
     /// What it has borrowed, for one that borrows: no call changes it.
     ghost Loans: { Type 0 };
@@ -40,7 +39,7 @@ pub trait Blocks {
         ensures read { HasRead told count loans_of faults damages self.old self.new (stop_of result) }
         ensures taken { OnOk result (in_hand self.new ≡ Some e) }
         ensures dropped { OnErr result (in_hand self.new ≡ None) }
-        ensures counted { (damage : Damage) → result ≡ Err (Damaged damage) → Rose (damages self.old) (damages self.new) }
+        ensures counted { (damage : Damage) → result ≡ Err (Damaged damage) → damages self.new ≡ found_next damage (damages self.old) }
         ensures undamaged { IsSome (told self.old) → (damage : Damage) → result ≡ Err (Damaged damage) → ⊥ };
 
     /// The block of the current entry, the genesis included, as a view: a source checks the bytes of a block once, when

@@ -27,7 +27,7 @@ impl Shown {
 }
 
 impl World for Shown {
-    ghost use Rattle.std.specs.Prelude.{Some, ⊤};
+    ghost use Rattle.std.specs.Prelude.{Some, None, ⊤};
     ghost use Rattle.std.proofs.Common.{arith};
     ghost use Rattle.vm_sys.specs.Finding.{item_of};
 
@@ -37,7 +37,7 @@ impl World for Shown {
 
     ghost faults = { λ shown. 0 };
 
-    ghost damages = { λ shown. 0 };
+    ghost damages = { λ shown. (0, None) };
 
     ghost last_fault = { λ shown. omega arith };
 

@@ -20,7 +20,7 @@ ghost use Rattle.cell_defs.specs.Ext.{ext_bytes, is_ext, count_at};
 ghost use Rattle.cell_state.specs.State.{rows};
 ghost use Rattle.reorg.specs.Moves.{AreOf};
 ghost use Rattle.chain_tree.specs.Blocks.{Describes, IndexesBlocks};
-ghost use Rattle.chain_tree.specs.Reading.{stop_of};
+ghost use Rattle.chain_tree.specs.Reading.{nothing_found, stop_of};
 ghost use Rattle.rule_names.specs.Number.{rule_number};
 ghost use Rattle.rule_names.specs.declared.rule.Rule.{Rule};
 ghost use Rattle.block_judge.specs.Stops.{read_stop_of};
@@ -168,7 +168,7 @@ fn read_store<D: Disk>(alloc: Global, disk: &mut D, held: usize) -> Result<Node,
     ensures one_image { OnOk result (HasOneImage (D.reads_as disk.new) (D.images disk.new)) }
     ensures image { ((image : Image) → D.images disk.old image → IsSound image)
         → IfOk result (λ node. IfSome (D.reads_as disk.old) (λ _. IsOnlyImage node.chain (D.reads_as disk.new) (D.images disk.new))) }
-    ensures found { IfOk result (λ node. node.damages ≡ 0) }
+    ensures found { IfOk result (λ node. node.damages ≡ nothing_found) }
     ensures room { IfOk result (λ node. node.most ≡ held) }
     ensures cause { CountsFault (D.faults disk.old) (D.faults disk.new) (result ≡ Err LogStop.DiskFault) }
 {
@@ -317,7 +317,7 @@ impl Node {
         ensures sound { (now : Image) → D.reads_as disk.old ≡ Some now → IsSound now → IfOk result IsSoundNode }
         ensures moments { (now : Image) (chain : Chain) → D.reads_as disk.old ≡ Some now → store_of now ≡ Keeps chain → ((image : Image) → D.images disk.old image → IsSound image)
             → LeavesOnly D.moment D.left_since disk.old disk.new (λ image. D.images disk.old image ⊎ StandsFor chain image) }
-        ensures found { IfOk result (λ node. node.damages ≡ 0) }
+        ensures found { IfOk result (λ node. node.damages ≡ nothing_found) }
         ensures room { IfOk result (λ node. node.most ≡ held) }
         ensures cause { CountsFault (D.faults disk.old) (D.faults disk.new) (result ≡ Err LogStop.DiskFault) }
         ensures most { (now : Image) → D.reads_as disk.old ≡ Some now → steps.new ≤ steps.old + moves_to_open now }

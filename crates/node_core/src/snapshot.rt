@@ -10,6 +10,7 @@ ghost use Rattle.outside.specs.declared.disk.WriteStop.TheVariants as write_stop
 ghost use Rattle.codec_defs.specs.Schema.{Block};
 ghost use Rattle.chain_defs.specs.Tip.{tip_place};
 ghost use Rattle.cell_state.specs.State.{rows};
+ghost use Rattle.chain_tree.specs.Reading.{AnswersFound, stop_of};
 ghost use Rattle.reorg.specs.Moves.{AreOf};
 ghost use Rattle.snapshot_defs.specs.Snapshot as snapshots;
 ghost use Rattle.snapshots.specs.Writing.{HasAnyArea, HoldsNew};
@@ -229,7 +230,7 @@ pub(crate) fn to_tip<D: Disk, L: Ledger>(
         → AreOf kept.now.chain.blocks 0 (rows genesis) → (damage : a_damage) → result ≡ Err (read_stops.Damaged damage) → ⊥ }
     ensures agrees { IfSome (D.reads_as disk.new) (IsReadBy kept.now cache.new.held) }
     ensures content { D.content_of disk.new ≡ D.content_of disk.old }
-    ensures found { ((damage : a_damage) → result ≡ Err (read_stops.Damaged damage) → ⊥) → cache.new.damages ≡ cache.old.damages }
+    ensures found { AnswersFound cache.old.damages cache.new.damages (stop_of result) }
     ensures room { cache.new.most ≡ cache.old.most }
     ensures cause { CountsFault (D.faults disk.old) (D.faults disk.new) (result ≡ Err read_stops.DiskFault) }
     ensures most { (now : Image) → D.reads_as disk.old ≡ Some now → steps.new ≤ steps.old + moves_by kept.now.chain.blocks now (newest now) }

@@ -5,11 +5,12 @@ use Rattle.outside.specs.declared.disk.Area.TheVariants.{Log}
 use Rattle.outside.specs.declared.disk.Damage.{Damage}
 use Rattle.outside.specs.declared.disk.ReadStop.{ReadStop}
 use Rattle.outside.specs.declared.disk.ReadStop.TheVariants.{Damaged, DiskFault, NoMemory}
-use Rattle.chain_tree.specs.Reading.{stop_of}
+use Rattle.chain_tree.specs.Reading.{Findings, stop_of}
 use Rattle.program_run.specs.declared.program.Stopped.{Stopped}
 use Rattle.program_run.specs.declared.program.Stopped.TheVariants.{Running}
 use Rattle.script_run.specs.declared.stop.ScriptStop.{ScriptStop}
 use Rattle.script_run.specs.declared.stop.ScriptStop.TheVariants.{Read}
+use Rattle.script_run.specs.Lookups.{found_in}
 use Rattle.script_run.specs.Grouping.{IsWantOrDamage}
 
 -- ---- Answers that are none
@@ -41,6 +42,10 @@ damaged-unlike-fault stop damage damaged is = absurd (cc)
 
 pub running-stop : {T : Type 0} (stop other : ReadStop) → ◌≡◌ {A = Result T Stopped} (Err (Running stop)) (Err (Running other)) → Some stop ≡ Some other
 running-stop stop other same = let is : stop ≡ other = cc in ap Some is
+
+-- what a source of blocks has found, by what its world says of it
+pub same-found : (one other : Findings) → found_in one ≡ found_in other → one ≡ other
+same-found one other same = λ i. record { count = (same i).0; last = (same i).1 }
 
 -- want of memory, where scripts are run
 pub wanted-no-damage : (damage : Damage) → ◌≡◌ {A = Result ℕ ScriptStop} (Err (Read NoMemory)) (Err (Read (Damaged damage))) → ⊥

@@ -10,6 +10,8 @@ use Rattle.cell_defs.specs.Row.{Row}
 use Rattle.cell_defs.specs.Cell.{script_hash, data_hash, occupied_by}
 use Rattle.cell_model.specs.Copies.{ResolvedTxValue}
 use Rattle.chain_tree.specs.Told.{Stored}
+use Rattle.chain_tree.specs.Reading.{Findings}
+use Rattle.outside.specs.declared.disk.Damage.{Damage}
 use Rattle.sys_defs.specs.World as world
 use Rattle.sys_defs.specs.World.{Call, Item, Items}
 use Rattle.script_defs.specs.Scene.{Scene}
@@ -87,6 +89,10 @@ IsFound headers epoch_length item NoIndex = item ≡ world.NoIndex
 IsFound headers epoch_length item Missing = item ≡ world.Missing
 IsFound headers epoch_length item Unknown = item ≡ world.Unknown
 IsFound headers epoch_length item Broken = ⊥
+
+-- the damage that a source of blocks has found: how often, and which last
+abbrev pub found_in : Findings → ℕ × Option Damage
+found_in findings = (findings.count, findings.last)
 
 -- the number of the syscall that loads the hash of the group's script
 abbrev pub load_script_hash : ℕ

@@ -44,7 +44,7 @@ impl<'a, 'w, 'b, B: Blocks> World for GroupWorld<'a, 'w, 'b, B> {
     ghost use Rattle.std.specs.Prelude.{ℕ, List, Option};
     ghost use Rattle.std.specs.Option.{option_map};
     ghost use Rattle.chain_tree.specs.Told.{Stored};
-    ghost use Rattle.script_run.specs.Lookups.{bytes_of, items_told};
+    ghost use Rattle.script_run.specs.Lookups.{bytes_of, found_in, items_told};
 
     ghost told = { λ world. items_told world.tx.now.epoch_length world.tx.now.it world.group.now (B.told world.blocks.now) };
 
@@ -52,7 +52,7 @@ impl<'a, 'w, 'b, B: Blocks> World for GroupWorld<'a, 'w, 'b, B> {
 
     ghost faults = { λ world. B.faults world.blocks.now };
 
-    ghost damages = { λ world. B.damages world.blocks.now };
+    ghost damages = { λ world. found_in (B.damages world.blocks.now) };
 
     ghost last_fault = { λ world. B.last_fault world.blocks.now };
 

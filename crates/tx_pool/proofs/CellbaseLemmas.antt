@@ -12,7 +12,7 @@ use Rattle.time_defs.specs.Dao.{as_u64}
 use Rattle.chain_defs.specs.Kept.{block_at}
 use Rattle.chain_defs.proofs.KeptLaws.{slice_get-below}
 use Rattle.chain_tree.specs.Told.{Stored, blocks_of}
-use Rattle.chain_tree.specs.Reading.{HasRead, stop_of}
+use Rattle.chain_tree.specs.Reading.{Findings, HasRead, stop_of}
 use Rattle.chain_tree.proofs.ReadLemmas.{no_memory_fault, no_memory_damage, read_till, read_so}
 use Rattle.rewards.proofs.BranchLemmas.{held}
 use Rattle.reward_defs.specs.Reward.{part}
@@ -34,7 +34,7 @@ block-brought stored place b told hand tells in_hand within is =
 
 -- ---- Want of memory
 
-module _ {S L : Type 0} {tells : S → Option (List Stored)} {counts : S → ℕ} {loans_of : S → L} {faults damages : S → ℕ} where
+module _ {S L : Type 0} {tells : S → Option (List Stored)} {counts : S → ℕ} {loans_of : S → L} {faults : S → ℕ} {damages : S → Findings} where
   pub read-then-alone : {T : Type 0} {old new : S} (result : Result T ReadStop) → IfErr result (λ stop. stop ≡ NoMemory)
       → HasRead tells counts loans_of faults damages old new None → HasRead tells counts loans_of faults damages old new (stop_of result)
   read-then-alone (Ok value) only read = read

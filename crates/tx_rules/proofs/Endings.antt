@@ -4,7 +4,7 @@ use Rattle.outside.specs.declared.disk.Damage.{Damage}
 use Rattle.outside.specs.declared.disk.ReadStop.{ReadStop}
 use Rattle.outside.specs.declared.disk.ReadStop.TheVariants.{DiskFault, NoMemory, Damaged}
 use Rattle.chain_tree.specs.Told.{Stored}
-use Rattle.chain_tree.specs.Reading.{HasRead}
+use Rattle.chain_tree.specs.Reading.{Findings, HasRead}
 use Rattle.chain_tree.proofs.ReadLemmas.{read_short, read_wrong}
 use Rattle.rule_names.specs.declared.rule.Rule.{Rule}
 use Rattle.tx_rules.specs.Reading.{read_stop}
@@ -26,7 +26,7 @@ pub damage_unread : {T : Type 0} (damage : Damage) → ◌≡◌ {A = Result T T
 damage_unread damage same = absurd (cc)
 
 -- a step that reads no kept block and stops, after those that were read to a good end
-pub read_stopped : {T S L : Type 0} {tells : S → Option (List Stored)} {counts : S → ℕ} {loans_of : S → L} {faults damages : S → ℕ} {old new : S}
+pub read_stopped : {T S L : Type 0} {tells : S → Option (List Stored)} {counts : S → ℕ} {loans_of : S → L} {faults : S → ℕ} {damages : S → Findings} {old new : S}
     (proposed : Bool) (stop : TxStop) → IsStop proposed stop → (◌≡◌ {A = Result T TxStop} (Err stop) (Err (Read DiskFault)) → ⊥)
     → HasRead tells counts loans_of faults damages old new None → HasRead tells counts loans_of faults damages old new (read_stop stop)
 read_stopped proposed (Broken rule) stops unread read = read

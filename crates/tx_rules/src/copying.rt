@@ -16,7 +16,7 @@ ghost use Rattle.tx_rules.specs.Copying.{IsFoundAt, IsBlockAt, IsCopyOfRow, Copi
 ghost use Rattle.tx_rules.specs.Outcome.{Copies};
 
 use crate::at::{Own, TxAt, damage_of};
-use cell_model::{CellMeta, OutPoint, Resolved, copy_of, fetch, output_at};
+use cell_model::{CellMeta, OutPoint, Resolved, copy_of, output_at};
 use chain_tree::Blocks;
 use mol_schema::BlockView;
 use outside::{NoMemory, ReadStop};
@@ -42,12 +42,12 @@ fn copy_kept<B: Blocks>(
     ensures undamaged { (stored : List Stored) (cell : Cell) → B.told blocks.old ≡ Some stored → NamesOutput stored o meta cell
         → (damage : Damage) → result ≡ Err (Damaged damage) → ⊥ }
 {
-    match fetch(alloc, blocks, o, meta) {
-        Ok(copy) => Ok(copy),
-        Err(ReadStop::Damaged(_)) => Err(ReadStop::Damaged(damage_of(at, &meta))),
-        Err(ReadStop::DiskFault) => Err(ReadStop::DiskFault),
-        Err(ReadStop::NoMemory) => Err(ReadStop::NoMemory),
+    match blocks.bring(meta.block) {
+        Ok(()) => {}
+        Err(stop) => return Err(stop),
     }
+    let block = blocks.block();
+    copy_read(alloc, at, &block, o, meta)
 }
 
 /// A copy of an output of a block that is read.
@@ -254,9 +254,7 @@ fn take_kept<B: Blocks>(
 {
     match blocks.bring(meta.block) {
         Ok(()) => {}
-        Err(ReadStop::Damaged(_)) => return Err(ReadStop::Damaged(damage_of(at, &meta))),
-        Err(ReadStop::DiskFault) => return Err(ReadStop::DiskFault),
-        Err(ReadStop::NoMemory) => return Err(ReadStop::NoMemory),
+        Err(stop) => return Err(stop),
     }
     let block = blocks.block();
     take_read(alloc, at, &block, meta.block, rows, order, taken)

@@ -6,7 +6,7 @@ ghost use Rattle.outside.specs.declared.disk.Damage.{Damage};
 ghost use Rattle.outside.specs.declared.disk.ReadStop.TheVariants.{DiskFault, Damaged, NoMemory};
 ghost use Rattle.sys_defs.specs.World.{Items};
 ghost use Rattle.sys_defs.specs.World as items;
-ghost use Rattle.vm_sys.specs.Finding.{item_of};
+ghost use Rattle.vm_sys.specs.Finding.{item_of, AnswersFound};
 
 use super::call::Call;
 use outside::ReadStop;
@@ -36,8 +36,8 @@ pub trait World {
     /// How often it has failed.
     ghost faults: { Self → ℕ };
 
-    /// How often it has found damage where it read.
-    ghost damages: { Self → ℕ };
+    /// The damage that it has found where it read: how often, and which last.
+    ghost damages: { Self → ℕ × Option Damage };
 
     /// What it has borrowed, for one that borrows: no call changes it.
     ghost Loans: { Type 0 };
@@ -53,8 +53,7 @@ pub trait World {
         // That there is no such source or field is known without memory.
         ensures known { IfSome (told self.old) (λ told. told call ≡ items.Unknown → result ≡ Err NoMemory → ⊥) }
         ensures cause { CountsFault (faults self.old) (faults self.new) (result ≡ Err DiskFault) }
-        // Damage that is found is answered.
-        ensures answered { ((damage : Damage) → result ≡ Err (Damaged damage) → ⊥) → damages self.new ≡ damages self.old }
+        ensures answered { AnswersFound (damages self.old) (damages self.new) (λ damage. result ≡ Err (Damaged damage)) }
         ensures undamaged { IsSome (told self.old) → (damage : Damage) → result ≡ Err (Damaged damage) → ⊥ }
         ensures damage { (damage : Damage) → result ≡ Err (Damaged damage) → damage.area ≡ Log };
 
@@ -72,7 +71,7 @@ pub trait World {
 pub struct Alone;
 
 impl World for Alone {
-    ghost use Rattle.std.specs.Prelude.{Some, [], ⊤};
+    ghost use Rattle.std.specs.Prelude.{Some, None, [], ⊤};
     ghost use Rattle.std.proofs.Common.{arith};
     ghost use Rattle.sys_defs.specs.World.{nothing};
 
@@ -82,7 +81,7 @@ impl World for Alone {
 
     ghost faults = { λ alone. 0 };
 
-    ghost damages = { λ alone. 0 };
+    ghost damages = { λ alone. (0, None) };
 
     ghost last_fault = { λ alone. omega arith };
 

@@ -14,7 +14,7 @@ returns-in-Ok g c = record {
   loading = no-error _ _;
   running = λ items told is. absurd (no-error _ _ is);
   cause = counts-as (λ is. absurd (no-error _ _ is)) (λ is. absurd (no-error _ _ is)) c.in-Ok.ensures.cause;
-  answered = λ none. c.in-Ok.ensures.answered (λ damage. no-error _ _);
+  answered = λ none. c.in-Ok.ensures.answered (λ damage is last. no-error _ _ is);
   undamaged = λ told damage. no-error _ _;
   damage = λ damage is. absurd (no-error _ _ is);
 }

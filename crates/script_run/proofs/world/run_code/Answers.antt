@@ -26,6 +26,6 @@ returns-in-Err-Running-clause-read g c =
       damage = λ damage same. c.execute_in-came.ensures.damage damage (is ∙ ap (λ (it : ReadStop). Err (Running it)) (some-stop _ _ same));
       cause = search rules;
       found = λ none.
-          let answered = c.execute_in-came.ensures.answered (λ damage same. none damage (running-stop stop _ (sym is ∙ same))) in
+          let answered = c.execute_in-came.ensures.answered (λ damage same last. none damage (running-stop stop _ (sym is ∙ same)) last) in
           search (rules, answered);
     }

@@ -1,50 +1,39 @@
-use Rattle.std.proofs.Common.{Err, ap, ◌∙◌}
-use Rattle.outside.proofs.Endings.{no_answer, memory_undamaged, fault_undamaged}
-use Rattle.chain_tree.proofs.ReadLemmas.{read_as, read_elsewhere}
+use Rattle.std.proofs.Common.{◌≡◌, Option, Some, IfOk, IsSome, List, ap, ◌∙◌, subst, rules}
+use Rattle.codec_defs.specs.Schema.{Block}
+use Rattle.chain_tree.specs.Told.{Stored}
+use Rattle.cell_model.specs.Copies.{CopiesOutput, output_in}
+use Rattle.cell_model.proofs.CopyLemmas.{named_output, in-hand}
+use Rattle.outside.proofs.Endings.{is_told, handed}
+use Rattle.chain_tree.proofs.ReadLemmas.{read_then}
 use Rattle.tx_rules.proofs.copying.copy_kept.Goals as goal
 
-pub returns-in-Ok : goal.returns-in-Ok
-returns-in-Ok g c = record {
-  read = c.in-Ok.ensures.read;
-  out_point = c.in-Ok.ensures.out_point;
-  row = c.in-Ok.ensures.row;
-  output = c.in-Ok.ensures.output;
-  copied = c.in-Ok.ensures.copied;
-  exact = c.in-Ok.ensures.exact;
-  undamaged = λ stored cell tells names damage same. no_answer _ _ same;
-}
-
-pub returns-in-Err-Damaged : goal.returns-in-Err-Damaged
-returns-in-Err-Damaged g c = record {
-  read = read_elsewhere c.in-Err-Damaged.field-0-0 c.damage_of.result c.damage_of.ensures.area
-      (read_as (c.in-Err-Damaged.is ∙ ap Err c.in-Err-Damaged.field-0-is) c.fetch.ensures.read);
+pub returns-in-Err : goal.returns-in-Err
+returns-in-Err g c = record {
+  read = c.in-Err.ensures.read;
   out_point = tt;
   row = tt;
   output = tt;
-  copied = λ stored cell tells names. tt;
+  copied = λ stored cell tells named. tt;
   exact = λ stored made tells there. tt;
-  undamaged = λ stored cell tells names damage same.
-      c.fetch.ensures.undamaged stored cell tells names c.in-Err-Damaged.field-0-0 (c.in-Err-Damaged.is ∙ ap Err c.in-Err-Damaged.field-0-is);
+  undamaged = λ stored cell tells named damage same. c.in-Err.ensures.undamaged (is_told _ stored tells) damage (handed c.in-Err.stop _ same);
 }
 
-pub returns-in-Err-DiskFault : goal.returns-in-Err-DiskFault
-returns-in-Err-DiskFault g c = record {
-  read = read_as (c.in-Err-DiskFault.is ∙ ap Err c.in-Err-DiskFault.field-0-is) c.fetch.ensures.read;
-  out_point = tt;
-  row = tt;
-  output = tt;
-  copied = λ stored cell tells names. tt;
-  exact = λ stored made tells there. tt;
-  undamaged = λ stored cell tells names damage same. fault_undamaged damage same;
-}
-
-pub returns-in-Err-NoMemory : goal.returns-in-Err-NoMemory
-returns-in-Err-NoMemory g c = record {
-  read = read_as (c.in-Err-NoMemory.is ∙ ap Err c.in-Err-NoMemory.field-0-is) c.fetch.ensures.read;
-  out_point = tt;
-  row = tt;
-  output = tt;
-  copied = λ stored cell tells names. tt;
-  exact = λ stored made tells there. tt;
-  undamaged = λ stored cell tells names damage same. memory_undamaged damage same;
-}
+pub returns : goal.returns
+returns g c =
+    let taken : g.B.Blocks.in_hand c.bring.new.self ≡ Some c.args.meta.block = search rules in
+    record {
+      read = read_then c.copy_read.result c.copy_read.ensures.damage c.copy_read.ensures.unread c.in-Ok.ensures.read;
+      out_point = c.copy_read.ensures.out_point;
+      row = c.copy_read.ensures.row;
+      output = c.copy_read.ensures.output;
+      copied = λ stored cell tells named.
+          let block_is = in-hand c.block-block.result _ _ stored c.args.meta.block named.made (c.in-Ok.ensures.read.told ∙ tells) taken named.there c.block-block.ensures in
+          c.copy_read.ensures.copied cell (ap (λ (b : Block). output_in b c.args.meta.transaction c.args.o.index) block_is ∙ named_output stored c.args.o c.args.meta cell named);
+      exact = λ stored made tells there.
+          let block_is = in-hand c.block-block.result _ _ stored c.args.meta.block made (c.in-Ok.ensures.read.told ∙ tells) taken there c.block-block.ensures in
+          subst (λ (b : Block). IfOk c.copy_read.result (CopiesOutput (output_in b c.args.meta.transaction c.args.o.index))) block_is c.copy_read.ensures.exact;
+      undamaged = λ stored cell tells named damage same.
+          let block_is = in-hand c.block-block.result _ _ stored c.args.meta.block named.made (c.in-Ok.ensures.read.told ∙ tells) taken named.there c.block-block.ensures in
+          c.copy_read.ensures.undamaged cell (ap (λ (b : Block). output_in b c.args.meta.transaction c.args.o.index) block_is ∙ named_output stored c.args.o c.args.meta cell named)
+          damage same;
+    }

@@ -1,35 +1,18 @@
-use Rattle.std.proofs.Common.{◌≡◌, List, Option, Some, Err, ap, ◌∙◌, subst}
+use Rattle.std.proofs.Common.{◌≡◌, List, Option, Some, ap, ◌∙◌, subst}
 use Rattle.chain_tree.specs.Told.{Stored}
 use Rattle.tx_rules.specs.Copying.{IsBlockAt}
-use Rattle.outside.proofs.Endings.{memory_undamaged, fault_undamaged, is_told}
-use Rattle.chain_tree.proofs.ReadLemmas.{read_then, read_as, read_elsewhere}
+use Rattle.outside.proofs.Endings.{is_told, handed}
+use Rattle.chain_tree.proofs.ReadLemmas.{read_then}
 use Rattle.tx_rules.proofs.TakenLemmas.{hand-block}
 use Rattle.tx_rules.proofs.copying.take_kept.Goals as goal
 
-pub returns-in-Err-Damaged : goal.returns-in-Err-Damaged
-returns-in-Err-Damaged g c = record {
-  read = read_elsewhere c.in-Err-Damaged.field-0-0 c.damage_of.result c.damage_of.ensures.area
-      (read_as (c.in-Err-Damaged.is ∙ ap Err c.in-Err-Damaged.field-0-is) c.bring.ensures.read);
+pub returns-in-Err : goal.returns-in-Err
+returns-in-Err g c = record {
+  read = c.in-Err.ensures.read;
   long = c.requires.long;
   taken = λ before. tt;
   undamaged = λ stored seen site founds tells is are_seen rows damage same.
-      c.bring.ensures.undamaged (is_told _ stored tells) c.in-Err-Damaged.field-0-0 (c.in-Err-Damaged.is ∙ ap Err c.in-Err-Damaged.field-0-is);
-}
-
-pub returns-in-Err-DiskFault : goal.returns-in-Err-DiskFault
-returns-in-Err-DiskFault g c = record {
-  read = read_as (c.in-Err-DiskFault.is ∙ ap Err c.in-Err-DiskFault.field-0-is) c.bring.ensures.read;
-  long = c.requires.long;
-  taken = λ before. tt;
-  undamaged = λ stored seen site founds tells is are_seen rows damage same. fault_undamaged damage same;
-}
-
-pub returns-in-Err-NoMemory : goal.returns-in-Err-NoMemory
-returns-in-Err-NoMemory g c = record {
-  read = read_as (c.in-Err-NoMemory.is ∙ ap Err c.in-Err-NoMemory.field-0-is) c.bring.ensures.read;
-  long = c.requires.long;
-  taken = λ before. tt;
-  undamaged = λ stored seen site founds tells is are_seen rows damage same. memory_undamaged damage same;
+      c.in-Err.ensures.undamaged (is_told _ stored tells) damage (handed c.in-Err.stop _ same);
 }
 
 pub returns : goal.returns

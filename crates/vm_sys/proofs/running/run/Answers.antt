@@ -45,7 +45,7 @@ steps-preserved g c = record {
   told = c.advance.ensures.told ∙ c.steps.invariant.told;
   loans = c.advance.ensures.loans ∙ c.steps.invariant.loans;
   faults = c.in-Ok-None.ensures.cause.unchanged (λ fault. cc) ∙ c.steps.invariant.faults;
-  damages = c.in-Ok-None.ensures.answered (λ damage is. cc) ∙ c.steps.invariant.damages;
+  damages = c.in-Ok-None.ensures.answered (λ damage is last. cc) ∙ c.steps.invariant.damages;
   accounts = accounts-more c.args.machine.now.machine c.steps.machine c.advance.new.machine c.in-Ok-None.field-0 c.steps.invariant.accounts
       c.in-Ok-None.ensures.some c.in-Ok-None.field-0-is;
   runs = λ items told.
@@ -61,7 +61,7 @@ returns-in-Err-clause-wants g c = λ items told wants.
     (c.in-Err.ensures.wants items (c.steps.invariant.told ∙ told) (ap Err stop))
 
 pub returns-in-Ok-Some-clause-answered : goal.returns-in-Ok-Some-clause-answered
-returns-in-Ok-Some-clause-answered g c = λ none. c.in-Ok-Some.ensures.answered (λ damage is. cc) ∙ c.steps.invariant.damages
+returns-in-Ok-Some-clause-answered g c = λ none. c.in-Ok-Some.ensures.answered (λ damage is last. cc) ∙ c.steps.invariant.damages
 
 pub returns-in-Err-clause-answered : goal.returns-in-Err-clause-answered
 returns-in-Err-clause-answered g c = λ none. c.in-Err.ensures.answered (λ damage is. none damage (handed c.in-Err.stop _ is)) ∙ c.steps.invariant.damages

@@ -2,6 +2,7 @@ use Rattle.std.proofs.Common.{Err, sym, ap, ◌∙◌}
 use Rattle.outside.proofs.Moments.{leaves_also}
 use Rattle.log_file.proofs.Exits.{stop_counts, answer_still}
 use Rattle.node_core.specs.Node.{NodeValue}
+use Rattle.node_core.proofs.StayingLemmas.{not_stopped}
 use Rattle.node_core.proofs.OpenLemmas.{leaves_on, stands_while_opened, own_read, keeps_led, settled_led, own_led, one_still, sound_led, on_led, not_led, moved_to_open, led_counts, no_step, ok_err, same_stop}
 use Rattle.node_core.proofs.node.Node.open.Goals as goal
 
@@ -159,7 +160,7 @@ returns-in-Err-to_tip-clause-found g c = tt
 
 pub returns-in-Ok-to_tip-clause-found : goal.returns-in-Ok-to_tip-clause-found
 returns-in-Ok-to_tip-clause-found g c =
-    c.to_tip.ensures.found (λ _ stop. ok_err _ _ (sym c.in-Ok-to_tip.is ∙ stop))
+    c.in-Ok-to_tip.ensures.found (λ _ stop last. not_stopped _ stop)
     ∙ ap (λ (v : NodeValue). v.damages) c.node.view_is ∙ c.in-Ok.ensures.found
 
 pub returns-in-Err-clause-room : goal.returns-in-Err-clause-room

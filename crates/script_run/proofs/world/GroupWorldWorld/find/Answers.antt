@@ -3,7 +3,7 @@ use Rattle.std.specs.Prelude.{Err}
 use Rattle.outside.specs.declared.disk.ReadStop.TheVariants.{NoMemory}
 use Rattle.sys_defs.specs.World.{Here, NoIndex, Missing, Unknown}
 use Rattle.script_run.specs.declared.bytes.Lookup.TheVariants as look
-use Rattle.script_run.specs.Lookups.{bytes_of, header_part, items_told}
+use Rattle.script_run.specs.Lookups.{bytes_of, found_in, header_part, items_told}
 use Rattle.chain_tree.specs.Reading.{stop_of}
 use Rattle.script_run.specs.Shown.{ShownTxValue}
 use Rattle.script_run.proofs.ReadLemmas.{counted-as, counted-stop, damage-no-fault, damage-no-want, damage-of-log, no-error, none-counted, not-there, some-stop}
@@ -107,7 +107,7 @@ returns-in-Ok g c =
           k.holds ∙ ap Here (ap (λ (t : ShownTxValue). header_part t.epoch_length part k.made.block.header) (sym c.tx.view_is) ∙ sym (c.in-Ok.ensures.part stored k.made told k.there)));
       known = not-wanted (items_told world.tx.now.epoch_length world.tx.now.it world.group.now (g.B.Blocks.told world.blocks.now)) c.args.call _ (no-error _ _);
       cause = counted-as _ _ _ _ (λ is. absurd (no-error _ _ is)) (λ is. absurd (not-there _ _ refl is)) read.cause;
-      answered = λ none. read.found (λ damage is. not-there _ _ refl is);
+      answered = λ none. ap found_in (read.found (λ damage is last. not-there _ _ refl is));
       undamaged = λ _ damage is. no-error _ _ is;
       damage = λ damage is. absurd (no-error _ _ is);
     }
@@ -127,7 +127,7 @@ returns-in-Err g c =
           (λ items. items c.args.call ≡ Unknown → Err c.in-Err.stop ≡ Err NoMemory → ⊥)
           (λ stored scene told is unknown no_memory. let k = kept stored place _ is in here-or-unknown _ _ k.holds unknown);
       cause = counted-stop _ _ c.in-Err.stop read.cause;
-      answered = λ none. read.found (λ damage is. none damage (ap Err (some-stop _ _ is)));
+      answered = λ none. ap found_in (read.found (λ damage is last. none damage (ap Err (some-stop _ _ is)) last));
       undamaged = λ some damage is.
           let t = block-told world.tx.now.epoch_length world.tx.now.it world.group.now (g.B.Blocks.told world.blocks.now) c.args.call c.look_up.result place part c.look_up.ensures c.in-InBlock.is some in
           c.in-Err.ensures.undamaged t.stored t.made t.told_are t.there damage (ap stop_of is);
