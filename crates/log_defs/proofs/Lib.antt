@@ -1,3 +1,4 @@
 pub mod Records
 pub mod Contents
 pub mod Resting
+pub mod Stopping

@@ -1,5 +1,5 @@
 -- The log (docs/STORE.md): its first bytes, records after open gates, and the end.
-use Rattle.std.specs.Prelude.{ℕ, zero, suc, ◌+◌, ◌-◌, ◌==◌, ◌&&◌, not, nat_lt, nat_le, Bool, List, [], ◌∷◌, ◌++◌, codes, length, take, drop, slice_index, Option, Some, None, is_some, is_none, if◌then◌else◌}
+use Rattle.std.specs.Prelude.{◌≡◌, ℕ, zero, suc, ◌+◌, ◌-◌, ◌==◌, ◌&&◌, not, nat_lt, nat_le, Bool, List, [], ◌∷◌, ◌++◌, codes, length, take, drop, slice_index, Option, Some, None, is_some, is_none, if◌then◌else◌}
 use Rattle.std.specs.Option.{option_map, option_and_then}
 use Rattle.std.specs.Str.{bytes_eq}
 use Rattle.std.specs.Int.{w32, to_le_bytes}
@@ -119,6 +119,48 @@ log_of bytes = if bytes_eq (take 8 bytes) magic then content_of_records (records
 -- where the records end
 unfoldable pub end_of_log : List ℕ → ℕ
 end_of_log bytes = 8 + length (all_record_bytes (records_of (drop 8 bytes)))
+
+-- ---- Where bytes stop being a log
+
+-- the record of a specification
+abbrev pub is_specification : Record → Bool
+is_specification r = (r.kind == 1) && is_none (broken_specification_rule r.body)
+
+-- the record of a genesis
+abbrev pub is_genesis : Record → Bool
+is_genesis r = (r.kind == 2) && is_none (broken_genesis_rule r.body)
+
+-- Records stand one after the other from a place on. They stop being those of a log at the body of the first that may not stand where it does, or after
+-- them, where one that is missing should begin.
+
+-- records of blocks, after those of these blocks
+abbrev pub stop_of_blocks : List Block → ℕ → List Record → ℕ
+stop_of_blocks kept place [] = place
+stop_of_blocks kept place (r ∷ records) = elim (block_if (nat_le (length kept) record_limit) (block_of_record kept r)) [
+  | None ↦ place + 6
+  | Some b ↦ stop_of_blocks (kept ++ b ∷ []) (place + length (record_bytes r)) records
+]
+
+-- the record of the genesis and those of blocks
+abbrev pub stop_of_genesis : ℕ → List Record → ℕ
+stop_of_genesis place [] = place
+stop_of_genesis place (r ∷ records) =
+    if is_genesis r then stop_of_blocks (blocks_of_item r.body) (place + length (record_bytes r)) records else place + 6
+
+-- all records of a log
+abbrev pub stop_of_records : ℕ → List Record → ℕ
+stop_of_records place [] = place
+stop_of_records place (r ∷ records) =
+    if is_specification r then stop_of_genesis (place + length (record_bytes r)) records else place + 6
+
+-- Where bytes stop being a log: at their start, or at a record. For a log this is where its records end.
+unfoldable pub stop_of_log : List ℕ → ℕ
+stop_of_log bytes = if bytes_eq (take 8 bytes) magic then stop_of_records 8 (records_of (drop 8 bytes)) else 0
+
+-- Bytes are no log, and this is where they stop being one.
+pub record IsNoLogFrom (bytes : List ℕ) (place : ℕ) : Type 0 where
+  pub none : log_of bytes ≡ None
+  pub stops : place ≡ stop_of_log bytes
 
 -- ---- A new log
 

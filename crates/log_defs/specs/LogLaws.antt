@@ -3,7 +3,7 @@ use Rattle.std.specs.Prelude.{◌≡◌, ℕ, ◌+◌, ◌^◌, ◌<◌, List, [
 use Rattle.codec_defs.specs.Schema.{Block}
 use Rattle.time_defs.specs.Specification.{broken_specification_rule}
 use Rattle.genesis_defs.specs.Genesis.{broken_genesis_rule}
-use Rattle.log_defs.specs.Log.{Record, record_at, records_of, all_record_bytes, record_limit, LogContent, content_of_records, block_of_record, log_of, body_of_parts, parts_of_body}
+use Rattle.log_defs.specs.Log.{Record, record_at, records_of, all_record_bytes, record_limit, LogContent, content_of_records, block_of_record, log_of, end_of_log, stop_of_log, body_of_parts, parts_of_body}
 use Rattle.log_defs.specs.Rest.{IsAtRest}
 
 -- the length of its body fits the four bytes that it has
@@ -50,3 +50,7 @@ pub record IsWellBegun (log : LogContent) : Type 0 where
 -- Law: so it is of what the records of a log say.
 abbrev pub BeginsWell : Type 0
 BeginsWell = (records : List Record) (log : LogContent) → content_of_records records ≡ Some log → IsWellBegun log
+
+-- Law: a log stops being one where its records end.
+abbrev pub StopsAtItsEnd : Type 0
+StopsAtItsEnd = (bytes : List ℕ) (log : LogContent) → log_of bytes ≡ Some log → stop_of_log bytes ≡ end_of_log bytes

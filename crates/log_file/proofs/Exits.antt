@@ -1,12 +1,14 @@
 -- What a function's clauses say where it ends.
-use Rattle.std.proofs.Common.{◌≡◌, ℕ, Bool, true, false, Result, Ok, Err, Option, Some, None, refl, ap, ◌∙◌, subst, arith}
+use Rattle.std.proofs.Common.{◌≡◌, ℕ, Bool, true, false, List, Result, Ok, Err, Option, Some, None, refl, sym, ap, ◌∙◌, subst, arith}
 use Rattle.std.specs.Prelude.{IfSome}
+use Rattle.outside.specs.declared.disk.Damage.{Damage}
 use Rattle.outside.specs.Causes.{Rose, HasCause, CountsFault}
 use Rattle.outside.specs.Image.{Image}
 use Rattle.outside.specs.Disk.{IsAsBefore}
 use Rattle.outside.proofs.Moments.{started, leaves_also, leaves_then}
 use Rattle.log_file.specs.declared.stop.LogStop.{LogStop}
 use Rattle.log_file.specs.declared.stop.LogStop.TheVariants.{DiskFault, NotAStore, NoMemory}
+use Rattle.log_file.specs.Stops.{OfDamage, IsDamage, in_log, IsInLog}
 
 -- what holds of each image holds of the one that is told
 pub on_each : (reads : Option Image) (P : Image → Type 0) → ((image : Image) → P image) → IfSome reads P
@@ -84,17 +86,11 @@ counts_on before mid now still counts = record {
 }
 
 -- the stops are distinct
-pub not_wrong : {T : Type 0} → ◌≡◌ {A = Result T LogStop} (Err NoMemory) (Err NotAStore) → ⊥
-not_wrong is = absurd (cc)
-
 pub no_memory_is_no_fault : ◌≡◌ {A = LogStop} NoMemory DiskFault → ⊥
 no_memory_is_no_fault is = absurd (cc)
 
-pub wrong_is_no_fault : ◌≡◌ {A = LogStop} NotAStore DiskFault → ⊥
-wrong_is_no_fault is = absurd (cc)
-
-pub fault_not_wrong : {T : Type 0} → ◌≡◌ {A = Result T LogStop} (Err DiskFault) (Err NotAStore) → ⊥
-fault_not_wrong is = absurd (cc)
+pub wrong_is_no_fault : (damage : Damage) → ◌≡◌ {A = LogStop} (NotAStore damage) DiskFault → ⊥
+wrong_is_no_fault damage is = absurd (cc)
 
 -- a call that failed is a fault
 pub fault_counts : {T U E F : Type 0} (before now : ℕ) (failed : F) (fault : E) → HasCause {T = T} {E = F} before now (Err failed)
@@ -115,12 +111,6 @@ no_fault_counts count never = record { later = omega arith; rose = λ fault. abs
 pub memory_not_fault : {T : Type 0} → ◌≡◌ {A = Result T LogStop} (Err NoMemory) (Err DiskFault) → ⊥
 memory_not_fault is = absurd (cc)
 
-pub fault_is_no_wrong : ◌≡◌ {A = LogStop} DiskFault NotAStore → ⊥
-fault_is_no_wrong is = absurd (cc)
-
-pub memory_is_no_wrong : ◌≡◌ {A = LogStop} NoMemory NotAStore → ⊥
-memory_is_no_wrong is = absurd (cc)
-
 -- a call failed after others that did not
 pub failed_on : {T U E : Type 0} (before mid now : ℕ) (failed : E) → mid ≡ before → HasCause {T = T} {E = E} mid now (Err failed) → HasCause {T = U} {E = E} before now (Err failed)
 failed_on before mid now failed still cause = record {
@@ -132,8 +122,41 @@ failed_on before mid now failed still cause = record {
 pub answered : {T E : Type 0} (before now : ℕ) (value : T) → now ≡ before → HasCause {T = T} {E = E} before now (Ok value)
 answered before now value still = record { later = omega (arith, still); failed = λ e. absurd (cc); unchanged = λ e. still }
 
-pub wrong_not_fault : {T : Type 0} → ◌≡◌ {A = Result T LogStop} (Err NotAStore) (Err DiskFault) → ⊥
-wrong_not_fault is = absurd (cc)
+pub wrong_not_fault : {T : Type 0} (damage : Damage) → ◌≡◌ {A = Result T LogStop} (Err (NotAStore damage)) (Err DiskFault) → ⊥
+wrong_not_fault damage is = absurd (cc)
+
+-- what is said of the damage that a stop names, where less is known, or it names none
+pub damage_also : (P Q : Damage → Type 0) (stop : LogStop) → ((damage : Damage) → P damage → Q damage) → OfDamage P stop → OfDamage Q stop
+damage_also P Q DiskFault also is = tt
+damage_also P Q (NotAStore damage) also is = also damage is
+damage_also P Q NoMemory also is = tt
+
+pub no_damage : (Q : Damage → Type 0) (stop : LogStop) → OfDamage (λ _. ⊥) stop → OfDamage Q stop
+no_damage Q stop none = damage_also (λ _. ⊥) Q stop (λ _ never. absurd never) none
+
+-- a stop that names damage
+pub damage_named : (P Q : Damage → Type 0) (stop : LogStop) → ((damage : Damage) → P damage → Q damage) → IsDamage P stop → OfDamage Q stop
+damage_named P Q DiskFault also is = absurd is
+damage_named P Q (NotAStore damage) also is = also damage is
+damage_named P Q NoMemory also is = absurd is
+
+pub named_no_fault : (P : Damage → Type 0) (stop : LogStop) → IsDamage P stop → stop ≡ DiskFault → ⊥
+named_no_fault P stop is fault = subst (IsDamage P) fault is
+
+-- damage in LOG, handed on by a call that knows less of its place
+pub in_log_also : (reads later : Option Image) (P Q : List ℕ → ℕ → Type 0) (stop : LogStop)
+    → ((at : ℕ) → IfSome later (λ image. P image.log at) → IfSome reads (λ image. Q image.log at)) → OfDamage (IsInLog later P) stop → OfDamage (IsInLog reads Q) stop
+in_log_also reads later P Q stop also is =
+    damage_also (IsInLog later P) (IsInLog reads Q) stop (λ damage wrong. record { area = wrong.area; at = also damage.at wrong.at }) is
+
+-- damage in LOG at a place
+pub at_place : (reads : Option Image) (P : List ℕ → ℕ → Type 0) (R : Type 0) (place : ℕ) (stop : LogStop) → (R → IfSome reads (λ image. P image.log place))
+    → OfDamage (λ damage. (damage ≡ in_log place) × R) stop → OfDamage (IsInLog reads P) stop
+at_place reads P R place stop also is = damage_also (λ damage. (damage ≡ in_log place) × R) (IsInLog reads P) stop
+    (λ damage wrong. record {
+      area = ap (λ (d : Damage). d.area) wrong.0;
+      at = subst (λ (n : ℕ). IfSome reads (λ image. P image.log n)) (sym (ap (λ (d : Damage). d.at) wrong.0)) (also wrong.1);
+    }) is
 
 -- the count after calls that met no fault, and then a stop that is none
 pub no_fault_behind : {Fault : Type 0} (before now : ℕ) → now ≡ before → (Fault → ⊥) → CountsFault before now Fault

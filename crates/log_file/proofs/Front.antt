@@ -1,49 +1,47 @@
 -- The start of a log, from its first bytes to its genesis.
-use Rattle.std.proofs.Common.{◌≡◌, ◌+◌, true, false, take, Option, Some, None, ◌∙◌, subst}
+use Rattle.std.proofs.Common.{◌≡◌, ℕ, ◌+◌, take, Option, Some, None, ◌∙◌, subst}
 use Rattle.std.specs.Prelude.{IfSome}
-use Rattle.time_defs.specs.Specification.{Specification, specification_of}
+use Rattle.time_defs.specs.Specification.{Specification}
 use Rattle.outside.specs.Image.{Image}
-use Rattle.log_defs.specs.Log.{Record, magic, log_of}
-use Rattle.log_file.specs.Grammar.{is_specification, is_genesis, AreBlocks, BlocksValue, IsGenesisOf}
-use Rattle.log_file.specs.Reading.{ReaderValue, IsReading, HasPassed, OfRecordHere}
+use Rattle.log_defs.specs.Log.{Record, magic, is_specification, is_genesis, IsNoLogFrom}
+use Rattle.log_file.specs.Grammar.{AreBlocks, BlocksValue, IsGenesisOf}
+use Rattle.log_file.specs.Reading.{ReaderValue, IsReading, HasPassed, IsOtherHere}
 use Rattle.log_file.specs.Opening.{HasRead}
-use Rattle.log_file.proofs.Progress.{begun, not_specified, no_genesis, no_content, no_start}
+use Rattle.log_file.proofs.Progress.{OfSpec, begun, not_specified, no_genesis, no_content, no_start}
 
 -- what is known of a later disk, which reads as the earlier one
 pub on_same : (later reads : Option Image) (P : Image → Type 0) → later ≡ reads → IfSome later P → IfSome reads P
 on_same later reads P same holds = subst (λ (o : Option Image). IfSome o P) same holds
 
-pub told_wrong_start : (reads : Option Image) (r0 : ReaderValue) (E F : Type 0) → (E → F)
-    → IfSome reads (λ image. IsReading image.log r0 → F → take 8 image.log ≡ magic → ⊥) → IfSome reads (λ image. IsReading image.log r0 → E → log_of image.log ≡ None)
-told_wrong_start None r0 E F is wrong = tt
-told_wrong_start (Some image) r0 E F is wrong = λ reading e. no_start image.log (wrong reading (is e))
+pub told_wrong_start : (reads : Option Image) (r0 : ReaderValue) (at : ℕ)
+    → IfSome reads (λ image. IsReading image.log r0 → (take 8 image.log ≡ magic → ⊥) × (at ≡ 0)) → IfSome reads (λ image. IsReading image.log r0 → IsNoLogFrom image.log at)
+told_wrong_start None r0 at wrong = tt
+told_wrong_start (Some image) r0 at wrong = λ reading. no_start image.log at (wrong reading)
 
--- that it is of a specification
-abbrev pub OfSpec : Specification → Record → Type 0
-OfSpec spec r = (is_specification r ≡ true) × (spec ≡ specification_of r.body)
-
-pub told_wrong_spec : (reads l1 : Option Image) (r0 r1 : ReaderValue) (E F : Type 0) → (E → F) → l1 ≡ reads → r1.at ≡ 8
+pub told_wrong_spec : (reads l1 : Option Image) (r0 r1 : ReaderValue) (at : ℕ) → l1 ≡ reads → r1.at ≡ 8
+    → IfSome reads (λ image. IsReading image.log r0 → take 8 image.log ≡ magic)
     → IfSome reads (λ image. IsReading image.log r0 → IsReading image.log r1)
-    → IfSome l1 (λ image. IsReading image.log r1 → F → OfRecordHere image.log r1 (λ r. is_specification r ≡ false))
-    → IfSome reads (λ image. IsReading image.log r0 → E → log_of image.log ≡ None)
-told_wrong_spec None l1 r0 r1 E F is same at goes wrong = tt
-told_wrong_spec (Some image) l1 r0 r1 E F is same at goes wrong = λ reading e.
-    let here = on_same l1 (Some image) (λ image. IsReading image.log r1 → F → OfRecordHere image.log r1 (λ r. is_specification r ≡ false)) same wrong in
-    no_content image.log (not_specified image.log r1 at (here (goes reading) (is e)))
+    → IfSome l1 (λ image. IsReading image.log r1 → IsOtherHere image.log is_specification r1 at)
+    → IfSome reads (λ image. IsReading image.log r0 → IsNoLogFrom image.log at)
+told_wrong_spec None l1 r0 r1 at same start begins goes wrong = tt
+told_wrong_spec (Some image) l1 r0 r1 at same start begins goes wrong = λ reading.
+    let here = on_same l1 (Some image) (λ image. IsReading image.log r1 → IsOtherHere image.log is_specification r1 at) same wrong in
+    no_content image.log at (begins reading) (not_specified image.log r1 at start (here (goes reading)))
 
-pub told_wrong_genesis : (reads l1 l2 : Option Image) (spec : Specification) (r0 r1 r2 : ReaderValue) (E F : Type 0) → (E → F) → l1 ≡ reads → l2 ≡ l1 → r1.at ≡ 8
+pub told_wrong_genesis : (reads l1 l2 : Option Image) (spec : Specification) (r0 r1 r2 : ReaderValue) (at : ℕ) → l1 ≡ reads → l2 ≡ l1 → r1.at ≡ 8
+    → IfSome reads (λ image. IsReading image.log r0 → take 8 image.log ≡ magic)
     → IfSome reads (λ image. IsReading image.log r0 → IsReading image.log r1)
     → IfSome l1 (λ image. IsReading image.log r1 → IsReading image.log r2)
     → IfSome l1 (λ image. IsReading image.log r1 → HasPassed image.log (OfSpec spec) r1 r2)
-    → IfSome l2 (λ image. IsReading image.log r2 → F → OfRecordHere image.log r2 (λ r. is_genesis r ≡ false))
-    → IfSome reads (λ image. IsReading image.log r0 → E → log_of image.log ≡ None)
-told_wrong_genesis None l1 l2 spec r0 r1 r2 E F is same then at goes on one wrong = tt
-told_wrong_genesis (Some image) l1 l2 spec r0 r1 r2 E F is same then at goes on one wrong = λ reading e.
+    → IfSome l2 (λ image. IsReading image.log r2 → IsOtherHere image.log is_genesis r2 at)
+    → IfSome reads (λ image. IsReading image.log r0 → IsNoLogFrom image.log at)
+told_wrong_genesis None l1 l2 spec r0 r1 r2 at same then start begins goes on one wrong = tt
+told_wrong_genesis (Some image) l1 l2 spec r0 r1 r2 at same then start begins goes on one wrong = λ reading.
     let goes_on = on_same l1 (Some image) (λ image. IsReading image.log r1 → IsReading image.log r2) same on in
     let passed = on_same l1 (Some image) (λ image. IsReading image.log r1 → HasPassed image.log (OfSpec spec) r1 r2) same one in
-    let here = on_same l2 (Some image) (λ image. IsReading image.log r2 → F → OfRecordHere image.log r2 (λ r. is_genesis r ≡ false)) (then ∙ same) wrong in
+    let here = on_same l2 (Some image) (λ image. IsReading image.log r2 → IsOtherHere image.log is_genesis r2 at) (then ∙ same) wrong in
     let first = goes reading in
-    no_content image.log (no_genesis image.log (OfSpec spec) r1 r2 at (passed first) (here (goes_on first) (is e)))
+    no_content image.log at (begins reading) (no_genesis image.log spec r1 r2 at start (passed first) (here (goes_on first)))
 
 pub told_begun : (reads l1 l2 : Option Image) (spec : Specification) (r0 r1 r2 r3 : ReaderValue) (blocks : BlocksValue) → l1 ≡ reads → l2 ≡ l1 → r1.at ≡ 8
     → IfSome reads (λ image. IsReading image.log r0 → IsReading image.log r1)

@@ -5,7 +5,6 @@ use Rattle.std.specs.Str.{bytes_eq}
 use Rattle.std.specs.Cmp.Lexicographic.{bytes_decides}
 use Rattle.std.specs.Int.{w32, from_le_bytes}
 use Rattle.std.proofs.lemmas.Bool.{and_from, eq-eqb, lt-ltb}
-use Rattle.std.proofs.lemmas.Option.{same_Some}
 use Rattle.std.proofs.Math.Seq.{take-add, take-append-add}
 use Rattle.std.proofs.lemmas.List.{take_at, take-append-le, take_rest, take-take, drop-drop, drop-take, get_or-take, length-take, length-drop}
 use borrow.Rule.Slice.PartMut.{put_mid, post_of}
@@ -15,7 +14,7 @@ use Rattle.codec_defs.specs.Schema.{Block}
 use Rattle.log_defs.specs.Log.{Record, record_at, record_bytes, record_limit, block_of_record, magic}
 use Rattle.log_defs.proofs.Records.{record_length, IsRecordAt, parts_at, prefix_kept}
 use Rattle.log_file.specs.Grammar.{record_of}
-use Rattle.log_file.specs.Reading.{ReaderValue, IsReading, IsAt, HasPassed, OfRecordHere, IsWrongHere}
+use Rattle.log_file.specs.Reading.{ReaderValue, IsReading, IsAt, HasPassed, IsOther, IsOtherHere, IsWrongHere}
 
 -- bytes of which the prefix was there, and the next n were read after it
 front_read : (log items front part : List ℕ) (at n : ℕ) → take (length front) items ≡ front → length front ≤ length items
@@ -205,14 +204,21 @@ told_start None old mid bytes at start is begins read = tt
 told_start (Some image) old mid bytes at start is begins read = λ reading.
     sym (start_same image.log old mid at start (read reading).0 (read reading).1) ∙ ap (take 8) (sym is) ∙ (bytes_decides (take 8 bytes) magic).0 begins
 
-pub told_no_start : (reads : Option Image) (old mid : ReaderValue) (bytes : List ℕ) (E : Type 0) → IsAt old.len old.at mid → old.at ≡ 0 → bytes ≡ mid.ahead
+pub told_no_start : (reads : Option Image) (old mid : ReaderValue) (bytes : List ℕ) → IsAt old.len old.at mid → old.at ≡ 0 → bytes ≡ mid.ahead
     → bytes_eq (take 8 bytes) magic ≡ false → IfSome reads (λ image. IsReading image.log old → IsReading image.log mid × (8 ≤ length mid.ahead))
-    → IfSome reads (λ image. IsReading image.log old → E → take 8 image.log ≡ magic → ⊥)
-told_no_start None old mid bytes E at start is other read = tt
-told_no_start (Some image) old mid bytes E at start is other read = λ reading e begins.
+    → IfSome reads (λ image. IsReading image.log old → (take 8 image.log ≡ magic → ⊥) × (0 ≡ 0))
+told_no_start None old mid bytes at start is other read = tt
+told_no_start (Some image) old mid bytes at start is other read = λ reading. (λ begins.
     let same : take 8 bytes ≡ magic = ap (take 8) is ∙ start_same image.log old mid at start (read reading).0 (read reading).1 ∙ begins in
     let both : true ≡ false = sym ((bytes_decides (take 8 bytes) magic).1 same) ∙ other in
-    absurd (cc)
+    absurd (cc), refl)
+
+-- and none where there are fewer of them
+pub told_short_start : (reads : Option Image) (old : ReaderValue) (left : ℕ) → old.at ≡ 0 → old.at + left ≡ old.len → left < 8
+    → IfSome reads (λ image. IsReading image.log old → (take 8 image.log ≡ magic → ⊥) × (0 ≡ 0))
+told_short_start None old left start end short = tt
+told_short_start (Some image) old left start end short = λ reading.
+    (λ begins. absurd (omega (arith, ap length begins, length-take 8 image.log, reading.len, start, end, short)), refl)
 
 -- the record that was found
 found_is : (log : List ℕ) (old mid : ReaderValue) (r : Record) (bytes : List ℕ) → bytes ≡ mid.ahead → Some r ≡ record_at bytes
@@ -231,12 +237,20 @@ told_passed (Some image) P old mid new r bytes at over is found holds same = λ 
   at = record { len = over.len ∙ at.len; at = over.at ∙ omega (arith, at.at, record_length r) };
 }
 
-pub told_here : (reads : Option Image) (P : Record → Type 0) (E : Type 0) (old mid : ReaderValue) (r : Record) (bytes : List ℕ) → bytes ≡ mid.ahead → Some r ≡ record_at bytes
-    → (E → P r) → IfSome reads (λ image. IsReading image.log old → record_at mid.ahead ≡ record_at (drop old.at image.log))
-    → IfSome reads (λ image. IsReading image.log old → E → OfRecordHere image.log old P)
-told_here None P E old mid r bytes is found holds same = tt
-told_here (Some image) P E old mid r bytes is found holds same = λ reading e other there.
-    subst P (same_Some r other (sym (found_is image.log old mid r bytes is found (same reading)) ∙ there)) (holds e)
+-- another record than should be, or none
+pub told_other : (reads : Option Image) (test : Record → Bool) (old mid : ReaderValue) (r : Record) (bytes : List ℕ) (place : ℕ) → bytes ≡ mid.ahead → Some r ≡ record_at bytes
+    → test r ≡ false → place ≡ old.at → IfSome reads (λ image. IsReading image.log old → record_at mid.ahead ≡ record_at (drop old.at image.log))
+    → IfSome reads (λ image. IsReading image.log old → IsOtherHere image.log test old (place + 6))
+told_other None test old mid r bytes place is found wrong at same = tt
+told_other (Some image) test old mid r bytes place is found wrong at same = λ reading.
+    subst (IsOther test old.at (place + 6)) (sym (found_is image.log old mid r bytes is found (same reading))) (wrong, omega (arith, at))
+
+pub told_missing : (reads : Option Image) (test : Record → Bool) (old mid : ReaderValue) (bytes : List ℕ) (place : ℕ) → bytes ≡ mid.ahead → None ≡ record_at bytes
+    → place ≡ old.at → IfSome reads (λ image. IsReading image.log old → record_at mid.ahead ≡ record_at (drop old.at image.log))
+    → IfSome reads (λ image. IsReading image.log old → IsOtherHere image.log test old place)
+told_missing None test old mid bytes place is found at same = tt
+told_missing (Some image) test old mid bytes place is found at same = λ reading.
+    subst (IsOther test old.at place) (found ∙ ap record_at is ∙ same reading) at
 
 -- the same of the record of a block, where one was found
 pub told_passed_block : (E : Type 0) (reads : Option Image) (P : Record → Type 0) (old mid new : ReaderValue) (r : Record) (bytes : List ℕ) → IsAt old.len old.at mid
@@ -246,13 +260,13 @@ pub told_passed_block : (E : Type 0) (reads : Option Image) (P : Record → Type
 told_passed_block E None P old mid new r bytes at over is found holds same = tt
 told_passed_block E (Some image) P old mid new r bytes at over is found holds same = λ reading _. told_passed (Some image) P old mid new r bytes at over is found holds same reading
 
-pub told_wrong_block : (E : Type 0) (reads : Option Image) (kept : List Block) (old mid : ReaderValue) (r : Record) (bytes : List ℕ) → bytes ≡ mid.ahead → Some r ≡ record_at bytes
-    → (E → (block_of_record kept r ≡ None) ⊎ (record_limit < length kept))
+pub told_wrong_block : (reads : Option Image) (kept : List Block) (old mid : ReaderValue) (r : Record) (bytes : List ℕ) (place : ℕ) → bytes ≡ mid.ahead → Some r ≡ record_at bytes
+    → (block_of_record kept r ≡ None) ⊎ (record_limit < length kept) → place ≡ old.at
     → IfSome reads (λ image. IsReading image.log old → record_at mid.ahead ≡ record_at (drop old.at image.log))
-    → IfSome reads (λ image. IsReading image.log old → E → IsWrongHere image.log kept old)
-told_wrong_block E None kept old mid r bytes is found wrong same = tt
-told_wrong_block E (Some image) kept old mid r bytes is found wrong same =
-    λ reading e. record { r = r; there = found_is image.log old mid r bytes is found (same reading); wrong = wrong e }
+    → IfSome reads (λ image. IsReading image.log old → IsWrongHere image.log kept old (place + 6))
+told_wrong_block None kept old mid r bytes place is found wrong at same = tt
+told_wrong_block (Some image) kept old mid r bytes place is found wrong at same =
+    λ reading. record { r = r; there = found_is image.log old mid r bytes is found (same reading); wrong = wrong; at = omega (arith, at) }
 
 -- a reader that reads this log still does
 pub still_reading : (reads : Option Image) (old mid new : ReaderValue) → IfSome reads (λ image. IsReading image.log old → IsReading image.log mid)

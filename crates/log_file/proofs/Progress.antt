@@ -18,15 +18,16 @@ use Rattle.chain_tree.specs.Blocks.{IndexesBlocks}
 use Rattle.chain_tree.specs.Told.{Stored, blocks_of}
 use Rattle.outside.specs.Image.{Image}
 use Rattle.genesis_defs.specs.Genesis.{broken_genesis_rule}
-use Rattle.log_defs.specs.Log.{Record, record_at, record_bytes, all_record_bytes, records_of, end_of_log, magic, LogContent, record_limit, are_first, block_of_record, blocks_over, content_of_records, log_of}
+use Rattle.log_defs.specs.Log.{Record, record_at, record_bytes, all_record_bytes, records_of, end_of_log, magic, LogContent, record_limit, are_first, block_of_record, blocks_over, content_of_records, log_of, is_specification, is_genesis, stop_of_records, IsNoLogFrom}
 use Rattle.log_defs.specs.LogLaws.{HasFittingBody, grown}
 use Rattle.log_defs.specs.Rest.{EndsAt}
 use Rattle.log_defs.proofs.Records.{record_length, parts_at, records_of_none, records_of_some, size_of_all, size-push}
 use Rattle.log_defs.proofs.Contents.{adds_a_block}
-use Rattle.log_file.specs.Grammar.{record_of, is_specification, is_genesis, ext_in, NamesBody, AreBlocks, BlocksValue, IsGenesisOf, IsGrownBy}
+use Rattle.log_defs.proofs.Stopping.{past_specification, at_specification, at_genesis, stops_at_block, stops_past, stops_at_start, stops_in_records}
+use Rattle.log_file.specs.Grammar.{record_of, ext_in, NamesBody, AreBlocks, BlocksValue, IsGenesisOf, IsGrownBy}
 use Rattle.log_file.specs.Pieces.{block_record}
-use Rattle.log_file.specs.Reading.{ReaderValue, IsReading, IsAt, HasPassed, OfRecordHere, IsWrongHere}
-use Rattle.log_file.specs.Opening.{NameBodies, kept_records, AreOpened, IsOpened, HasRead, HasReadAll}
+use Rattle.log_file.specs.Reading.{ReaderValue, IsReading, IsAt, HasPassed, IsOther, IsOtherHere, IsWrongHere}
+use Rattle.log_file.specs.Opening.{NameBodies, kept_records, AreOpened, IsOpened, HasRead, HasReadAll, IsNoContentFrom}
 use Rattle.log_file.proofs.Judging.{limit_is, kept_limit_is, blocks-push, as_many}
 
 -- ---- Records that were read, and those that are left
@@ -272,55 +273,93 @@ one_more_read log spec old new before after so_far passed are reading =
       next = omega (arith, passed.at.at, so_far.next, size-push (record_of 2 so_far.log.genesis ∷ so_far.log.records) r);
     }
 
-pub wrong_here : (log : List ℕ) (spec : Specification) (reader : ReaderValue) (blocks : BlocksValue) → HasRead log spec reader blocks
-    → IsWrongHere log (blocks_of blocks.stored) reader → content_of_records (records_of (drop 8 log)) ≡ None
-wrong_here log spec reader blocks so_far here =
+pub wrong_here : (log : List ℕ) (spec : Specification) (reader : ReaderValue) (blocks : BlocksValue) (at : ℕ) → HasRead log spec reader blocks
+    → IsWrongHere log (blocks_of blocks.stored) reader at → IsNoContentFrom log at
+wrong_here log spec reader blocks at so_far here =
     let wrong : (block_of_record so_far.log.blocks here.r ≡ None) ⊎ (record_limit < length so_far.log.blocks) =
     subst (λ (l : List Block). (block_of_record l here.r ≡ None) ⊎ (record_limit < length l)) so_far.opened.blocks here.wrong in
-    ap content_of_records (split_here (records_of (drop 8 log)) so_far.records log reader.at here.r so_far.split here.there)
-    ∙ wrong_behind so_far.records here.r (records_of (drop (reader.at + length (record_bytes here.r)) log)) so_far.log so_far.says wrong so_far.counted
+    let more : List Record = records_of (drop (reader.at + length (record_bytes here.r)) log) in
+    let split : records_of (drop 8 log) ≡ so_far.records ++ (here.r ∷ more) =
+    split_here (records_of (drop 8 log)) so_far.records log reader.at here.r so_far.split here.there in
+    let stop : stop_of_records 8 (records_of (drop 8 log)) ≡ 8 + size_of_all so_far.records + 6 =
+    ap (stop_of_records 8) split ∙ stops_past so_far.records (here.r ∷ more) so_far.log so_far.says
+    ∙ stops_at_block so_far.log.blocks (8 + size_of_all so_far.records) here.r more wrong in
+    record {
+      none = ap content_of_records split ∙ wrong_behind so_far.records here.r more so_far.log so_far.says wrong so_far.counted;
+      stops = here.at ∙ omega (arith, so_far.place) ∙ sym stop;
+    }
 
-pub not_specified : (log : List ℕ) (reader : ReaderValue) → reader.at ≡ 8 → OfRecordHere log reader (λ r. is_specification r ≡ false)
-    → content_of_records (records_of (drop 8 log)) ≡ None
-not_specified log reader start wrong = by_found (record_at (drop reader.at log)) refl
+pub not_specified : (log : List ℕ) (reader : ReaderValue) (at : ℕ) → reader.at ≡ 8 → IsOtherHere log is_specification reader at → IsNoContentFrom log at
+not_specified log reader at start wrong = by_found (record_at (drop reader.at log)) refl wrong
   where
     all : records_of (drop 8 log) ≡ records_of (drop reader.at log)
     all = ap (λ (n : ℕ). records_of (drop n log)) (sym start)
 
-    by_found : (o : Option Record) → record_at (drop reader.at log) ≡ o → content_of_records (records_of (drop 8 log)) ≡ None
-    by_found None is = ap content_of_records (split_end (records_of (drop 8 log)) [] log reader.at all is)
-    by_found (Some r) is =
-        ap content_of_records (split_here (records_of (drop 8 log)) [] log reader.at r all is)
-        ∙ not_first r (records_of (drop (reader.at + length (record_bytes r)) log)) (wrong r is)
+    by_found : (o : Option Record) → record_at (drop reader.at log) ≡ o → IsOther is_specification reader.at at o → IsNoContentFrom log at
+    by_found None is here =
+        let none : records_of (drop 8 log) ≡ [] = split_end (records_of (drop 8 log)) [] log reader.at all is in
+        record { none = ap content_of_records none; stops = here ∙ start ∙ sym (ap (stop_of_records 8) none) }
+    by_found (Some r) is here =
+        let more : List Record = records_of (drop (reader.at + length (record_bytes r)) log) in
+        let split : records_of (drop 8 log) ≡ r ∷ more = split_here (records_of (drop 8 log)) [] log reader.at r all is in
+        record {
+          none = ap content_of_records split ∙ not_first r more here.0;
+          stops = here.1 ∙ omega (arith, start) ∙ sym (ap (stop_of_records 8) split ∙ at_specification 8 r more here.0);
+        }
 
-pub no_genesis : (log : List ℕ) (P : Record → Type 0) (first second : ReaderValue) → first.at ≡ 8 → HasPassed log P first second
-    → OfRecordHere log second (λ r. is_genesis r ≡ false) → content_of_records (records_of (drop 8 log)) ≡ None
-no_genesis log P first second start one wrong = by_found (record_at (drop second.at log)) refl
+-- that it is of a specification
+abbrev pub OfSpec : Specification → Record → Type 0
+OfSpec spec r = (is_specification r ≡ true) × (spec ≡ specification_of r.body)
+
+pub no_genesis : (log : List ℕ) (spec : Specification) (first second : ReaderValue) (at : ℕ) → first.at ≡ 8 → HasPassed log (OfSpec spec) first second
+    → IsOtherHere log is_genesis second at → IsNoContentFrom log at
+no_genesis log spec first second at start one wrong = by_found (record_at (drop second.at log)) refl wrong
   where
+    next : ℕ
+    next = 8 + length (record_bytes one.r)
+
+    there : second.at ≡ next
+    unfolding next
+    there = omega (arith, one.at.at, start)
+
     all : records_of (drop 8 log) ≡ (one.r ∷ []) ++ records_of (drop second.at log)
     all =
         split_more (records_of (drop 8 log)) [] log first.at one.r (ap (λ (n : ℕ). records_of (drop n log)) (sym start)) one.there
         ∙ ap (λ (n : ℕ). one.r ∷ records_of (drop n log)) (sym one.at.at)
 
-    by_found : (o : Option Record) → record_at (drop second.at log) ≡ o → content_of_records (records_of (drop 8 log)) ≡ None
-    by_found None is = ap content_of_records (split_end (records_of (drop 8 log)) (one.r ∷ []) log second.at all is)
-    by_found (Some r) is =
-        ap content_of_records (split_here (records_of (drop 8 log)) (one.r ∷ []) log second.at r all is)
-        ∙ not_next one.r r (records_of (drop (second.at + length (record_bytes r)) log)) (wrong r is)
+    by_found : (o : Option Record) → record_at (drop second.at log) ≡ o → IsOther is_genesis second.at at o → IsNoContentFrom log at
+    unfolding next
+    by_found None is here =
+        let none : records_of (drop 8 log) ≡ one.r ∷ [] = split_end (records_of (drop 8 log)) (one.r ∷ []) log second.at all is in
+        record {
+          none = ap content_of_records none;
+          stops = here ∙ there ∙ sym (ap (stop_of_records 8) none ∙ past_specification 8 one.r [] one.is.0);
+        }
+    by_found (Some r) is here =
+        let more : List Record = records_of (drop (second.at + length (record_bytes r)) log) in
+        let split : records_of (drop 8 log) ≡ one.r ∷ r ∷ more = split_here (records_of (drop 8 log)) (one.r ∷ []) log second.at r all is in
+        record {
+          none = ap content_of_records split ∙ not_next one.r r more here.0;
+          stops = here.1 ∙ ap (λ (n : ℕ). n + 6) there
+              ∙ sym (ap (stop_of_records 8) split ∙ past_specification 8 one.r (r ∷ more) one.is.0 ∙ at_genesis next r more here.0);
+        }
 
 -- ---- The whole log
 
-pub no_content : (log : List ℕ) → content_of_records (records_of (drop 8 log)) ≡ None → log_of log ≡ None
+pub no_content : (log : List ℕ) (at : ℕ) → take 8 log ≡ magic → IsNoContentFrom log at → IsNoLogFrom log at
 unfolding log_of
-no_content log none = ap (λ (o : Option LogContent). cond (bytes_eq (take 8 log) magic) o None) none ∙ if_none (bytes_eq (take 8 log) magic)
+no_content log at begins no = record {
+  none = ap (λ (o : Option LogContent). cond (bytes_eq (take 8 log) magic) o None) no.none ∙ if_none (bytes_eq (take 8 log) magic);
+  stops = no.stops ∙ sym (stops_in_records log begins);
+}
 
-pub no_start : (log : List ℕ) → (take 8 log ≡ magic → ⊥) → log_of log ≡ None
+pub no_start : (log : List ℕ) (at : ℕ) → (take 8 log ≡ magic → ⊥) × (at ≡ 0) → IsNoLogFrom log at
 unfolding log_of
-no_start log wrong = by_test (bytes_eq (take 8 log) magic) refl
+no_start log at wrong = record { none = by_test (bytes_eq (take 8 log) magic) refl; stops = wrong.1 ∙ sym (stops_at_start log wrong.0) }
   where
     by_test : (t : Bool) → bytes_eq (take 8 log) magic ≡ t → cond t (content_of_records (records_of (drop 8 log))) None ≡ None
     by_test false is = refl
-    by_test true is = absurd (wrong ((bytes_decides (take 8 log) magic).0 is))
+    by_test true is = absurd (wrong.0 ((bytes_decides (take 8 log) magic).0 is))
 
 says_all : (log : List ℕ) (spec : Specification) (reader : ReaderValue) (blocks : BlocksValue) (all : HasReadAll log spec reader blocks) → records_of (drop 8 log) ≡ all.so_far.records
 says_all log spec reader blocks all = split_end (records_of (drop 8 log)) all.so_far.records log reader.at all.so_far.split all.ended
@@ -353,19 +392,25 @@ ends_all log spec reader blocks begins all = record {
 
 -- ---- The loop over the blocks
 
+-- whatever specification was read
+pub with_each : (reads : Option Image) (P : Specification → Image → Type 0) → ((spec : Specification) → IfSome reads (P spec))
+    → IfSome reads (λ image. (spec : Specification) → P spec image)
+with_each None P each = tt
+with_each (Some image) P each = each
+
 module _ (spec : Specification) (r0 r1 : ReaderValue) (b0 b1 : BlocksValue) where
   -- what was read so far
   abbrev pub SoFar : Option Image → Type 0
   SoFar reads = IfSome reads (λ image. HasRead image.log spec r0 b0 → HasRead image.log spec r1 b1)
 
-  pub told_wrong : (reads later : Option Image) (E F : Type 0) → (E → F) → later ≡ reads → SoFar reads
-      → IfSome later (λ image. IsReading image.log r1 → F → IsWrongHere image.log (blocks_of b1.stored) r1)
-      → IfSome reads (λ image. HasRead image.log spec r0 b0 → E → content_of_records (records_of (drop 8 image.log)) ≡ None)
-  told_wrong None later E F is same so_far wrong = tt
-  told_wrong (Some image) later E F is same so_far wrong = λ start e.
+  pub told_wrong : (reads later : Option Image) (at : ℕ) → later ≡ reads → SoFar reads
+      → IfSome later (λ image. IsReading image.log r1 → IsWrongHere image.log (blocks_of b1.stored) r1 at)
+      → IfSome reads (λ image. HasRead image.log spec r0 b0 → IsNoContentFrom image.log at)
+  told_wrong None later at same so_far wrong = tt
+  told_wrong (Some image) later at same so_far wrong = λ start.
       let far = so_far start in
-      let here = subst (λ (o : Option Image). IfSome o (λ image. IsReading image.log r1 → F → IsWrongHere image.log (blocks_of b1.stored) r1)) same wrong in
-      wrong_here image.log spec r1 b1 far (here far.reading (is e))
+      let here = subst (λ (o : Option Image). IfSome o (λ image. IsReading image.log r1 → IsWrongHere image.log (blocks_of b1.stored) r1 at)) same wrong in
+      wrong_here image.log spec r1 b1 at far (here far.reading)
 
   pub told_more : (reads later : Option Image) (r2 : ReaderValue) (b2 : BlocksValue) (E : Type 0) → E → later ≡ reads → SoFar reads
       → IfSome later (λ image. IsReading image.log r1 → IsReading image.log r2)

@@ -61,10 +61,6 @@ read_only reads_as images moment left_since old mid new same none_new so_far rea
   moments = leaves_then moment left_since old mid new (images old) so_far (leaves_also moment left_since mid new (images mid) (images old) read.moments none_new);
 }
 
-pub wrong_on : (reads later : Option Image) (P : Image → Type 0) (E F : Type 0) → (E → F) → later ≡ reads → IfSome later (λ now. F → P now) → IfSome reads (λ now. E → P now)
-wrong_on None later P E F is same told = tt
-wrong_on (Some now) later P E F is same told = λ e. on_same later (Some now) (λ now. F → P now) same told (is e)
-
 -- what was opened is a log
 pub told_log : (reads later : Option Image) (specification : Specification) (stored : List Stored) (entries : List Entry) (P : Type 0) → later ≡ reads
     → IfSome later (λ now. (log : LogContent) × IsOpened now.log log specification stored entries) → IfSome reads (λ now. log_of now.log ≡ None → P)

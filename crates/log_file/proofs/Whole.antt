@@ -4,12 +4,12 @@ use Rattle.std.specs.Prelude.{slice_index, IfSome, ◌==◌}
 use Rattle.std.proofs.lemmas.List.{get_or-take}
 use Rattle.time_defs.specs.Specification.{Specification}
 use Rattle.outside.specs.Image.{Image}
-use Rattle.log_defs.specs.Log.{records_of, magic, LogContent, content_of_records, log_of}
+use Rattle.log_defs.specs.Log.{records_of, magic, LogContent, IsNoLogFrom}
 use Rattle.log_defs.specs.Rest.{EndsAt}
 use Rattle.log_defs.proofs.Resting.{gate_there}
 use Rattle.log_file.specs.Grammar.{BlocksValue}
 use Rattle.log_file.specs.Reading.{ReaderValue, IsReading}
-use Rattle.log_file.specs.Opening.{IsOpened, HasRead, HasReadAll}
+use Rattle.log_file.specs.Opening.{IsOpened, HasRead, HasReadAll, IsNoContentFrom}
 use Rattle.log_file.proofs.Progress.{no_content, opened_all, ends_all}
 use Rattle.log_file.proofs.Front.{on_same}
 
@@ -30,15 +30,17 @@ told_read (Some image) l1 spec len r0 r1 r2 b1 b2 same size reading start front 
     let all = on_same l1 (Some image) (λ image. HasRead image.log spec r1 b1 → HasReadAll image.log spec r2 b2) same further in
     record { begins = start first; all = all (front first) }
 
-pub told_wrong_blocks : (reads l1 : Option Image) (spec : Specification) (len : ℕ) (r0 r1 : ReaderValue) (b1 : BlocksValue) (E F : Type 0) → (E → F) → l1 ≡ reads
+pub told_wrong_blocks : (reads l1 : Option Image) (spec : Specification) (len : ℕ) (r0 r1 : ReaderValue) (b1 : BlocksValue) (at : ℕ) → l1 ≡ reads
     → IfSome reads (λ image. len ≡ length image.log) → ((log : List ℕ) → len ≡ length log → IsReading log r0)
+    → IfSome reads (λ image. IsReading image.log r0 → take 8 image.log ≡ magic)
     → IfSome reads (λ image. IsReading image.log r0 → HasRead image.log spec r1 b1)
-    → IfSome l1 (λ image. HasRead image.log spec r1 b1 → F → content_of_records (records_of (drop 8 image.log)) ≡ None)
-    → IfSome reads (λ now. E → log_of now.log ≡ None)
-told_wrong_blocks None l1 spec len r0 r1 b1 E F is same size reading front wrong = tt
-told_wrong_blocks (Some image) l1 spec len r0 r1 b1 E F is same size reading front wrong = λ e.
-    let none = on_same l1 (Some image) (λ image. HasRead image.log spec r1 b1 → F → content_of_records (records_of (drop 8 image.log)) ≡ None) same wrong in
-    no_content image.log (none (front (reading image.log size)) (is e))
+    → IfSome l1 (λ image. (spec : Specification) → HasRead image.log spec r1 b1 → IsNoContentFrom image.log at)
+    → IfSome reads (λ image. IsNoLogFrom image.log at)
+told_wrong_blocks None l1 spec len r0 r1 b1 at same size reading start front wrong = tt
+told_wrong_blocks (Some image) l1 spec len r0 r1 b1 at same size reading start front wrong =
+    let first : IsReading image.log r0 = reading image.log size in
+    let none = on_same l1 (Some image) (λ image. (spec : Specification) → HasRead image.log spec r1 b1 → IsNoContentFrom image.log at) same wrong in
+    no_content image.log at (start first) (none spec (front first))
 
 pub told_opened : (reads : Option Image) (spec : Specification) (reader : ReaderValue) (blocks : BlocksValue) → IfSome reads (λ image. IsRead image.log spec reader blocks)
     → IfSome reads (λ now. (log : LogContent) × IsOpened now.log log spec blocks.stored blocks.entries)
@@ -64,8 +66,8 @@ told_gate (Some now) spec reader blocks place bytes gate is same tells all =
     tells (omega (arith, some, ap length same))
     ∙ ap (λ (m : ℕ). eqb m 1) (ap (λ (l : List ℕ). get_or l 0 0) same ∙ front ∙ gate_there reader.at log ∙ ap (λ (k : ℕ). get_or log k 0) (sym is))
 
-pub told_wrong_front : (reads : Option Image) (len : ℕ) (reader : ReaderValue) (E F : Type 0) → (E → F) → IfSome reads (λ image. len ≡ length image.log)
-    → ((log : List ℕ) → len ≡ length log → IsReading log reader) → IfSome reads (λ image. IsReading image.log reader → F → log_of image.log ≡ None)
-    → IfSome reads (λ image. E → log_of image.log ≡ None)
-told_wrong_front None len reader E F is size reading front = tt
-told_wrong_front (Some image) len reader E F is size reading front = λ e. front (reading image.log size) (is e)
+pub told_wrong_front : (reads : Option Image) (len : ℕ) (reader : ReaderValue) (at : ℕ) → IfSome reads (λ image. len ≡ length image.log)
+    → ((log : List ℕ) → len ≡ length log → IsReading log reader) → IfSome reads (λ image. IsReading image.log reader → IsNoLogFrom image.log at)
+    → IfSome reads (λ image. IsNoLogFrom image.log at)
+told_wrong_front None len reader at size reading front = tt
+told_wrong_front (Some image) len reader at size reading front = front (reading image.log size)

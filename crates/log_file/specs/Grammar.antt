@@ -1,30 +1,20 @@
 -- What the records of a log are judged as.
-use Rattle.std.specs.Prelude.{◌≡◌, ℕ, ◌<◌, ◌≤◌, ◌==◌, ◌&&◌, Bool, true, List, [], ◌∷◌, ◌++◌, length, Option, Some, None, is_none, slice_get, IsTrue}
+use Rattle.std.specs.Prelude.{◌≡◌, ℕ, ◌<◌, ◌≤◌, true, List, [], ◌∷◌, ◌++◌, length, Option, Some, None, slice_get, IsTrue}
 use Rattle.codec_defs.specs.Shape.{encoded, decoded}
 use Rattle.codec_defs.specs.Schema.{Block}
 use Rattle.codec_defs.specs.Schema as shapes
 use Rattle.chain_defs.specs.Kept.{place_of, kept_limit}
-use Rattle.time_defs.specs.Specification.{broken_specification_rule}
 use Rattle.cell_defs.specs.Ext.{is_ext}
 use Rattle.fit_laws.specs.Laws.{IsCanonical, AreCanonical}
 use Rattle.chain_tree.specs.declared.entry.Entry.{Entry}
 use Rattle.chain_tree.specs.Blocks.{Describes, IndexesBlocks}
 use Rattle.chain_tree.specs.Told.{Stored, blocks_of}
-use Rattle.genesis_defs.specs.Genesis.{broken_genesis_rule}
-use Rattle.log_defs.specs.Log.{Record, parts_of_body, block_of_record}
+use Rattle.log_defs.specs.Log.{Record, parts_of_body, block_of_record, is_genesis}
 use Rattle.log_defs.specs.LogLaws.{HasFittingBody}
 use Rattle.log_file.specs.Pieces.{block_record}
 
 abbrev pub record_of : ℕ → List ℕ → Record
 record_of kind body = record { kind = kind; body = body }
-
--- the record of a specification
-abbrev pub is_specification : Record → Bool
-is_specification r = (r.kind == 1) && is_none (broken_specification_rule r.body)
-
--- the record of a genesis
-abbrev pub is_genesis : Record → Bool
-is_genesis r = (r.kind == 2) && is_none (broken_genesis_rule r.body)
 
 -- the entry names the body of a record, which begins at this place
 pub record NamesBody (place : ℕ) (r : Record) (entry : Entry) : Type 0 where

@@ -12,7 +12,7 @@ use Rattle.outside.specs.Disk.{write_area}
 use Rattle.log_file.specs.Grammar.{record_of, ext_in, BlocksValue}
 use Rattle.log_file.specs.Pieces.{block_record}
 use Rattle.log_file.specs.Reading.{ReaderValue, IsReading}
-use Rattle.log_defs.specs.Log.{Record, record_bytes, all_record_bytes, record_at, records_of, LogContent, content_of_records, log_of}
+use Rattle.log_defs.specs.Log.{Record, record_bytes, all_record_bytes, record_at, records_of, LogContent, content_of_records, log_of, stop_of_records}
 use Rattle.log_defs.specs.LogLaws.{HasFittingBody}
 
 -- The entries name the bodies of these records, which stand one after the other from this place on.
@@ -65,6 +65,11 @@ pub record HasReadAll (bytes : List ℕ) (specification : Specification) (reader
   pub so_far : HasRead bytes specification reader blocks
   pub ended : record_at (drop reader.at bytes) ≡ None
   pub byte : 0 < length reader.ahead
+
+-- What its records say is no log, and this is where they stop being those of one.
+pub record IsNoContentFrom (bytes : List ℕ) (place : ℕ) : Type 0 where
+  pub none : content_of_records (records_of (drop 8 bytes)) ≡ None
+  pub stops : place ≡ stop_of_records 8 (records_of (drop 8 bytes))
 
 -- A gate that stands open where the records end is closed; nothing else is written.
 abbrev pub mended : ℕ → Image → Image

@@ -1,5 +1,5 @@
 -- A log that is read from start to end.
-use Rattle.std.specs.Prelude.{◌≡◌, ◌⊎◌, ℕ, ◌+◌, ◌<◌, List, length, take, drop, Some, None}
+use Rattle.std.specs.Prelude.{◌≡◌, ◌⊎◌, ℕ, ◌+◌, ◌<◌, Bool, false, List, length, take, drop, Option, Some, None}
 use Rattle.codec_defs.specs.Schema.{Block}
 use Rattle.log_defs.specs.Log.{Record, record_bytes, record_at, record_limit, block_of_record}
 
@@ -27,12 +27,18 @@ pub record HasPassed (log : List ℕ) (P : Record → Type 0) (old new : ReaderV
   pub is : P r
   pub at : IsAt old.len (old.at + length (record_bytes r)) new
 
--- Of each record that may stand here P holds.
-abbrev pub OfRecordHere : List ℕ → ReaderValue → (Record → Type 0) → Type 0
-OfRecordHere log reader P = (r : Record) → record_at (drop reader.at log) ≡ Some r → P r
+-- The record that should stand at a place is missing, which is damage at this place, or is another than it should be, which is damage at its body.
+abbrev pub IsOther : (Record → Bool) → ℕ → ℕ → Option Record → Type 0
+IsOther test place damaged None = damaged ≡ place
+IsOther test place damaged (Some r) = (test r ≡ false) × (damaged ≡ place + 6)
 
--- A record stands here that is none of a block that may stand after these, or there are as many as may be.
-pub record IsWrongHere (log : List ℕ) (kept : List Block) (reader : ReaderValue) : Type 0 where
+-- so it is where the reader is
+abbrev pub IsOtherHere : List ℕ → (Record → Bool) → ReaderValue → ℕ → Type 0
+IsOtherHere log test reader damaged = IsOther test reader.at damaged (record_at (drop reader.at log))
+
+-- A record stands here that is none of a block that may stand after these, or there are as many as may be: damage at its body.
+pub record IsWrongHere (log : List ℕ) (kept : List Block) (reader : ReaderValue) (damaged : ℕ) : Type 0 where
   pub r : Record
   pub there : record_at (drop reader.at log) ≡ Some r
   pub wrong : (block_of_record kept r ≡ None) ⊎ (record_limit < length kept)
+  pub at : damaged ≡ reader.at + 6

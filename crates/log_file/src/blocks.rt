@@ -8,8 +8,9 @@ ghost use Rattle.chain_defs.specs.Kept.{place_of};
 ghost use Rattle.chain_tree.specs.Entries.{place_of_hash, FollowsParent};
 ghost use Rattle.chain_tree.specs.Blocks.{Describes, IndexesBlocks};
 ghost use Rattle.chain_tree.specs.Told.{blocks_of};
-ghost use Rattle.log_defs.specs.Log.{may_stand_on, block_of_record, record_limit};
-ghost use Rattle.log_file.specs.Grammar.{record_of, is_genesis, AreBlocks, blocks_with, IsGenesisOf, IsGrownBy, IsJudged};
+ghost use Rattle.log_defs.specs.Log.{may_stand_on, block_of_record, record_limit, is_genesis};
+ghost use Rattle.log_file.specs.Grammar.{record_of, AreBlocks, blocks_with, IsGenesisOf, IsGrownBy, IsJudged};
+ghost use Rattle.log_file.specs.Stops.{OfDamage, in_log};
 
 use crate::body::parts;
 use crate::ext::ext_form;
@@ -19,7 +20,7 @@ use crate::visitor::Visitor;
 use blake2b_ckb::ckbhash;
 use chain_tree::{Entry, Tree};
 use mol_schema::BlockView;
-use outside::NoMemory;
+use outside::{Area, Damage, NoMemory};
 use std::alloc::Global;
 
 /// The most records of blocks, which are one fewer than the blocks.
@@ -99,25 +100,41 @@ fn judged<'a>(tree: &Tree, kind: u8, body: &'a [u8], at: u64) -> Option<Found<'a
     Some(Found { block, ext, entry })
 }
 
-/// The genesis in the body of a record.
-fn genesis<'a>(alloc: Global, kind: u8, body: &'a [u8]) -> Result<BlockView<'a>, LogStop>
+/// The genesis in the body of a record, which begins at `at`.
+fn genesis<'a>(
+    alloc: Global,
+    kind: u8,
+    body: &'a [u8],
+    at: u64,
+) -> Result<BlockView<'a>, LogStop>
     ensures genesis { IfOk result (λ block. is_genesis (record_of kind body.now) ≡ true) }
     ensures decoded { IfOk result (λ block. decoded schema.block body.now ≡ Some block) }
     ensures first { IfOk result (λ block. block.header.number ≡ 0) }
-    ensures wrong { result ≡ Err LogStop.NotAStore → is_genesis (record_of kind body.now) ≡ false }
+    ensures wrong { IfErr result (OfDamage (λ damage. (damage ≡ in_log at) × (is_genesis (record_of kind body.now) ≡ false))) }
     ensures reads { IfErr result (λ stop. stop ≢ LogStop.DiskFault) }
 {
     if kind != 2 {
-        return Err(LogStop::NotAStore);
+        return Err(LogStop::NotAStore(Damage {
+            area: Area::Log,
+            at,
+        }));
     }
     match genesis_ok(alloc, body) {
         Ok(None) => {}
-        Ok(Some(_)) => return Err(LogStop::NotAStore),
+        Ok(Some(_)) => {
+            return Err(LogStop::NotAStore(Damage {
+                area: Area::Log,
+                at,
+            }));
+        }
         Err(_) => return Err(LogStop::NoMemory),
     }
     match BlockView::read(body) {
         Some(block) => Ok(block),
-        None => Err(LogStop::NotAStore),
+        None => Err(LogStop::NotAStore(Damage {
+            area: Area::Log,
+            at,
+        })),
     }
 }
 
@@ -133,10 +150,10 @@ pub(crate) fn begin<V: Visitor>(
     requires none { V.visited visitor.old ≡ [] }
     ensures genesis { IfOk result (λ tree. IsGenesisOf at (record_of kind body.now) (blocks_with (V.visited visitor.new) tree.entries)) }
     ensures blocks { IfOk result (λ tree. AreBlocks (V.visited visitor.new) tree.entries) }
-    ensures wrong { result ≡ Err LogStop.NotAStore → is_genesis (record_of kind body.now) ≡ false }
+    ensures wrong { IfErr result (OfDamage (λ damage. (damage ≡ in_log at) × (is_genesis (record_of kind body.now) ≡ false))) }
     ensures reads { IfErr result (λ stop. stop ≢ LogStop.DiskFault) }
 {
-    let block = match genesis(alloc, kind, body) {
+    let block = match genesis(alloc, kind, body, at) {
         Ok(block) => block,
         Err(stop) => return Err(stop),
     };
@@ -165,15 +182,21 @@ pub(crate) fn put<V: Visitor>(
     ensures grown { OnOk result (IsGrownBy at (record_of kind body.now) (blocks_with (V.visited visitor.old) tree.old.entries)
         (blocks_with (V.visited visitor.new) tree.new.entries)) }
     ensures blocks { OnOk result (AreBlocks (V.visited visitor.new) tree.new.entries) }
-    ensures wrong { result ≡ Err LogStop.NotAStore → (block_of_record (blocks_of (V.visited visitor.old)) (record_of kind body.now) ≡ None)
-        ⊎ (record_limit < length (blocks_of (V.visited visitor.old))) }
+    ensures wrong { IfErr result (OfDamage (λ damage. (damage ≡ in_log at) × ((block_of_record (blocks_of (V.visited visitor.old)) (record_of kind body.now) ≡ None)
+        ⊎ (record_limit < length (blocks_of (V.visited visitor.old)))))) }
     ensures reads { IfErr result (λ stop. stop ≢ LogStop.DiskFault) }
 {
     if tree.len() > RECORD_LIMIT {
-        return Err(LogStop::NotAStore);
+        return Err(LogStop::NotAStore(Damage {
+            area: Area::Log,
+            at,
+        }));
     }
     let Some(found) = judged(tree, kind, body, at) else {
-        return Err(LogStop::NotAStore);
+        return Err(LogStop::NotAStore(Damage {
+            area: Area::Log,
+            at,
+        }));
     };
     match tree.reserve() {
         Ok(()) => {}

@@ -4,7 +4,8 @@ ghost use Rattle.std.specs.Prelude.{◌≡◌, ◌+◌, ◌<◌, ◌≤◌, ◌^
 ghost use Rattle.std.specs.Str.{bytes_eq};
 ghost use Rattle.time_defs.specs.Specification.{specification_of};
 ghost use Rattle.log_defs.specs.Log as form;
-ghost use Rattle.log_file.specs.Grammar.{record_of, is_specification};
+ghost use Rattle.log_defs.specs.Log.{is_specification};
+ghost use Rattle.log_file.specs.Grammar.{record_of};
 
 use crate::number::read_count;
 use epochs::Spec;

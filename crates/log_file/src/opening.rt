@@ -4,10 +4,11 @@ ghost use Rattle.std.specs.Prelude.{◌≡◌, ◌≢◌, ◌⊎◌, ◌+◌, �
 ghost use Rattle.outside.specs.Causes.{HasCause, CountsFault};
 ghost use Rattle.outside.specs.Disk.{OthersRead, IsDurable, NoneNew, IsAsBefore, LeavesOnly, IsOnlyRead};
 ghost use Rattle.outside.specs.declared.disk.Area.TheVariants.{Log as log_area};
-ghost use Rattle.log_defs.specs.Log.{Record, LogContent, log_of, records_of, end_of_log};
+ghost use Rattle.log_defs.specs.Log.{Record, LogContent, log_of, records_of, end_of_log, IsNoLogFrom};
 ghost use Rattle.log_defs.specs.Rest.{EndsAt, IsSettled, HasLog};
 ghost use Rattle.log_file.specs.Grammar.{AreBlocks};
 ghost use Rattle.log_file.specs.Opening.{IsOpened, mended};
+ghost use Rattle.log_file.specs.Stops.{OfDamage, IsInLog};
 
 use crate::grammar::is_open;
 use crate::log::Log;
@@ -56,7 +57,7 @@ fn read_log<D: Disk, V: Visitor>(
         × IsOpened now.log log found.0.spec (V.visited visitor.new) found.0.tree.entries)) }
     ensures ends { IfSome (D.reads_as disk.old) (λ now. IfOk result (λ found. EndsAt found.0.log.place (records_of (drop 8 now.log)) now.log)) }
     ensures gate { IfSome (D.reads_as disk.old) (λ now. IfOk result (λ found. found.1 ≡ (slice_index now.log found.0.log.place == 1))) }
-    ensures not_a_store { IfSome (D.reads_as disk.old) (λ now. result ≡ Err LogStop.NotAStore → log_of now.log ≡ None) }
+    ensures not_a_store { IfErr result (OfDamage (IsInLog (D.reads_as disk.old) IsNoLogFrom)) }
     ensures blocks { IfOk result (λ found. AreBlocks (V.visited visitor.new) found.0.tree.entries) }
     ensures place { IfOk result (λ found. found.0.log.place ≤ 2 ^ 33 * (length (V.visited visitor.new) + 1)) }
     ensures as_before { IsAsBefore D.reads_as D.images D.moment D.left_since disk.old disk.new }
@@ -119,7 +120,7 @@ pub fn open<D: Disk, V: Visitor>(
     // Exactly a log is opened, but for faults and want of memory.
     ensures opened { IfSome (D.reads_as disk.old) (λ now. IfOk result (λ o. (log : LogContent)
         × IsOpened now.log log o.spec (V.visited visitor.new) o.tree.entries)) }
-    ensures not_a_store { IfSome (D.reads_as disk.old) (λ now. result ≡ Err LogStop.NotAStore → log_of now.log ≡ None) }
+    ensures not_a_store { IfErr result (OfDamage (IsInLog (D.reads_as disk.old) IsNoLogFrom)) }
 
     // Of each disk, also of one that tells nothing:
     ensures blocks { IfOk result (λ o. AreBlocks (V.visited visitor.new) o.tree.entries) }
@@ -140,7 +141,7 @@ pub fn open<D: Disk, V: Visitor>(
     ensures unwritten { IfErr result (λ stop. stop ≢ LogStop.DiskFault → D.reads_as disk.new ≡ D.reads_as disk.old) }
     ensures rests { IfSome (D.reads_as disk.old) (λ now. slice_index now.log (end_of_log now.log) ≢ 1
         → IsOnlyRead D.reads_as D.images D.moment D.left_since disk.old disk.new) }
-    ensures only_read { result ≡ Err LogStop.NotAStore → IsOnlyRead D.reads_as D.images D.moment D.left_since disk.old disk.new }
+    ensures only_read { IfErr result (OfDamage (λ _. IsOnlyRead D.reads_as D.images D.moment D.left_since disk.old disk.new)) }
     ensures no_log { IfSome (D.reads_as disk.old) (λ now. log_of now.log ≡ None → IsOnlyRead D.reads_as D.images D.moment D.left_since disk.old disk.new) }
     ensures others { OthersRead log_area (D.reads_as disk.old) (D.reads_as disk.new) }
     ensures cause { CountsFault (D.faults disk.old) (D.faults disk.new) (result ≡ Err LogStop.DiskFault) }

@@ -1,14 +1,15 @@
 // The records of a log, from start to end.
 
-ghost use Rattle.std.specs.Prelude.{◌≡◌, ◌≢◌, ◌+◌, ◌*◌, ◌<◌, ◌≤◌, ◌^◌, List, [], Ok, Err, None, length, take, drop, IfSome, IfOk, OnOk, true, false};
+ghost use Rattle.std.specs.Prelude.{◌≡◌, ◌≢◌, ◌+◌, ◌*◌, ◌<◌, ◌≤◌, ◌^◌, List, [], Ok, Err, None, length, take, drop, IfSome, IfOk, IfErr, OnOk, true, false};
 ghost use Rattle.outside.specs.Causes.{CountsFault};
 ghost use Rattle.outside.specs.Disk.{IsAsBefore};
 ghost use Rattle.chain_tree.specs.Told.{blocks_of};
 ghost use Rattle.time_defs.specs.Specification.{Specification, specification_of};
-ghost use Rattle.log_defs.specs.Log.{magic, record_at, records_of, content_of_records, log_of};
-ghost use Rattle.log_file.specs.Grammar.{is_specification, is_genesis, AreBlocks, blocks_with, IsGenesisOf, IsGrownBy};
-ghost use Rattle.log_file.specs.Reading.{IsReading, IsAt, HasPassed, OfRecordHere, IsWrongHere};
-ghost use Rattle.log_file.specs.Opening.{HasRead, HasReadAll};
+ghost use Rattle.log_defs.specs.Log.{magic, record_at, is_specification, is_genesis, IsNoLogFrom};
+ghost use Rattle.log_file.specs.Grammar.{AreBlocks, blocks_with, IsGenesisOf, IsGrownBy};
+ghost use Rattle.log_file.specs.Reading.{IsReading, IsAt, HasPassed, IsOtherHere, IsWrongHere};
+ghost use Rattle.log_file.specs.Opening.{HasRead, HasReadAll, IsNoContentFrom};
+ghost use Rattle.log_file.specs.Stops.{OfDamage, IsInLog};
 
 use crate::blocks::{begin, put};
 use crate::grammar::{is_start, record_at, spec_of};
@@ -17,7 +18,7 @@ use crate::stop::LogStop;
 use crate::visitor::Visitor;
 use chain_tree::Tree;
 use epochs::Spec;
-use outside::Disk;
+use outside::{Area, Damage, Disk};
 use std::alloc::Global;
 
 /// Reads the first bytes of a log.
@@ -26,19 +27,25 @@ fn read_start<D: Disk>(alloc: Global, disk: &mut D, reader: &mut Reader) -> Resu
     ensures at { OnOk result (IsAt reader.old.len 8 reader.new) }
     ensures reading { IfSome (D.reads_as disk.old) (λ image. IsReading image.log reader.old → IsReading image.log reader.new) }
     ensures found { IfSome (D.reads_as disk.old) (λ image. IsReading image.log reader.old → OnOk result (take 8 image.log ≡ magic)) }
-    ensures wrong { IfSome (D.reads_as disk.old) (λ image. IsReading image.log reader.old → result ≡ Err LogStop.NotAStore → take 8 image.log ≢ magic) }
+    ensures wrong { IfErr result (OfDamage (IsInLog (D.reads_as disk.old) (λ log at. IsReading log reader.old → (take 8 log ≢ magic) × (at ≡ 0)))) }
     ensures as_before { IsAsBefore D.reads_as D.images D.moment D.left_since disk.old disk.new }
     ensures cause { CountsFault (D.faults disk.old) (D.faults disk.new) (result ≡ Err LogStop.DiskFault) }
 {
     if reader.left() < 8 {
-        return Err(LogStop::NotAStore);
+        return Err(LogStop::NotAStore(Damage {
+            area: Area::Log,
+            at: 0,
+        }));
     }
     match reader.fill(alloc, disk, 8) {
         Ok(()) => {}
         Err(stop) => return Err(stop),
     }
     if !is_start(reader.ahead()) {
-        return Err(LogStop::NotAStore);
+        return Err(LogStop::NotAStore(Damage {
+            area: Area::Log,
+            at: 0,
+        }));
     }
     reader.skip(8);
     Ok(())
@@ -50,8 +57,7 @@ fn read_spec<D: Disk>(alloc: Global, disk: &mut D, reader: &mut Reader) -> Resul
     ensures reading { IfSome (D.reads_as disk.old) (λ image. IsReading image.log reader.old → IsReading image.log reader.new) }
     ensures found { IfSome (D.reads_as disk.old) (λ image. IsReading image.log reader.old → IfOk result (λ spec.
         HasPassed image.log (λ r. (is_specification r ≡ true) × (spec ≡ specification_of r.body)) reader.old reader.new)) }
-    ensures wrong { IfSome (D.reads_as disk.old) (λ image. IsReading image.log reader.old → result ≡ Err LogStop.NotAStore
-        → OfRecordHere image.log reader.old (λ r. is_specification r ≡ false)) }
+    ensures wrong { IfErr result (OfDamage (IsInLog (D.reads_as disk.old) (λ log at. IsReading log reader.old → IsOtherHere log is_specification reader.old at))) }
     ensures as_before { IsAsBefore D.reads_as D.images D.moment D.left_since disk.old disk.new }
     ensures cause { CountsFault (D.faults disk.old) (D.faults disk.new) (result ≡ Err LogStop.DiskFault) }
 {
@@ -59,11 +65,18 @@ fn read_spec<D: Disk>(alloc: Global, disk: &mut D, reader: &mut Reader) -> Resul
         Ok(()) => {}
         Err(stop) => return Err(stop),
     }
+    let place = reader.at();
     let Some((kind, body)) = record_at(reader.ahead()) else {
-        return Err(LogStop::NotAStore);
+        return Err(LogStop::NotAStore(Damage {
+            area: Area::Log,
+            at: place,
+        }));
     };
     let Some(spec) = spec_of(kind, body) else {
-        return Err(LogStop::NotAStore);
+        return Err(LogStop::NotAStore(Damage {
+            area: Area::Log,
+            at: place + 6,
+        }));
     };
     let size = 6 + body.len();
     reader.skip(size);
@@ -83,8 +96,7 @@ fn read_genesis<D: Disk, V: Visitor>(
     ensures reading { IfSome (D.reads_as disk.old) (λ image. IsReading image.log reader.old → IsReading image.log reader.new) }
     ensures found { IfSome (D.reads_as disk.old) (λ image. IsReading image.log reader.old → IfOk result (λ tree.
         HasPassed image.log (λ r. IsGenesisOf (reader.old.at + 6) r (blocks_with (V.visited visitor.new) tree.entries)) reader.old reader.new)) }
-    ensures wrong { IfSome (D.reads_as disk.old) (λ image. IsReading image.log reader.old → result ≡ Err LogStop.NotAStore
-        → OfRecordHere image.log reader.old (λ r. is_genesis r ≡ false)) }
+    ensures wrong { IfErr result (OfDamage (IsInLog (D.reads_as disk.old) (λ log at. IsReading log reader.old → IsOtherHere log is_genesis reader.old at))) }
     ensures as_before { IsAsBefore D.reads_as D.images D.moment D.left_since disk.old disk.new }
     ensures cause { CountsFault (D.faults disk.old) (D.faults disk.new) (result ≡ Err LogStop.DiskFault) }
 {
@@ -94,7 +106,10 @@ fn read_genesis<D: Disk, V: Visitor>(
     }
     let place = reader.at();
     let Some((kind, body)) = record_at(reader.ahead()) else {
-        return Err(LogStop::NotAStore);
+        return Err(LogStop::NotAStore(Damage {
+            area: Area::Log,
+            at: place,
+        }));
     };
     let tree = match begin(alloc, visitor, kind, body, place + 6) {
         Ok(tree) => tree,
@@ -119,7 +134,7 @@ pub(crate) fn read_head<D: Disk, V: Visitor>(
     ensures start { IfSome (D.reads_as disk.old) (λ image. IsReading image.log reader.old → IfOk result (λ head. take 8 image.log ≡ magic)) }
     ensures found { IfSome (D.reads_as disk.old) (λ image. IsReading image.log reader.old → IfOk result (λ head.
         HasRead image.log head.0 reader.new (blocks_with (V.visited visitor.new) head.1.entries))) }
-    ensures wrong { IfSome (D.reads_as disk.old) (λ image. IsReading image.log reader.old → result ≡ Err LogStop.NotAStore → log_of image.log ≡ None) }
+    ensures wrong { IfErr result (OfDamage (IsInLog (D.reads_as disk.old) (λ log at. IsReading log reader.old → IsNoLogFrom log at))) }
     ensures as_before { IsAsBefore D.reads_as D.images D.moment D.left_since disk.old disk.new }
     ensures cause { CountsFault (D.faults disk.old) (D.faults disk.new) (result ≡ Err LogStop.DiskFault) }
 {
@@ -157,8 +172,8 @@ fn read_block<D: Disk, V: Visitor>(
     ensures ended { IfSome (D.reads_as disk.old) (λ image. IsReading image.log reader.old → result ≡ Ok false → record_at (drop reader.old.at image.log) ≡ None) }
     ensures byte { IfSome (D.reads_as disk.old) (λ image. IsReading image.log reader.old → result ≡ Ok false → reader.old.at < reader.old.len
         → 0 < length reader.new.ahead) }
-    ensures wrong { IfSome (D.reads_as disk.old) (λ image. IsReading image.log reader.old → result ≡ Err LogStop.NotAStore
-        → IsWrongHere image.log (blocks_of (V.visited visitor.old)) reader.old) }
+    ensures wrong { IfErr result (OfDamage (IsInLog (D.reads_as disk.old) (λ log at. IsReading log reader.old
+        → IsWrongHere log (blocks_of (V.visited visitor.old)) reader.old at))) }
     ensures as_before { IsAsBefore D.reads_as D.images D.moment D.left_since disk.old disk.new }
     ensures cause { CountsFault (D.faults disk.old) (D.faults disk.new) (result ≡ Err LogStop.DiskFault) }
 {
@@ -193,9 +208,8 @@ pub(crate) fn read_blocks<D: Disk, V: Visitor>(
     ensures found { (spec : Specification) → IfSome (D.reads_as disk.old) (λ image.
         HasRead image.log spec reader.old (blocks_with (V.visited visitor.old) tree.old.entries)
         → OnOk result (HasReadAll image.log spec reader.new (blocks_with (V.visited visitor.new) tree.new.entries))) }
-    ensures wrong { (spec : Specification) → IfSome (D.reads_as disk.old) (λ image.
-        HasRead image.log spec reader.old (blocks_with (V.visited visitor.old) tree.old.entries) → result ≡ Err LogStop.NotAStore
-        → content_of_records (records_of (drop 8 image.log)) ≡ None) }
+    ensures wrong { IfErr result (OfDamage (IsInLog (D.reads_as disk.old) (λ log at. (spec : Specification)
+        → HasRead log spec reader.old (blocks_with (V.visited visitor.old) tree.old.entries) → IsNoContentFrom log at))) }
     ensures as_before { IsAsBefore D.reads_as D.images D.moment D.left_since disk.old disk.new }
     ensures cause { CountsFault (D.faults disk.old) (D.faults disk.new) (result ≡ Err LogStop.DiskFault) }
 {

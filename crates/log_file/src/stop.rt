@@ -2,7 +2,7 @@
 ghost use Rattle.std.specs.Prelude.{◌≡◌};
 ghost use Rattle.log_file.specs.declared.stop.LogStop.TheVariants.{DiskFault, NoMemory as no_memory};
 
-use outside::{Failed, NoMemory};
+use outside::{Damage, Failed, NoMemory};
 use std::alloc::{AllocError, AllocFailed};
 use std::error::Error;
 use std::fmt;
@@ -11,8 +11,8 @@ use std::fmt;
 #[derive(Clone, Copy, Debug, PartialEq, Eq)]
 pub enum LogStop {
     DiskFault,
-    /// LOG is no log.
-    NotAStore,
+    /// LOG is no log, or with its snapshots none of a store, from this place on.
+    NotAStore(Damage),
     NoMemory,
 }
 
@@ -52,7 +52,7 @@ impl fmt::Display for LogStop {
     fn fmt<W: fmt::Write>(&self, f: &mut fmt::Formatter<W>) -> fmt::Result {
         match self {
             LogStop::DiskFault => write!(f, "the disk could not be read or written"),
-            LogStop::NotAStore => write!(f, "LOG is no log of a store"),
+            LogStop::NotAStore(damage) => write!(f, "no store: {damage}"),
             LogStop::NoMemory => write!(f, "out of memory"),
         }
     }

@@ -1,6 +1,6 @@
 -- What is gathered of the blocks of a log: one block more, and all of them.
 use Rattle.std.proofs.Common.{◌≡◌, ℕ, zero, suc, ◌+◌, ◌-◌, ◌*◌, ◌<◌, ◌≤◌, ◌^◌, Bool, true, false, eqb, drop, List, [], ◌∷◌, ◌++◌, length, Option, Some, None, refl, sym, ap, ◌∙◌, subst, inl, inr, ◌⊎◌, arith}
-use Rattle.std.specs.Prelude.{◌↔◌, ◌&&◌, IsTrue, slice_get}
+use Rattle.std.specs.Prelude.{IsTrue, slice_get}
 use Rattle.std.specs.Option.{option_map}
 use Rattle.std.proofs.lemmas.Bool.{and_parts, and_from}
 use Rattle.std.proofs.lemmas.Bool.Decides.{Decides-eqb}
@@ -22,7 +22,7 @@ use Rattle.uncle_rules.specs.Embedded.{embedded_in, embedded_from, UnclesValue, 
 use Rattle.log_file.specs.Grammar.{AreBlocks}
 use Rattle.node_core.specs.Node.{CountFees, AreKept}
 use Rattle.node_core.proofs.JoiningLemmas.{uncles-push}
-use Rattle.node_core.specs.Gathering.{counts_fees, fits_at, FitInPlace, AreLeftBy, IsGathered}
+use Rattle.node_core.specs.Gathering.{counts_fees, fits_at, FitInPlace, IsFirstUnfit, IsUnfit, or_unfit, IsBodyOfUnfit, AreLeftBy, IsGathered}
 
 -- ---- Exts
 
@@ -49,23 +49,27 @@ fit-there stored it earlier last place other here = by_place (slice_get-pushed s
     by_place (inr here) =
         subst (λ (n : ℕ). IsTrue (fits_at n other)) (sym here.0) (subst (λ (x : Stored). IsTrue (fits_at (length stored) x)) here.1 last)
 
-fit-before : (stored : List Stored) (it : Stored) → FitInPlace (stored ++ it ∷ []) → FitInPlace stored
-fit-before stored it all place other there =
-    all place other (slice_get-before stored (it ∷ []) place (slice_get_within stored place other there) ∙ there)
-
-fit-more : (stored : List Stored) (it : Stored) (fits : Bool) → (IsTrue fits ↔ FitInPlace stored)
-    → (IsTrue (fits && fits_at (length stored) it) ↔ FitInPlace (stored ++ it ∷ []))
-fit-more stored it fits so_far = (
-  (λ both. let parts = and_parts fits (fits_at (length stored) it) both in fit-there stored it (so_far.0 parts.0) parts.1),
-  (λ all. and_from fits (fits_at (length stored) it) (so_far.1 (fit-before stored it all)) (all (length stored) it (slice_get-push stored it))),
-)
-
--- whether all fit is asked of a block only where those before it do
-pub fits-both : (fits test all : Bool) → fits ≡ true → all ≡ test → all ≡ (fits && test)
-fits-both fits test all so is = is ∙ ap (λ (b : Bool). b && test) (sym so)
-
-pub fits-not : (fits test all : Bool) → fits ≡ false → all ≡ false → all ≡ (fits && test)
-fits-not fits test all not is = is ∙ ap (λ (b : Bool). b && test) (sym not)
+fit-more : (stored : List Stored) (it : Stored) (unfit : Option ℕ) → IsUnfit unfit stored
+    → IsUnfit (or_unfit unfit (fits_at (length stored) it) (length stored)) (stored ++ it ∷ [])
+fit-more stored it (Some first) so_far =
+    let within : first < length stored = slice_get_within stored first so_far.it so_far.there in
+    record {
+      it = so_far.it;
+      there = slice_get-before stored (it ∷ []) first within ∙ so_far.there;
+      wrong = so_far.wrong;
+      before = λ place other earlier here.
+          so_far.before place other earlier (sym (slice_get-before stored (it ∷ []) place (omega (arith, earlier, within))) ∙ here);
+    }
+fit-more stored it None so_far = by_test (fits_at (length stored) it) refl
+  where
+    by_test : (t : Bool) → fits_at (length stored) it ≡ t → IsUnfit (or_unfit None t (length stored)) (stored ++ it ∷ [])
+    by_test true is = fit-there stored it so_far is
+    by_test false is = record {
+      it = it;
+      there = slice_get-push stored it;
+      wrong = is;
+      before = λ place other earlier here. so_far place other (sym (slice_get-before stored (it ∷ []) place earlier) ∙ here);
+    }
 
 -- ---- Uncles
 
@@ -102,20 +106,20 @@ left-still (x ∷ stored) count old new counted left later genesis there =
 
 -- ---- What was gathered
 
-pub gathered-none : (stored : List Stored) (uncles : UnclesValue) → stored ≡ [] → uncles.embedded ≡ [] → IsGathered stored 0 uncles None true
-gathered-none stored uncles none index = subst (λ (l : List Stored). IsGathered l 0 uncles None true) (sym none) (record {
+pub gathered-none : (stored : List Stored) (uncles : UnclesValue) → stored ≡ [] → uncles.embedded ≡ [] → IsGathered stored 0 uncles None None
+gathered-none stored uncles none index = subst (λ (l : List Stored). IsGathered l 0 uncles None None) (sym none) (record {
   counted = refl;
   index = index ∙ sym none-embedded;
   left = λ genesis there. absurd (cc);
-  fit = (λ _. none-fits, λ _. refl);
+  fit = none-fits;
 })
 
 -- where a block was not taken
-pub gathered-still : (stored after : List Stored) (count : ℕ) (uncles next : UnclesValue) (cells left : Option StateValue) (fits : Bool)
-    → IsGathered stored count uncles cells fits → after ≡ stored → next.embedded ≡ uncles.embedded → (0 < count → left ≡ cells)
-    → IsGathered after count next left fits
-gathered-still stored after count uncles next cells left fits so_far same index later =
-    subst (λ (l : List Stored). IsGathered l count next left fits) (sym same) (record {
+pub gathered-still : (stored after : List Stored) (count : ℕ) (uncles next : UnclesValue) (cells left : Option StateValue) (unfit : Option ℕ)
+    → IsGathered stored count uncles cells unfit → after ≡ stored → next.embedded ≡ uncles.embedded → (0 < count → left ≡ cells)
+    → IsGathered after count next left unfit
+gathered-still stored after count uncles next cells left unfit so_far same index later =
+    subst (λ (l : List Stored). IsGathered l count next left unfit) (sym same) (record {
       counted = so_far.counted;
       index = index ∙ so_far.index;
       left = left-still stored count cells left so_far.counted so_far.left later;
@@ -123,17 +127,17 @@ gathered-still stored after count uncles next cells left fits so_far same index 
     })
 
 -- one block more
-pub gathered-more : (stored after : List Stored) (it : Stored) (count more : ℕ) (uncles next : UnclesValue) (cells left : Option StateValue) (fits all : Bool)
-    → IsGathered stored count uncles cells fits → after ≡ stored ++ it ∷ [] → more ≡ count + 1
+pub gathered-more : (stored after : List Stored) (it : Stored) (count more : ℕ) (uncles next : UnclesValue) (cells left : Option StateValue) (unfit first : Option ℕ)
+    → IsGathered stored count uncles cells unfit → after ≡ stored ++ it ∷ [] → more ≡ count + 1
     → next.embedded ≡ uncles.embedded ++ embedded_in count it.block → (count ≡ 0 → AreLeftBy it.block left) → (0 < count → left ≡ cells)
-    → all ≡ (fits && fits_at count it) → IsGathered after more next left all
-gathered-more stored after it count more uncles next cells left fits all so_far grown one index first later fit =
-    let test : all ≡ (fits && fits_at (length stored) it) = fit ∙ ap (λ (n : ℕ). fits && fits_at n it) so_far.counted in
-    subst (λ (l : List Stored). IsGathered l more next left all) (sym grown) (record {
+    → first ≡ or_unfit unfit (fits_at count it) count → IsGathered after more next left first
+gathered-more stored after it count more uncles next cells left unfit first so_far grown one index genesis later fit =
+    let test : first ≡ or_unfit unfit (fits_at (length stored) it) (length stored) = fit ∙ ap (λ (n : ℕ). or_unfit unfit (fits_at n it) n) so_far.counted in
+    subst (λ (l : List Stored). IsGathered l more next left first) (sym grown) (record {
       counted = omega (arith, one, so_far.counted, length_push stored it);
       index = index-more stored it count uncles next so_far.counted so_far.index index;
-      left = left-more stored it count cells left so_far.counted so_far.left first later;
-      fit = subst (λ (b : Bool). IsTrue b ↔ FitInPlace (stored ++ it ∷ [])) (sym test) (fit-more stored it fits so_far.fit);
+      left = left-more stored it count cells left so_far.counted so_far.left genesis later;
+      fit = subst (λ (o : Option ℕ). IsUnfit o (stored ++ it ∷ [])) (sym test) (fit-more stored it unfit so_far.fit);
     })
 
 -- the count of the blocks fits with one more
@@ -204,19 +208,34 @@ pub counted-seen : (stored seen : List Stored) → stored ≡ seen → CountFees
 counted-seen stored seen same counted = subst CountFees same counted
 
 -- where some block does not fit, they have not joined
-pub never-fits : (stored seen : List Stored) (entries : List Entry) (count : ℕ) (uncles : UnclesValue) (cells : Option StateValue) (fits : Bool)
-    → IsGathered stored count uncles cells fits → stored ≡ seen → AreBlocks seen entries → fits ≡ false → AreRated entries → CountFees seen → ⊥
-never-fits stored seen entries count uncles cells fits gathered same are not rated counted =
-    true-not-false (sym (gathered.fit.1 (fit-all stored entries (blocks-seen stored seen entries same are).indexed rated (subst CountFees (sym same) counted))) ∙ not)
+pub never-fits : (stored seen : List Stored) (entries : List Entry) (place : ℕ) → IsFirstUnfit stored place → stored ≡ seen → AreBlocks seen entries
+    → AreRated entries → CountFees seen → ⊥
+never-fits stored seen entries place unfit same are rated counted =
+    true-not-false (sym (fit-all stored entries (blocks-seen stored seen entries same are).indexed rated (subst CountFees (sym same) counted) place unfit.it unfit.there)
+    ∙ unfit.wrong)
   where
     true-not-false : ◌≡◌ {A = Bool} true false → ⊥
     true-not-false is = absurd (cc)
 
+-- the entry of the first that does not fit names its body
+pub unfit-within : (stored seen : List Stored) (entries : List Entry) (place : ℕ) → IsFirstUnfit stored place → stored ≡ seen → AreBlocks seen entries
+    → place < length entries
+unfit-within stored seen entries place unfit same are =
+    omega (
+      arith,
+      slice_get_within stored place unfit.it unfit.there,
+      many-stored stored entries (blocks-seen stored seen entries same are).indexed,
+    )
+
+pub body-of-unfit : (stored seen : List Stored) (entries : List Entry) (place : ℕ) (entry : Entry) → IsFirstUnfit stored place → stored ≡ seen
+    → slice_get entries place ≡ Some entry → IsBodyOfUnfit seen entries entry.at
+body-of-unfit stored seen entries place entry unfit same there =
+    record { place = place; first = subst (λ (l : List Stored). IsFirstUnfit l place) same unfit; entry = entry; there = there; named = refl }
+
 -- all is kept
-pub are-kept-gathered : (stored : List Stored) (entries : List Entry) (count : ℕ) (uncles : UnclesValue) (cells : Option StateValue) (fits : Bool)
-    → IsGathered stored count uncles cells fits → AreBlocks stored entries → IsTrue fits → AreKept stored entries uncles
-are-kept-gathered stored entries count uncles cells fits gathered are fit =
-    let each : FitInPlace stored = gathered.fit.0 fit in
+pub are-kept-gathered : (stored : List Stored) (entries : List Entry) (count : ℕ) (uncles : UnclesValue) (cells : Option StateValue) (unfit : Option ℕ)
+    → IsGathered stored count uncles cells unfit → AreBlocks stored entries → FitInPlace stored → AreKept stored entries uncles
+are-kept-gathered stored entries count uncles cells unfit gathered are each =
     record {
       canonical = are.canonical;
       indexed = are.indexed;
@@ -235,15 +254,15 @@ first-of : (stored : List Stored) (entries : List Entry) → IndexesBlocks (bloc
 first-of stored entries indexed some = slice_get-below (blocks_of stored) 0 (omega (arith, some, len-same (blocks_of stored) entries indexed))
 
 -- there is a genesis, which leaves its cells
-pub some-cells : (stored : List Stored) (entries : List Entry) (count : ℕ) (uncles : UnclesValue) (cells : Option StateValue) (fits : Bool)
-    → IsGathered stored count uncles cells fits → IndexesBlocks (blocks_of stored) entries → 0 < length entries → cells ≡ None → ⊥
-some-cells stored entries count uncles cells fits gathered indexed some none =
+pub some-cells : (stored : List Stored) (entries : List Entry) (count : ℕ) (uncles : UnclesValue) (cells : Option StateValue) (unfit : Option ℕ)
+    → IsGathered stored count uncles cells unfit → IndexesBlocks (blocks_of stored) entries → 0 < length entries → cells ≡ None → ⊥
+some-cells stored entries count uncles cells unfit gathered indexed some none =
     let first = first-of stored entries indexed some in
     subst (AreLeftBy first.0) none (gathered.left first.0 first.1)
 
-pub cells-left : (stored : List Stored) (entries : List Entry) (count : ℕ) (uncles : UnclesValue) (cells : Option StateValue) (fits : Bool) (state : StateValue)
-    → IsGathered stored count uncles cells fits → IndexesBlocks (blocks_of stored) entries → 0 < length entries → cells ≡ Some state
+pub cells-left : (stored : List Stored) (entries : List Entry) (count : ℕ) (uncles : UnclesValue) (cells : Option StateValue) (unfit : Option ℕ) (state : StateValue)
+    → IsGathered stored count uncles cells unfit → IndexesBlocks (blocks_of stored) entries → 0 < length entries → cells ≡ Some state
     → AreOf (blocks_of stored) 0 (rows state)
-cells-left stored entries count uncles cells fits state gathered indexed some is o =
+cells-left stored entries count uncles cells unfit state gathered indexed some is o =
     let first = first-of stored entries indexed some in
     subst (AreLeftBy first.0) is (gathered.left first.0 first.1) o ∙ sym (live_row-genesis (blocks_of stored) first.0 o first.1)

@@ -3,6 +3,7 @@ use Rattle.std.proofs.Common.{◌≡◌, ℕ, zero, suc, ◌+◌, ◌<◌, ◌�
 use Rattle.std.specs.Prelude.{IfSome, IsSomeAnd, IfOk, Result, IsTrue, nat_lt, slice_get, slice_index_or}
 use Rattle.std.specs.List.{All}
 use Rattle.std.specs.Str.{bytes_eq}
+use Rattle.std.proofs.lemmas.List.{length-append}
 use Rattle.std.proofs.lemmas.Option.{same_Some, slice_get_within}
 use Rattle.std.proofs.lemmas.Slice.Eq.{bytes_eq-Decides}
 use Rattle.std.proofs.lemmas.Nat.{from_le_bytes-to_le_bytes_4}
@@ -30,12 +31,14 @@ use Rattle.reorg_laws.specs.Laws.{IsKeptRow}
 use Rattle.reorg_laws.proofs.HeldLaws.{snapshot-rows-are-kept}
 use Rattle.snapshot_defs.specs.Snapshot.{Snapshot, body_bytes, snapshot_bytes, has_open_gate, Holds, IsOfBlocks, IsSoundArea, HoldsSound}
 use Rattle.snapshot_defs.proofs.AreaLaws.{sound-holds-its-own, sound-has-its-number, tells-its-rows}
+use Rattle.snapshot_defs.proofs.Fields.{head_of, head-length, rows_bytes, in-parts}
 use Rattle.snapshot_defs.proofs.SnapshotLaws.{opens-its-gate}
 use Rattle.snapshots.specs.Reading.{AnswersNumber, AnswersSnapshot, IsRead, IsDamaged, IsOfTree, has_hash, has_tip, row_count, AreWithin}
 use Rattle.snapshots.specs.Rows.{IsHeld}
 use Rattle.store_defs.specs.Store.{IsJoined}
 use Rattle.store_defs.specs.SnapshotLaws.{HasSoundAreas}
 use Rattle.node_core.specs.Snapshot.{number_in, area_with, newest, tip_in}
+use Rattle.node_core.specs.Opening.{IsOfArea, IsOfSnapshot}
 use Rattle.node_core.specs.Steps.{distance_to, moves_from, moves_by}
 
 true-false : true ≡ false → ⊥
@@ -68,6 +71,28 @@ pub number-undamaged : (kept : List Block) (area : Area) (reads mid : Option Ima
 number-undamaged kept area reads mid now stop damage same told sound tells is =
     let here : AnswersNumber area (content area now) (Err stop) = subst (λ (o : Option Image). IfSome o (λ image. AnswersNumber area (content area image) (Err stop))) (same ∙ told) tells in
     number-sound kept area (content area now) damage sound (subst (λ (s : ReadStop). AnswersNumber area (content area now) (Err s)) is here)
+
+-- an area that is too short for a number holds no snapshot
+long-enough : (bytes : List ℕ) (s : Snapshot) → Holds bytes s → 49 ≤ length bytes
+long-enough bytes s holds =
+    omega (
+      arith,
+      ap length (holds.parts ∙ in-parts s holds.after),
+      head-length s.number s.tip s.hash (length s.rows) holds.form.hash,
+      length-append (head_of s) (rows_bytes s.rows ++ holds.after),
+    )
+
+pub number-damaged : (area : Area) (entries : List Entry) (reads mid : Option Image) (now : Image) (stop : ReadStop) (damage : Damage) → mid ≡ reads → reads ≡ Some now
+    → IfSome mid (λ image. AnswersNumber area (content area image) (Err stop)) → stop ≡ Damaged damage → IsOfArea area entries now damage
+number-damaged area entries reads mid now stop damage same told tells is = from
+    (subst (λ (s : ReadStop). AnswersNumber area (content area now) (Err s)) is
+    (subst (λ (o : Option Image). IfSome o (λ image. AnswersNumber area (content area image) (Err stop))) (same ∙ told) tells))
+  where
+    from : AnswersNumber area (content area now) (Err (Damaged damage)) → IsOfArea area entries now damage
+    from told = (
+      record { gate = told.0; none = λ s holds of. absurd (omega (arith, long-enough (content area now) s holds, told.1)) },
+      told.2,
+    )
 
 -- ---- The area that is loaded
 
@@ -111,6 +136,26 @@ is-newest now area is = by (number_in now.snap_a) (number_in now.snap_b) refl re
 pub newest-at : (reads : Option Image) (now : Image) (found : Option Area) (area : Area) → reads ≡ Some now → IfSome reads (λ image. found ≡ newest image)
     → found ≡ Some area → newest now ≡ Some area
 newest-at reads now found area told is at = sym (subst (λ (o : Option Image). IfSome o (λ image. found ≡ newest image)) told is) ∙ at
+
+-- it is an area of snapshots
+pub of-newest : (now : Image) (area : Area) (entries : List Entry) (damage : Damage) → newest now ≡ Some area → IsOfArea area entries now damage → IsOfSnapshot entries now damage
+of-newest now area entries damage is of = by (number_in now.snap_a) (number_in now.snap_b) is
+  where
+    at-a : Some SnapA ≡ Some area → IsOfSnapshot entries now damage
+    at-a same = inl (subst (λ (x : Area). IsOfArea x entries now damage) (sym (same_Some SnapA area same)) of)
+
+    at-b : Some SnapB ≡ Some area → IsOfSnapshot entries now damage
+    at-b same = inr (subst (λ (x : Area). IsOfArea x entries now damage) (sym (same_Some SnapB area same)) of)
+
+    either : (less : Bool) → cond less (Some SnapB) (Some SnapA) ≡ Some area → IsOfSnapshot entries now damage
+    either true same = at-b same
+    either false same = at-a same
+
+    by : (a b : Option ℕ) → area_with a b ≡ Some area → IsOfSnapshot entries now damage
+    by None None none = absurd (cc)
+    by (Some a) None same = at-a same
+    by None (Some b) same = at-b same
+    by (Some a) (Some b) same = either (nat_lt a b) same
 
 -- ---- What is read there
 
@@ -181,6 +226,17 @@ never-damaged chain area entries reads now before after result damage indexed ca
 
     from : IsDamaged entries (content area now) → (s : Snapshot) × HoldsSound chain.blocks area (content area now) s → ⊥
     from damaged (s, sound) = damaged.none s sound.holds (of-tree chain entries s indexed joined canonical sound.of_blocks)
+
+-- damage that was read there
+pub snapshot-damaged : (area : Area) (entries kept : List Entry) (reads : Option Image) (now : Image) (before after : ℕ) (result : Result (Option (ℕ × ℕ × StateValue)) ReadStop)
+    (damage : Damage) → entries ≡ kept → reads ≡ Some now → newest now ≡ Some area
+    → IfSome reads (λ image. AnswersSnapshot area entries (content area image) before after result) → result ≡ Err (Damaged damage) → IsOfSnapshot kept now damage
+snapshot-damaged area entries kept reads now before after result damage same told is tells at =
+    subst (λ (es : List Entry). IsOfSnapshot es now damage) same (of-newest now area entries damage is (here.0, here.1))
+  where
+    here : AnswersSnapshot area entries (content area now) before after (Err (Damaged damage))
+    here = subst (AnswersSnapshot area entries (content area now) before after) at
+        (subst (λ (o : Option Image). IfSome o (λ image. AnswersSnapshot area entries (content area image) before after result)) told tells)
 
 -- ---- Steps
 

@@ -6,6 +6,7 @@ use Rattle.std.proofs.lemmas.Bool.{ne_eqb}
 use Rattle.std.proofs.lemmas.List.{length-map}
 use Rattle.std.proofs.lemmas.Option.{same_Some}
 use Rattle.outside.specs.declared.disk.Area.TheVariants.{Log, SnapA, SnapB}
+use Rattle.outside.specs.declared.disk.Damage.{Damage}
 use Rattle.outside.specs.declared.disk.ReadStop.{ReadStop}
 use Rattle.outside.specs.Image.{Image, with_content}
 use Rattle.outside.specs.Causes.{Rose, CountsFault}
@@ -16,7 +17,8 @@ use Rattle.cell_state.specs.State.{StateValue, rows}
 use Rattle.reorg.specs.Moves.{AreOf}
 use Rattle.time_defs.specs.Specification.{Specification}
 use Rattle.verdict_defs.specs.Chain.{Chain}
-use Rattle.log_defs.specs.Log.{Record, LogContent, content_of_records, log_of, records_of, end_of_log}
+use Rattle.log_defs.specs.Log.{Record, LogContent, content_of_records, log_of, records_of, end_of_log, IsNoLogFrom}
+use Rattle.log_file.specs.Stops.{IsInLog}
 use Rattle.log_defs.specs.Rest.{IsAtRest, IsSettled, HasLog}
 use Rattle.log_defs.proofs.Contents.{says_its_records}
 use Rattle.store_defs.proofs.SnapshotLemmas.{stands_where_it_says_the_same, stands_for_what_it_keeps}
@@ -30,7 +32,8 @@ use Rattle.log_file.proofs.Settling.{others_kept, others_on}
 use Rattle.block_store.specs.Held.{CacheValue, Holds, AgreesWith}
 use Rattle.block_store.specs.Stored.{CanBeKept}
 use Rattle.node_core.specs.Node.{KeptValue, NodeValue, kept_of, node_of, stored_of, CountFees, IsWithin, IsReadBy, IsOf, IsItsOwn, IsSoundNode, IsOnlyImage, IsOn, IsLeftByOpening, AreOfTip}
-use Rattle.node_core.specs.Opening.{SaysTheSame, LeavesStore, IsReadFrom}
+use Rattle.node_core.specs.Gathering.{IsBodyOfUnfit}
+use Rattle.node_core.specs.Opening.{NameItsBodies, IsOfCells, IsNoneFrom, IsNoStoreAt, SaysTheSame, LeavesStore, IsReadFrom}
 use Rattle.store_defs.specs.SnapshotLaws.{HasSoundAreas}
 use Rattle.codec_defs.specs.Schema.{Block}
 use Rattle.node_core.specs.Snapshot.{number_in, area_with, newest}
@@ -143,6 +146,18 @@ module _ (reads mid : Option Image) (spec : Specification) (stored : List Stored
       read_from now found.0 kept spec stored entries of found.1 are cache none place cells final images
       (on_told (λ image. IsSettled place (records_of (drop 8 image.log)) final images) reads mid now same told settled))
 
+  -- its entries name its bodies
+  pub names_its_bodies : IfSome reads (λ now. NameItsBodies now.log entries)
+  names_its_bodies = if_told (λ now. NameItsBodies now.log entries) reads (λ now told.
+      let found = on_told (Opened spec stored entries) reads mid now same told opened in
+      record { log = found.0; specification = spec; stored = stored; opened = found.1 })
+
+  -- where one of its blocks does not fit, it is none from there
+  pub unfit_from : (at : ℕ) → IsBodyOfUnfit stored entries at → IfSome reads (λ now. IsNoneFrom now.log at)
+  unfit_from at unfit = if_told (λ now. IsNoneFrom now.log at) reads (λ now told.
+      let found = on_told (Opened spec stored entries) reads mid now same told opened in
+      inr (record { log = found.0; specification = spec; stored = stored; entries = entries; opened = found.1; unfit = unfit }))
+
   -- where the blocks of a log have not joined, the image is not sound
   pub not_joined : (AreRated entries → CountFees stored → ⊥) → IfSome reads (λ now. IsSound now → ⊥)
   not_joined never = if_told (λ now. IsSound now → ⊥) reads (λ now told sound.
@@ -168,11 +183,19 @@ no_log_sound : (now : Image) → log_of now.log ≡ None → IsSound now → ⊥
 no_log_sound now none (chain, stands) = none_is_some stands.log (sym stands.is_log ∙ none)
 
 -- where there is no log, the image is not sound
-pub not_sound : {Stopped : Type 0} (reads mid : Option Image) → mid ≡ reads → IfSome mid (λ now. Stopped → log_of now.log ≡ None) → Stopped
-    → IfSome reads (λ now. IsSound now → ⊥)
-not_sound None mid same none stopped = tt
-not_sound {Stopped} (Some now) mid same none stopped =
-    no_log_sound now (subst (λ (o : Option Image). IfSome o (λ now. Stopped → log_of now.log ≡ None)) same none stopped)
+pub not_sound : (reads mid : Option Image) (at : ℕ) → mid ≡ reads → IfSome mid (λ now. IsNoLogFrom now.log at) → IfSome reads (λ now. IsSound now → ⊥)
+not_sound None mid at same none = tt
+not_sound (Some now) mid at same none =
+    let here = subst (λ (o : Option Image). IfSome o (λ now. IsNoLogFrom now.log at)) same none in no_log_sound now here.none
+
+-- and this is where it is none
+pub none_from : (reads mid : Option Image) (at : ℕ) → mid ≡ reads → IfSome mid (λ now. IsNoLogFrom now.log at) → IfSome reads (λ now. IsNoneFrom now.log at)
+none_from None mid at same none = tt
+none_from (Some now) mid at same none = inl (subst (λ (o : Option Image). IfSome o (λ now. IsNoLogFrom now.log at)) same none)
+
+pub no_store_at : (reads : Option Image) (damage : Damage) → IsInLog reads IsNoneFrom damage → IfSome reads (λ now. IsNoStoreAt now damage)
+no_store_at None damage is = tt
+no_store_at (Some now) damage is = inl (is.area, is.at)
 
 -- ---- What a crash leaves
 
@@ -453,6 +476,17 @@ module _ {D : Type 0} (reads_as : D → Option Image) (images : D → Image → 
       → AreOf kept.chain.blocks 0 (rows cells) → ⊥) → IfSome (reads_as old) (λ now. IsSound now → ⊥)
   not_led never = if_told (λ now. IsSound now → ⊥) (reads_as old) (λ now told sound.
       never (with_content Log others.0 now) (told_mid now told) (areas_there now told sound) ((from_at now told).joined sound) first_at)
+
+  -- damage that the live cells met
+  pub cells_stopped : (damage : Damage) → IfSome (reads_as old) (λ now. NameItsBodies now.log node.entries)
+      → ((there : Image) → reads_as mid ≡ Some there → IsOfCells kept.entries there damage) → IfSome (reads_as old) (λ now. IsNoStoreAt now damage)
+  cells_stopped damage named met = if_told (λ now. IsNoStoreAt now damage) (reads_as old) (λ now told.
+      inr (
+        node.entries,
+        at_some (λ now. NameItsBodies now.log node.entries) (reads_as old) now told named,
+        subst (λ (es : List Entry). IsOfCells es now damage) (ap (λ (n : NodeValue). n.entries) is)
+        (met (with_content Log others.0 now) (told_mid now told)),
+      ))
 
   -- ---- Whose live cells were led to the tip
 

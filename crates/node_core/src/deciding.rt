@@ -1,5 +1,5 @@
 // What is to become of an item, over the kept blocks.
-ghost use Rattle.std.specs.Prelude.{◌≡◌, ◌≢◌, ◌≤◌, ◌==◌, ◌+◌, ◌-◌, ◌<◌, ◌^◌, nat_lt, ℕ, true, map, length, Some, None, Err, IfOk, OnOk, IsTrue};
+ghost use Rattle.std.specs.Prelude.{◌≡◌, ◌≢◌, ◌≤◌, ◌==◌, ◌+◌, ◌-◌, ◌<◌, ◌^◌, nat_lt, ℕ, true, map, length, Some, None, Err, IfOk, OnOk, IsSome, IsTrue};
 ghost use Rattle.std.specs.List.{All, list_any};
 ghost use Rattle.codec_defs.specs.Schema as schema;
 ghost use Rattle.codec_defs.specs.Shape.{encoded};
@@ -23,6 +23,7 @@ ghost use Rattle.pool_defs.specs.Size.{most_items, most_bytes};
 ghost use Rattle.tx_pool.specs.Assembling.{IsAssembled};
 ghost use Rattle.node_core.specs.Steps.{moves_on, moves_of_block, moves_for};
 ghost use Rattle.cell_state.specs.State.{rows};
+ghost use Rattle.reorg.specs.Damages.{IsAtRecord};
 ghost use Rattle.reorg.specs.Moves.{AreOf};
 ghost use Rattle.chain_tree.specs.Reading.{HasRead, stop_of};
 ghost use Rattle.block_judge.specs.Stops.{read_stop_of};
@@ -90,6 +91,8 @@ impl Kept {
             → IfOk result (λ there. AreOf self.now.chain.blocks to (rows there)) }
         ensures undamaged { HoldsJoined self.now (B.told blocks.old) → AreOf self.now.chain.blocks from (rows state)
             → (damage : Damage) → result ≡ Err (Damaged damage) → ⊥ }
+        ensures at_record { IsSome (B.told blocks.old) → (damage : Damage) → result ≡ Err (Damaged damage)
+            → (place : ℕ) × IsAtRecord self.now.entries place damage }
         ensures steps { OnOk result (steps.new ≡ steps.old + distance self.now.chain.blocks from to) }
         ensures most { steps.new ≤ steps.old + distance self.now.chain.blocks from to }
     {

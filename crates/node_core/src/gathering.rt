@@ -4,10 +4,11 @@ ghost use Rattle.cell_defs.specs.Ext.{count_at, is_ext};
 ghost use Rattle.cell_state.specs.State.{rows};
 ghost use Rattle.chain_tree.specs.Blocks.{Describes, AreRated};
 ghost use Rattle.log_file.specs.Grammar.{AreBlocks};
-ghost use Rattle.log_file.specs.declared.stop.LogStop.TheVariants.{NotAStore};
+ghost use Rattle.log_file.specs.Stops.{IsDamage};
+ghost use Rattle.outside.specs.declared.disk.Area.TheVariants.{Log};
 ghost use Rattle.reorg.specs.Moves.{AreOf};
 ghost use Rattle.node_core.specs.Node.{kept_of, CountFees};
-ghost use Rattle.node_core.specs.Gathering.{counts_fees, fits_at, AreLeftBy};
+ghost use Rattle.node_core.specs.Gathering.{counts_fees, fits_at, or_unfit, IsBodyOfUnfit, AreLeftBy};
 
 use crate::kept::Kept;
 use crate::recorded::Recorded;
@@ -18,7 +19,7 @@ use dao_math::is_rated;
 use epochs::Spec;
 use log_file::{LogStop, Visitor};
 use mol_schema::BlockView;
-use outside::NoMemory;
+use outside::{Area, Damage, NoMemory};
 use std::alloc::Global;
 use std::marker::Model;
 use uncle_rules::Uncles;
@@ -31,8 +32,9 @@ pub(crate) struct Gathering {
     uncles: Uncles,
     /// The live cells that the genesis leaves, once it was read.
     genesis: Option<State>,
-    /// Whether the DAO field of each block is rated, and each ext after the genesis counts the fees of its block.
-    fits: bool,
+    /// The place of the first block that does not fit: its DAO field is not rated, or, after the genesis, its ext does not
+    /// count its fees.
+    unfit: Option<u32>,
 }
 
 impl Model for Gathering {
@@ -43,7 +45,7 @@ impl Model for Gathering {
 
     ghost view = { λ it. it.blocks };
 
-    ghost invariant = { λ it. IsGathered it.blocks.stored it.count it.uncles it.genesis it.fits };
+    ghost invariant = { λ it. IsGathered it.blocks.stored it.count it.uncles it.genesis it.unfit };
 }
 
 /// The count of fees of an ext.
@@ -76,6 +78,22 @@ fn fits(block: &BlockView<'_>, ext: &[u8], entry: &Entry, place: u32) -> bool
     is_rated(&entry.dao) && counts(block, ext)
 }
 
+/// The place of the first block that does not fit, where one more was read.
+fn first_unfit(unfit: Option<u32>, fits: bool, place: u32) -> Option<u32>
+    ensures { result ≡ or_unfit unfit fits place }
+{
+    match unfit {
+        Some(first) => Some(first),
+        None => {
+            if fits {
+                None
+            } else {
+                Some(place)
+            }
+        }
+    }
+}
+
 /// Takes the live cells that a block leaves, where its place is that of the genesis.
 fn take_cells(
     alloc: Global,
@@ -103,19 +121,20 @@ impl Gathering {
             count: 0,
             uncles: Uncles::new(alloc),
             genesis: None,
-            fits: true,
+            unfit: None,
         }
     }
 
     /// What is kept of the blocks, whose entries a tree has, and the live cells that the genesis leaves. Where a block's C or
-    /// AR is 0, or what stands beside it is no ext for it, they have not joined, and the log is none of a store.
+    /// AR is 0, or what stands beside it is no ext for it, they have not joined, and the log is none of a store from the body
+    /// of the first such block on.
     pub(crate) fn into_kept(self, spec: Spec, tree: Tree) -> Result<(Kept, State), LogStop>
         requires { AreBlocks self.stored tree.entries }
         ensures kept { IfOk result (λ it. it.0 ≡ kept_of spec self.stored tree.entries) }
         ensures cells { IfOk result (λ it. AreOf it.0.chain.blocks 0 (rows it.1)) }
         ensures wrong { OnOk result (AreRated tree.entries × CountFees self.stored) }
         ensures right { AreRated tree.entries → CountFees self.stored → IsOk result }
-        ensures stop { IfErr result (λ stop. stop ≡ NotAStore) }
+        ensures stop { IfErr result (IsDamage (λ damage. (damage.area ≡ Log) × IsBodyOfUnfit self.stored tree.entries damage.at)) }
     {
         // A tree has a tip, so there was a genesis.
         let _ = tree.tip();
@@ -124,11 +143,15 @@ impl Gathering {
             count: _,
             uncles,
             genesis,
-            fits,
+            unfit,
         } = self;
-        if !fits {
+        if let Some(place) = unfit {
+            let at = tree.entry(place).at;
             drop((blocks, uncles, genesis, tree));
-            return Err(LogStop::NotAStore);
+            return Err(LogStop::NotAStore(Damage {
+                area: Area::Log,
+                at,
+            }));
         }
         let Some(cells) = genesis else { unreachable!() };
         let kept = Kept {
@@ -156,8 +179,8 @@ impl Visitor for Gathering {
         self.uncles.reserve(block.uncles_count())?;
         self.blocks.push(alloc, block, ext)?;
         self.uncles.add(block, self.count);
+        self.unfit = first_unfit(self.unfit, fits, self.count);
         self.count += 1;
-        self.fits = self.fits && fits;
         Ok(())
     }
 }

@@ -40,8 +40,9 @@ ghost use Rattle.store_defs.specs.Store.{Keeps, store_of, StandsFor, IsSound, Ha
 ghost use Rattle.block_store.specs.Held.{held_at};
 ghost use Rattle.log_file.specs.Pieces.{after_gate, block_record};
 ghost use Rattle.log_file.specs.declared.stop.LogStop.TheVariants as log_stops;
+ghost use Rattle.log_file.specs.Stops.{OfDamage, IsInLog};
 ghost use Rattle.node_core.specs.Node.{node_of, IsItsOwn, IsSoundNode, IsSoundOn, IsOnlyImage, IsOn, LeavesAll, IsLeftByImport, IsSettledAfter, IsWithin, AreOfFound, AreOfTip};
-ghost use Rattle.node_core.specs.Opening.{LeavesStore, IsReadFrom};
+ghost use Rattle.node_core.specs.Opening.{LeavesStore, IsReadFrom, NameItsBodies, IsNoneFrom, IsNoStoreAt};
 ghost use Rattle.outside.specs.declared.disk.WriteStop.TheVariants as write_stops;
 ghost use Rattle.node_core.specs.Snapshot.{snapshot_at, OthersReadBut, HasSnapshot, LacksSnapshot};
 ghost use Rattle.node_core.specs.Steps.{moves_for, moves_to_open};
@@ -135,12 +136,13 @@ impl Model for Node {
 
 /// Why a log is not opened where the live cells did not reach the tip.
 fn stop_of_move(stop: ReadStop) -> LogStop
-    ensures damaged { result ≡ log_stops.NotAStore → (damage : Damage) × (stop ≡ Damaged damage) }
+    ensures damaged { OfDamage (λ damage. stop ≡ Damaged damage) result }
+    ensures found { (damage : Damage) → stop ≡ Damaged damage → result ≡ log_stops.NotAStore damage }
     ensures fault { (result ≡ log_stops.DiskFault) ↔ (stop ≡ DiskFault) }
     ensures memory { (result ≡ log_stops.NoMemory) ↔ (stop ≡ ReadStop.NoMemory) }
 {
     match stop {
-        ReadStop::Damaged(_) => LogStop::NotAStore,
+        ReadStop::Damaged(damage) => LogStop::NotAStore(damage),
         ReadStop::DiskFault => LogStop::DiskFault,
         ReadStop::NoMemory => LogStop::NoMemory,
     }
@@ -164,7 +166,9 @@ fn read_store<D: Disk>(alloc: Global, disk: &mut D, held: usize) -> Result<Node,
     ensures left { LeavesStore D.reads_as D.images D.moment D.left_since disk.old disk.new }
     ensures read { IfOk result (λ node. IfSome (D.reads_as disk.old) (IsReadFrom node (D.reads_as disk.new) (D.images disk.new))) }
     ensures cells { IfOk result (λ node. AreOf node.chain.blocks 0 (rows node.cells)) }
-    ensures not_a_store { result ≡ Err LogStop.NotAStore → IfSome (D.reads_as disk.old) (λ now. IsSound now → ⊥) }
+    ensures not_a_store { IfErr result (OfDamage (λ _. IfSome (D.reads_as disk.old) (λ now. IsSound now → ⊥))) }
+    ensures damage { IfErr result (OfDamage (IsInLog (D.reads_as disk.old) IsNoneFrom)) }
+    ensures named { IfOk result (λ node. IfSome (D.reads_as disk.old) (λ now. NameItsBodies now.log node.entries)) }
     ensures one_image { OnOk result (HasOneImage (D.reads_as disk.new) (D.images disk.new)) }
     ensures image { ((image : Image) → D.images disk.old image → IsSound image)
         → IfOk result (λ node. IfSome (D.reads_as disk.old) (λ _. IsOnlyImage node.chain (D.reads_as disk.new) (D.images disk.new))) }
@@ -306,7 +310,8 @@ impl Node {
     ) -> Result<Node, LogStop>
         requires { 1 ≤ held }
         ensures kept { IfOk result (λ node. IfSome (D.reads_as disk.old) (λ now. store_of now ≡ Keeps node.chain)) }
-        ensures not_a_store { result ≡ Err LogStop.NotAStore → IfSome (D.reads_as disk.old) (λ now. IsSound now → ⊥) }
+        ensures not_a_store { IfErr result (OfDamage (λ _. IfSome (D.reads_as disk.old) (λ now. IsSound now → ⊥))) }
+        ensures damage { IfErr result (OfDamage (λ damage. IfSome (D.reads_as disk.old) (λ now. IsNoStoreAt now damage))) }
         ensures left { LeavesStore D.reads_as D.images D.moment D.left_since disk.old disk.new }
         ensures own { IfOk result (λ node. IsItsOwn node (D.reads_as disk.new) (D.images disk.new)) }
         ensures settled { IfOk result (λ node. IfSome (D.reads_as disk.old) (λ now.

@@ -11,6 +11,7 @@ ghost use Rattle.codec_defs.specs.Shape.{encoded};
 ghost use Rattle.chain_defs.specs.Tip.{best_branch};
 ghost use Rattle.chain_tree.specs.Reading.{stop_of};
 ghost use Rattle.cell_state.specs.State.{rows};
+ghost use Rattle.reorg.specs.Damages.{IsAtRecord};
 ghost use Rattle.reorg.specs.Moves.{AreOf};
 ghost use Rattle.rule_names.specs.Number.{rule_number};
 ghost use Rattle.rule_names.specs.declared.rule.Rule.{Rule};
@@ -62,6 +63,8 @@ pub(crate) fn moved<D: Disk, L: Ledger>(
         → IfOk result (λ there. AreOf kept.now.chain.blocks to (rows there)) }
     ensures undamaged { IsSome (D.reads_as disk.old) → AreJoined kept.now.chain kept.now.exts → AreOf kept.now.chain.blocks from (rows state)
         → (damage : a_damage) → result ≡ Err (Damaged damage) → ⊥ }
+    ensures at_record { IsSome (D.reads_as disk.old) → (damage : a_damage) → result ≡ Err (Damaged damage)
+        → (place : ℕ) × IsAtRecord kept.now.entries place damage }
     ensures steps { OnOk result (steps.new ≡ steps.old + distance kept.now.chain.blocks from to) }
     ensures most { steps.new ≤ steps.old + distance kept.now.chain.blocks from to }
 {

@@ -17,6 +17,8 @@ ghost use Rattle.snapshots.specs.Writing.{HasAnyArea, HoldsNew};
 ghost use Rattle.store_defs.specs.Store.{StandsFor, AreJoined};
 ghost use Rattle.store_defs.specs.SnapshotLaws.{HasSoundAreas};
 ghost use Rattle.node_core.specs.Node.{IsReadBy, AreOfTip, IsOnlyImage};
+ghost use Rattle.chain_tree.specs.declared.entry.Entry.{Entry};
+ghost use Rattle.node_core.specs.Opening.{IsOfSnapshot, IsOfCells};
 ghost use Rattle.node_core.specs.Snapshot.{snapshot_at, IsTaken, OnlySnapshotReads, HasSnapshot, area_with, newest};
 ghost use Rattle.node_core.specs.Steps.{distance_to, moves_by};
 
@@ -133,6 +135,8 @@ fn newest_in<D: Disk>(disk: &mut D) -> Result<Option<Area>, ReadStop>
     ensures newest { IfSome (D.reads_as disk.old) (λ now. IfOk result (λ found. found ≡ newest now)) }
     ensures undamaged { (kept : List Block) (now : Image) → D.reads_as disk.old ≡ Some now → HasSoundAreas kept now
         → (damage : a_damage) → result ≡ Err (read_stops.Damaged damage) → ⊥ }
+    ensures damage { (entries : List Entry) (now : Image) → D.reads_as disk.old ≡ Some now
+        → (damage : a_damage) → result ≡ Err (read_stops.Damaged damage) → IsOfSnapshot entries now damage }
     ensures memory { result ≡ Err read_stops.NoMemory → ⊥ }
     ensures content { D.content_of disk.new ≡ D.content_of disk.old }
     ensures cause { CountsFault (D.faults disk.old) (D.faults disk.new) (result ≡ Err read_stops.DiskFault) }
@@ -161,6 +165,8 @@ fn load_from<D: Disk, L: Ledger>(
         → IfOk result (λ it. AreOf kept.now.chain.blocks it.0 (rows it.1)) }
     ensures undamaged { (now : Image) → D.reads_as disk.old ≡ Some now → newest now ≡ Some area → HasSoundAreas kept.now.chain.blocks now → AreJoined kept.now.chain kept.now.exts
         → (damage : a_damage) → result ≡ Err (read_stops.Damaged damage) → ⊥ }
+    ensures damage { (now : Image) → D.reads_as disk.old ≡ Some now → newest now ≡ Some area
+        → (damage : a_damage) → result ≡ Err (read_stops.Damaged damage) → IsOfSnapshot kept.now.entries now damage }
     ensures content { D.content_of disk.new ≡ D.content_of disk.old }
     ensures cause { CountsFault (D.faults disk.old) (D.faults disk.new) (result ≡ Err read_stops.DiskFault) }
     ensures led { (now : Image) → D.reads_as disk.old ≡ Some now
@@ -192,6 +198,8 @@ fn load<D: Disk, L: Ledger>(
         → IfOk result (λ it. AreOf kept.now.chain.blocks it.0 (rows it.1)) }
     ensures undamaged { (now : Image) → D.reads_as disk.old ≡ Some now → HasSoundAreas kept.now.chain.blocks now → AreJoined kept.now.chain kept.now.exts
         → (damage : a_damage) → result ≡ Err (read_stops.Damaged damage) → ⊥ }
+    ensures damage { (now : Image) → D.reads_as disk.old ≡ Some now
+        → (damage : a_damage) → result ≡ Err (read_stops.Damaged damage) → IsOfSnapshot kept.now.entries now damage }
     ensures content { D.content_of disk.new ≡ D.content_of disk.old }
     ensures cause { CountsFault (D.faults disk.old) (D.faults disk.new) (result ≡ Err read_stops.DiskFault) }
     ensures led { (now : Image) → D.reads_as disk.old ≡ Some now
@@ -228,6 +236,8 @@ pub(crate) fn to_tip<D: Disk, L: Ledger>(
         → AreOf kept.now.chain.blocks 0 (rows genesis) → IfOk result (λ there. AreOfTip kept.now.chain.blocks (rows there)) }
     ensures undamaged { (now : Image) → D.reads_as disk.old ≡ Some now → HasSoundAreas kept.now.chain.blocks now → AreJoined kept.now.chain kept.now.exts
         → AreOf kept.now.chain.blocks 0 (rows genesis) → (damage : a_damage) → result ≡ Err (read_stops.Damaged damage) → ⊥ }
+    ensures damage { (now : Image) → D.reads_as disk.old ≡ Some now
+        → (damage : a_damage) → result ≡ Err (read_stops.Damaged damage) → IsOfCells kept.now.entries now damage }
     ensures agrees { IfSome (D.reads_as disk.new) (IsReadBy kept.now cache.new.held) }
     ensures content { D.content_of disk.new ≡ D.content_of disk.old }
     ensures found { AnswersFound cache.old.damages cache.new.damages (stop_of result) }

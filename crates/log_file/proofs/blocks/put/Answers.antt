@@ -1,12 +1,12 @@
-use Rattle.std.proofs.Common.{inr, sym, subst, arith}
+use Rattle.std.proofs.Common.{inr, refl, sym, subst, arith}
 use Rattle.chain_tree.specs.Blocks.{IndexesBlocks}
 use Rattle.chain_tree.specs.Told.{blocks_of}
 use Rattle.log_file.proofs.Judging.{limit_is, kept_limit_is, as_many, blocks_more}
 use Rattle.log_file.proofs.blocks.put.Goals as goal
 
 pub returns-then-len-gt-RECORD_LIMIT-clause-wrong : goal.returns-then-len-gt-RECORD_LIMIT-clause-wrong
-returns-then-len-gt-RECORD_LIMIT-clause-wrong g c = λ e.
-    inr (omega (arith, c.len.ensures.of_blocks _ c.requires.blocks.indexed, c.if-len-gt-RECORD_LIMIT.true, limit_is))
+returns-then-len-gt-RECORD_LIMIT-clause-wrong g c =
+    (refl, inr (omega (arith, c.len.ensures.of_blocks _ c.requires.blocks.indexed, c.if-len-gt-RECORD_LIMIT.true, limit_is)))
 
 pub visit-requires-clause-few : goal.visit-requires-clause-few
 visit-requires-clause-few g c =

@@ -1,9 +1,9 @@
-use Rattle.std.proofs.Common.{refl, sym, subst, ◌∙◌, arith, inl, Err, ap}
+use Rattle.std.proofs.Common.{refl, sym, subst, ◌∙◌, arith, inl}
 use Rattle.outside.proofs.Moments.{leaves_also, leaves_then}
-use Rattle.log_file.proofs.Exits.{on_each, no_error, fault_not_wrong, fault_counts, stop_counts, answer_counts, answer_still, counts_on, same_stop}
+use Rattle.log_file.proofs.Exits.{on_each, fault_counts, stop_counts, answer_counts, answer_still, counts_on, damage_also, in_log_also}
 use Rattle.log_file.proofs.Front.{on_same}
 use Rattle.log_file.proofs.Judging.{kept_limit_is}
-use Rattle.log_file.proofs.Settling.{others_kept, durable_on, told_settled, told_moments, read_only, wrong_on, told_log, told_at_rest, told_rests, others_on}
+use Rattle.log_file.proofs.Settling.{others_kept, durable_on, told_settled, told_moments, read_only, told_log, told_at_rest, told_rests, others_on}
 use Rattle.outside.specs.Disk.{IsOnlyRead}
 use Rattle.log_file.proofs.opening.open.Goals as goal
 
@@ -70,7 +70,7 @@ pub returns-in-Err-clause-there : goal.returns-in-Err-clause-there
 returns-in-Err-clause-there g c = tt
 
 pub returns-in-Err-clause-not_a_store : goal.returns-in-Err-clause-not_a_store
-returns-in-Err-clause-not_a_store g c = on_each (g.D.Disk.reads_as c.args.disk.now) _ (λ _ e. absurd (fault_not_wrong e))
+returns-in-Err-clause-not_a_store g c = tt
 
 pub returns-in-Err-clause-at_rest : goal.returns-in-Err-clause-at_rest
 returns-in-Err-clause-at_rest g c = on_each (g.D.Disk.reads_as c.args.disk.now) _ (λ _ _. c.in-Err.ensures.same)
@@ -79,7 +79,7 @@ pub returns-in-Err-clause-unwritten : goal.returns-in-Err-clause-unwritten
 returns-in-Err-clause-unwritten g c = λ _. c.in-Err.ensures.same
 
 pub returns-in-Err-clause-only_read : goal.returns-in-Err-clause-only_read
-returns-in-Err-clause-only_read g c = λ e. absurd (fault_not_wrong e)
+returns-in-Err-clause-only_read g c = tt
 
 pub returns-in-Err-clause-no_log : goal.returns-in-Err-clause-no_log
 returns-in-Err-clause-no_log g c =
@@ -111,7 +111,7 @@ pub returns-in-Err-read_log-clause-there : goal.returns-in-Err-read_log-clause-t
 returns-in-Err-read_log-clause-there g c = tt
 
 pub returns-in-Err-read_log-clause-not_a_store : goal.returns-in-Err-read_log-clause-not_a_store
-returns-in-Err-read_log-clause-not_a_store g c = wrong_on _ _ _ _ _ (λ e. ap Err (same_stop _ _ e)) c.in-Ok.ensures.same c.in-Err-read_log.ensures.not_a_store
+returns-in-Err-read_log-clause-not_a_store g c = in_log_also _ _ _ _ c.in-Err-read_log.stop (λ at wrong. on_same _ _ _ c.in-Ok.ensures.same wrong) c.in-Err-read_log.ensures.not_a_store
 
 pub returns-in-Err-read_log-clause-at_rest : goal.returns-in-Err-read_log-clause-at_rest
 returns-in-Err-read_log-clause-at_rest g c = on_each (g.D.Disk.reads_as c.args.disk.now) _ (λ _ _. c.in-Err-read_log.ensures.as_before.reads ∙ c.in-Ok.ensures.same)
@@ -120,8 +120,10 @@ pub returns-in-Err-read_log-clause-unwritten : goal.returns-in-Err-read_log-clau
 returns-in-Err-read_log-clause-unwritten g c = λ _. c.in-Err-read_log.ensures.as_before.reads ∙ c.in-Ok.ensures.same
 
 pub returns-in-Err-read_log-clause-only_read : goal.returns-in-Err-read_log-clause-only_read
-returns-in-Err-read_log-clause-only_read g c =
-    λ _. read_only g.D.Disk.reads_as g.D.Disk.images g.D.Disk.moment g.D.Disk.left_since _ _ _ c.in-Ok.ensures.same c.in-Ok.ensures.images c.in-Ok.ensures.moments c.in-Err-read_log.ensures.as_before
+returns-in-Err-read_log-clause-only_read g c = 
+    damage_also _ _ c.in-Err-read_log.stop (λ _ _.
+    read_only g.D.Disk.reads_as g.D.Disk.images g.D.Disk.moment g.D.Disk.left_since _ _ _ c.in-Ok.ensures.same c.in-Ok.ensures.images c.in-Ok.ensures.moments c.in-Err-read_log.ensures.as_before)
+    c.in-Err-read_log.ensures.not_a_store
 
 pub returns-in-Err-read_log-clause-no_log : goal.returns-in-Err-read_log-clause-no_log
 returns-in-Err-read_log-clause-no_log g c =
@@ -155,7 +157,7 @@ pub returns-in-Err-mend-clause-there : goal.returns-in-Err-mend-clause-there
 returns-in-Err-mend-clause-there g c = tt
 
 pub returns-in-Err-mend-clause-not_a_store : goal.returns-in-Err-mend-clause-not_a_store
-returns-in-Err-mend-clause-not_a_store g c = on_each (g.D.Disk.reads_as c.args.disk.now) _ (λ _ e. absurd (fault_not_wrong e))
+returns-in-Err-mend-clause-not_a_store g c = tt
 
 pub returns-in-Err-mend-clause-at_rest : goal.returns-in-Err-mend-clause-at_rest
 returns-in-Err-mend-clause-at_rest g c = told_at_rest _ _ _ _ _ c.in-Ok.ensures.same (c.in-Ok-read_log.ensures.as_before.reads ∙ c.in-Ok.ensures.same) c.in-Ok-read_log.ensures.ends c.mend.ensures.at_rest
@@ -164,7 +166,7 @@ pub returns-in-Err-mend-clause-unwritten : goal.returns-in-Err-mend-clause-unwri
 returns-in-Err-mend-clause-unwritten g c = λ other. absurd (other refl)
 
 pub returns-in-Err-mend-clause-only_read : goal.returns-in-Err-mend-clause-only_read
-returns-in-Err-mend-clause-only_read g c = λ e. absurd (fault_not_wrong e)
+returns-in-Err-mend-clause-only_read g c = tt
 
 pub returns-in-Err-mend-clause-no_log : goal.returns-in-Err-mend-clause-no_log
 returns-in-Err-mend-clause-no_log g c = told_log _ _ _ _ _ _ c.in-Ok.ensures.same c.in-Ok-read_log.ensures.opened
@@ -195,10 +197,10 @@ pub returns-in-Ok-mend-clause-unwritten : goal.returns-in-Ok-mend-clause-unwritt
 returns-in-Ok-mend-clause-unwritten g c = tt
 
 pub returns-in-Ok-mend-clause-not_a_store : goal.returns-in-Ok-mend-clause-not_a_store
-returns-in-Ok-mend-clause-not_a_store g c = on_each (g.D.Disk.reads_as c.args.disk.now) _ (λ _ e. absurd (no_error _ _ e))
+returns-in-Ok-mend-clause-not_a_store g c = tt
 
 pub returns-in-Ok-mend-clause-only_read : goal.returns-in-Ok-mend-clause-only_read
-returns-in-Ok-mend-clause-only_read g c = λ e. absurd (no_error _ _ e)
+returns-in-Ok-mend-clause-only_read g c = tt
 
 pub returns-in-Ok-mend-clause-no_log : goal.returns-in-Ok-mend-clause-no_log
 returns-in-Ok-mend-clause-no_log g c = told_log _ _ _ _ _ _ c.in-Ok.ensures.same c.in-Ok-read_log.ensures.opened

@@ -1,15 +1,16 @@
-use Rattle.std.proofs.Common.{Err, ap, arith}
+use Rattle.std.proofs.Common.{arith}
 use Rattle.std.specs.Prelude.{IfSome}
 use Rattle.log_file.specs.Grammar.{blocks_with}
-use Rattle.log_file.proofs.Exits.{on_each, no_error, stop_counts, answer_counts, answer_still, counts_on, as_before_then, same_stop}
+use Rattle.log_file.proofs.Exits.{on_each, stop_counts, answer_counts, answer_still, counts_on, as_before_then, in_log_also}
 use Rattle.log_file.proofs.Whole.{IsRead, told_read, told_wrong_blocks, told_opened, told_ends, told_gate, told_wrong_front}
 use Rattle.log_file.proofs.opening.read_log.Goals as goal
 
 pub returns-in-Err-read_blocks-clause-not_a_store : goal.returns-in-Err-read_blocks-clause-not_a_store
-returns-in-Err-read_blocks-clause-not_a_store g c =
+returns-in-Err-read_blocks-clause-not_a_store g c = 
     let front = c.in-Ok.ensures in
-    told_wrong_blocks _ _ c.in-Ok.head.0 c.args.len c.new-reader.result c.read_head.new.reader (blocks_with (g.V.Visitor.visited c.read_head.new.visitor) c.in-Ok.head.1.entries) _ _
-    (λ e. ap Err (same_stop _ _ e)) front.as_before.reads c.requires.len c.new-reader.ensures.reading front.found (c.in-Err-read_blocks.ensures.wrong c.in-Ok.head.0)
+    in_log_also _ _ _ _ c.in-Err-read_blocks.stop (λ at wrong.
+    told_wrong_blocks _ _ c.in-Ok.head.0 c.args.len c.new-reader.result c.read_head.new.reader (blocks_with (g.V.Visitor.visited c.read_head.new.visitor) c.in-Ok.head.1.entries) at
+    front.as_before.reads c.requires.len c.new-reader.ensures.reading front.start front.found wrong) c.in-Err-read_blocks.ensures.wrong
 
 all_read : (g : _) (c : goal.After-drop-reader-inside-2 g) → IfSome (g.D.Disk.reads_as c.args.disk.now) (λ image. IsRead image.log c.in-Ok.head.0 c.read_blocks.new.reader
     (blocks_with (g.V.Visitor.visited c.read_blocks.new.visitor) c.read_blocks.new.tree.entries))
@@ -48,8 +49,8 @@ pub returns-in-Err-clause-place : goal.returns-in-Err-clause-place
 returns-in-Err-clause-place g c = tt
 
 pub returns-in-Err-clause-not_a_store : goal.returns-in-Err-clause-not_a_store
-returns-in-Err-clause-not_a_store g c =
-    told_wrong_front _ _ _ _ _ (λ e. ap Err (same_stop _ _ e)) c.requires.len c.new-reader.ensures.reading c.in-Err.ensures.wrong
+returns-in-Err-clause-not_a_store g c = 
+    in_log_also _ _ _ _ c.in-Err.stop (λ at wrong. told_wrong_front _ _ _ at c.requires.len c.new-reader.ensures.reading wrong) c.in-Err.ensures.wrong
 
 pub returns-in-Err-clause-as_before : goal.returns-in-Err-clause-as_before
 returns-in-Err-clause-as_before g c = c.in-Err.ensures.as_before
@@ -79,7 +80,7 @@ pub returns-in-Err-read_blocks-clause-cause : goal.returns-in-Err-read_blocks-cl
 returns-in-Err-read_blocks-clause-cause g c = counts_on _ _ _ (answer_still _ _ _ _ c.in-Ok.ensures.cause) (stop_counts _ _ _ _ c.in-Err-read_blocks.ensures.cause)
 
 pub returns-clause-not_a_store : goal.returns-clause-not_a_store
-returns-clause-not_a_store g c = on_each (g.D.Disk.reads_as c.args.disk.now) _ (λ _ e. absurd (no_error _ _ e))
+returns-clause-not_a_store g c = tt
 
 pub returns-clause-as_before : goal.returns-clause-as_before
 returns-clause-as_before g c = as_before_then g.D.Disk.reads_as g.D.Disk.images g.D.Disk.moment g.D.Disk.left_since _ _ _ c.in-Ok.ensures.as_before c.in-Ok-read_blocks.ensures.as_before

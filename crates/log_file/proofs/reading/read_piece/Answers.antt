@@ -1,5 +1,5 @@
 use Rattle.std.proofs.Common.{refl}
-use Rattle.log_file.proofs.Exits.{on_each, not_called, no_fault_counts, memory_not_fault, fault_is_no_wrong, memory_is_no_wrong, fault_counts, answer_counts}
+use Rattle.log_file.proofs.Exits.{on_each, not_called, no_fault_counts, memory_not_fault, fault_counts, answer_counts}
 use Rattle.log_file.proofs.reading.read_piece.Goals as goal
 
 pub returns-in-Err-clause-fits : goal.returns-in-Err-clause-fits
@@ -15,7 +15,7 @@ pub returns-in-Err-read_after-clause-bytes : goal.returns-in-Err-read_after-clau
 returns-in-Err-read_after-clause-bytes g c = on_each (g.D.Disk.reads_as c.args.disk.now) _ (λ _ _. tt)
 
 pub returns-in-Err-clause-reads : goal.returns-in-Err-clause-reads
-returns-in-Err-clause-reads g c = memory_is_no_wrong
+returns-in-Err-clause-reads g c = tt
 
 pub returns-in-Err-clause-cause : goal.returns-in-Err-clause-cause
 returns-in-Err-clause-cause g c = no_fault_counts _ memory_not_fault
@@ -24,7 +24,7 @@ pub returns-in-Err-read_after-clause-as_before : goal.returns-in-Err-read_after-
 returns-in-Err-read_after-clause-as_before g c = c.in-Err-read_after.ensures.as_before
 
 pub returns-in-Err-read_after-clause-reads : goal.returns-in-Err-read_after-clause-reads
-returns-in-Err-read_after-clause-reads g c = fault_is_no_wrong
+returns-in-Err-read_after-clause-reads g c = tt
 
 pub returns-in-Err-read_after-clause-cause : goal.returns-in-Err-read_after-clause-cause
 returns-in-Err-read_after-clause-cause g c = fault_counts _ _ _ _ c.in-Err-read_after.ensures.cause

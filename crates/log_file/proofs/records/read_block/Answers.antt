@@ -1,9 +1,9 @@
-use Rattle.std.proofs.Common.{ℕ, ◌+◌, length, Err, refl, sym, ap, ◌∙◌, subst, arith}
+use Rattle.std.proofs.Common.{ℕ, ◌+◌, length, refl, sym, ap, ◌∙◌, subst, arith}
 use Rattle.log_file.specs.Grammar.{record_of, blocks_with, IsGrownBy}
 use Rattle.chain_tree.specs.Told.{blocks_of}
 use Rattle.std.proofs.lemmas.List.{length_push}
 use Rattle.log_file.proofs.Pieces.{told_passed_block, told_wrong_block, still_reading}
-use Rattle.log_file.proofs.Exits.{on_each, told_also, no_answer, no_error, not_yes, same_stop, stop_counts, answer_counts, answer_still, no_fault_behind}
+use Rattle.log_file.proofs.Exits.{on_each, told_also, no_answer, not_yes, same_stop, stop_counts, answer_counts, answer_still, no_fault_behind, no_damage, at_place}
 use Rattle.log_file.proofs.records.read_block.Goals as goal
 
 pub returns-in-Err-clause-at : goal.returns-in-Err-clause-at
@@ -61,7 +61,7 @@ pub returns-in-Err-put-clause-as_before : goal.returns-in-Err-put-clause-as_befo
 returns-in-Err-put-clause-as_before g c = c.in-Ok.ensures.as_before
 
 pub returns-in-Err-clause-wrong : goal.returns-in-Err-clause-wrong
-returns-in-Err-clause-wrong g c = on_each (g.D.Disk.reads_as c.args.disk.now) _ (λ _ _ e. absurd (c.in-Err.ensures.reads (same_stop _ _ e)))
+returns-in-Err-clause-wrong g c = no_damage _ c.in-Err.stop c.in-Err.ensures.reads
 
 pub returns-in_default-clause-at : goal.returns-in_default-clause-at
 returns-in_default-clause-at g c = λ e. absurd (not_yes e)
@@ -82,7 +82,7 @@ pub returns-in_default-clause-as_before : goal.returns-in_default-clause-as_befo
 returns-in_default-clause-as_before g c = c.in-Ok.ensures.as_before
 
 pub returns-in_default-clause-wrong : goal.returns-in_default-clause-wrong
-returns-in_default-clause-wrong g c = on_each (g.D.Disk.reads_as c.args.disk.now) _ (λ _ _ e. absurd (no_error _ _ e))
+returns-in_default-clause-wrong g c = tt
 
 pub returns-clause-stays : goal.returns-clause-stays
 returns-clause-stays g c = λ e. absurd (not_yes (sym e))
@@ -94,7 +94,7 @@ pub returns-clause-byte : goal.returns-clause-byte
 returns-clause-byte g c = on_each (g.D.Disk.reads_as c.args.disk.now) _ (λ _ _ e. absurd (not_yes (sym e)))
 
 pub returns-clause-wrong : goal.returns-clause-wrong
-returns-clause-wrong g c = on_each (g.D.Disk.reads_as c.args.disk.now) _ (λ _ _ e. absurd (no_error _ _ e))
+returns-clause-wrong g c = tt
 
 pub returns-clause-as_before : goal.returns-clause-as_before
 returns-clause-as_before g c = c.in-Ok.ensures.as_before
@@ -137,9 +137,10 @@ pub returns-in_default-clause-byte : goal.returns-in_default-clause-byte
 returns-in_default-clause-byte g c = told_also _ (g.D.Disk.reads_as c.args.disk.now) _ _ c.in-Ok.ensures.byte
 
 pub returns-in-Err-put-clause-wrong : goal.returns-in-Err-put-clause-wrong
-returns-in-Err-put-clause-wrong g c =
-    told_wrong_block _ _ (blocks_of (g.V.Visitor.visited c.args.visitor.now)) c.args.reader.now c.fill_record.new.self (record_of c.in-Some.kind c.in-Some.body.now) c.ahead.result.now
-    c.ahead.ensures c.in-Some.ensures.found (λ e. c.in-Err-put.ensures.wrong (ap Err (same_stop _ _ e))) c.in-Ok.ensures.found
+returns-in-Err-put-clause-wrong g c = 
+    at_place _ _ _ _ c.in-Err-put.stop (λ wrong.
+    told_wrong_block _ (blocks_of (g.V.Visitor.visited c.args.visitor.now)) c.args.reader.now c.fill_record.new.self (record_of c.in-Some.kind c.in-Some.body.now) c.ahead.result.now
+    c.at-place.result c.ahead.ensures c.in-Some.ensures.found wrong (c.at-place.ensures.value ∙ c.fill_record.ensures.at.at) c.in-Ok.ensures.found) c.in-Err-put.ensures.wrong
 
 pub returns-clause-found : goal.returns-clause-found
 returns-clause-found g c =

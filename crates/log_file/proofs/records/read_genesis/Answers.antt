@@ -1,7 +1,8 @@
-use Rattle.std.proofs.Common.{ℕ, ◌+◌, length, ap, ◌∙◌, subst, arith}
+use Rattle.std.proofs.Common.{ℕ, ◌+◌, length, refl, ap, ◌∙◌, subst, arith}
+use Rattle.log_defs.specs.Log.{is_genesis}
 use Rattle.log_file.specs.Grammar.{record_of, blocks_with, IsGenesisOf}
-use Rattle.log_file.proofs.Pieces.{told_passed, told_here, still_reading}
-use Rattle.log_file.proofs.Exits.{on_each, no_error, same_stop, stop_counts, answer_counts, answer_still, no_fault_behind, wrong_not_fault}
+use Rattle.log_file.proofs.Pieces.{told_passed, told_other, told_missing, still_reading}
+use Rattle.log_file.proofs.Exits.{on_each, same_stop, stop_counts, answer_counts, answer_still, no_fault_behind, wrong_not_fault, no_damage, at_place}
 use Rattle.log_file.proofs.records.read_genesis.Goals as goal
 
 pub returns-in-Err-clause-at : goal.returns-in-Err-clause-at
@@ -38,7 +39,7 @@ pub returns-in-Err-clause-as_before : goal.returns-in-Err-clause-as_before
 returns-in-Err-clause-as_before g c = c.in-Err.ensures.as_before
 
 pub returns-in-Err-clause-wrong : goal.returns-in-Err-clause-wrong
-returns-in-Err-clause-wrong g c = on_each (g.D.Disk.reads_as c.args.disk.now) _ (λ _ _ e. absurd (c.in-Err.ensures.reads (same_stop _ _ e)))
+returns-in-Err-clause-wrong g c = no_damage _ c.in-Err.stop c.in-Err.ensures.reads
 
 pub returns-in_default-clause-reading : goal.returns-in_default-clause-reading
 returns-in_default-clause-reading g c = c.in-Ok.ensures.reading
@@ -56,7 +57,7 @@ pub returns-clause-as_before : goal.returns-clause-as_before
 returns-clause-as_before g c = c.in-Ok.ensures.as_before
 
 pub returns-clause-wrong : goal.returns-clause-wrong
-returns-clause-wrong g c = on_each (g.D.Disk.reads_as c.args.disk.now) _ (λ _ _ e. absurd (no_error _ _ e))
+returns-clause-wrong g c = tt
 
 pub returns-in-Err-clause-cause : goal.returns-in-Err-clause-cause
 returns-in-Err-clause-cause g c = stop_counts _ _ _ _ c.in-Err.ensures.cause
@@ -72,7 +73,7 @@ returns-clause-found g c =
     c.in-Ok.ensures.found
 
 pub returns-in_default-clause-cause : goal.returns-in_default-clause-cause
-returns-in_default-clause-cause g c = no_fault_behind _ _ (answer_still _ _ _ _ c.in-Ok.ensures.cause) wrong_not_fault
+returns-in_default-clause-cause g c = no_fault_behind _ _ (answer_still _ _ _ _ c.in-Ok.ensures.cause) (wrong_not_fault _)
 
 pub returns-in-Err-begin-clause-cause : goal.returns-in-Err-begin-clause-cause
 returns-in-Err-begin-clause-cause g c = no_fault_behind _ _ (answer_still _ _ _ _ c.in-Ok.ensures.cause) (λ e. c.in-Err-begin.ensures.reads (same_stop _ _ e))
@@ -93,6 +94,14 @@ pub returns-clause-blocks : goal.returns-clause-blocks
 returns-clause-blocks g c = c.in-Ok-begin.ensures.blocks
 
 pub returns-in-Err-begin-clause-wrong : goal.returns-in-Err-begin-clause-wrong
-returns-in-Err-begin-clause-wrong g c =
-    told_here _ _ _ c.args.reader.now c.fill_record.new.self (record_of c.in-Some.kind c.in-Some.body.now) c.ahead.result.now c.ahead.ensures c.in-Some.ensures.found
-    c.in-Err-begin.ensures.wrong c.in-Ok.ensures.found
+returns-in-Err-begin-clause-wrong g c = 
+    at_place _ _ _ _ c.in-Err-begin.stop (λ wrong.
+    told_other _ is_genesis c.args.reader.now c.fill_record.new.self (record_of c.in-Some.kind c.in-Some.body.now) c.ahead.result.now c.at-place.result c.ahead.ensures
+    c.in-Some.ensures.found wrong (c.at-place.ensures.value ∙ c.fill_record.ensures.at.at) c.in-Ok.ensures.found) c.in-Err-begin.ensures.wrong
+
+pub returns-in_default-clause-wrong : goal.returns-in_default-clause-wrong
+returns-in_default-clause-wrong g c = record {
+  area = refl;
+  at = told_missing _ is_genesis c.args.reader.now c.fill_record.new.self c.ahead.result.now c.at-place.result c.ahead.ensures
+      c.in_default.ensures.found (c.at-place.ensures.value ∙ c.fill_record.ensures.at.at) c.in-Ok.ensures.found;
+}

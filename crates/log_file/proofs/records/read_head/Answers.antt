@@ -1,23 +1,25 @@
 use Rattle.std.proofs.Common.{Err, ap}
 use Rattle.log_file.specs.Grammar.{blocks_with}
-use Rattle.log_file.proofs.Exits.{on_each, no_error, stop_counts, answer_counts, answer_still, counts_on, as_before_then, same_stop}
+use Rattle.log_file.proofs.Exits.{on_each, stop_counts, answer_counts, answer_still, counts_on, as_before_then, in_log_also}
 use Rattle.log_file.proofs.Front.{told_wrong_start, told_wrong_spec, told_wrong_genesis, told_begun}
 use Rattle.log_file.proofs.records.read_head.Goals as goal
 
 pub returns-in-Err-clause-wrong : goal.returns-in-Err-clause-wrong
-returns-in-Err-clause-wrong g c = told_wrong_start _ c.args.reader.now _ _ (λ e. ap Err (same_stop _ _ e)) c.in-Err.ensures.wrong
+returns-in-Err-clause-wrong g c = in_log_also _ _ _ _ c.in-Err.stop (λ at wrong. told_wrong_start _ c.args.reader.now at wrong) c.in-Err.ensures.wrong
 
 pub returns-in-Err-read_spec-clause-wrong : goal.returns-in-Err-read_spec-clause-wrong
-returns-in-Err-read_spec-clause-wrong g c =
+returns-in-Err-read_spec-clause-wrong g c = 
     let start = c.in-Ok.ensures in
-    told_wrong_spec _ _ c.args.reader.now c.read_start.new.reader _ _ (λ e. ap Err (same_stop _ _ e)) start.as_before.reads start.at.at start.reading c.in-Err-read_spec.ensures.wrong
+    in_log_also _ _ _ _ c.in-Err-read_spec.stop (λ at wrong.
+    told_wrong_spec _ _ c.args.reader.now c.read_start.new.reader at start.as_before.reads start.at.at start.found start.reading wrong) c.in-Err-read_spec.ensures.wrong
 
 pub returns-in-Err-read_genesis-clause-wrong : goal.returns-in-Err-read_genesis-clause-wrong
-returns-in-Err-read_genesis-clause-wrong g c =
+returns-in-Err-read_genesis-clause-wrong g c = 
     let start = c.in-Ok.ensures in
     let one = c.in-Ok-read_spec.ensures in
-    told_wrong_genesis _ _ _ c.in-Ok-read_spec.spec c.args.reader.now c.read_start.new.reader c.read_spec.new.reader _ _ (λ e. ap Err (same_stop _ _ e)) start.as_before.reads one.as_before.reads
-    start.at.at start.reading one.reading one.found c.in-Err-read_genesis.ensures.wrong
+    in_log_also _ _ _ _ c.in-Err-read_genesis.stop (λ at wrong.
+    told_wrong_genesis _ _ _ c.in-Ok-read_spec.spec c.args.reader.now c.read_start.new.reader c.read_spec.new.reader at start.as_before.reads one.as_before.reads
+    start.at.at start.found start.reading one.reading one.found wrong) c.in-Err-read_genesis.ensures.wrong
 
 pub returns-in-Ok-read_genesis-clause-found : goal.returns-in-Ok-read_genesis-clause-found
 returns-in-Ok-read_genesis-clause-found g c =
@@ -88,7 +90,7 @@ returns-in-Ok-read_genesis-clause-cause g c =
     (counts_on _ _ _ (answer_still _ _ _ _ c.in-Ok-read_spec.ensures.cause) (answer_counts _ _ _ _ (answer_still _ _ _ _ c.in-Ok-read_genesis.ensures.cause)))
 
 pub returns-in-Ok-read_genesis-clause-wrong : goal.returns-in-Ok-read_genesis-clause-wrong
-returns-in-Ok-read_genesis-clause-wrong g c = on_each (g.D.Disk.reads_as c.args.disk.now) _ (λ _ _ e. absurd (no_error _ _ e))
+returns-in-Ok-read_genesis-clause-wrong g c = tt
 
 pub returns-in-Err-clause-blocks : goal.returns-in-Err-clause-blocks
 returns-in-Err-clause-blocks g c = tt

@@ -1,13 +1,16 @@
-use Rattle.std.proofs.Common.{length, ap, ◌∙◌, arith, rules}
+use Rattle.std.proofs.Common.{length, refl, ap, ◌∙◌, arith, rules}
+use Rattle.log_defs.specs.Log.{is_specification}
 use Rattle.log_file.specs.Grammar.{record_of}
-use Rattle.log_file.proofs.Exits.{on_each, no_error, same_stop, stop_counts, answer_counts, answer_still, no_fault_behind, wrong_not_fault}
-use Rattle.log_file.proofs.Pieces.{told_passed, told_here, still_reading}
+use Rattle.log_file.proofs.Exits.{on_each, stop_counts, answer_counts, answer_still, no_fault_behind, wrong_not_fault, no_damage}
+use Rattle.log_file.proofs.Pieces.{told_passed, told_other, told_missing, still_reading}
 use Rattle.log_file.proofs.records.read_spec.Goals as goal
 
 pub returns-in_default-spec_of-clause-wrong : goal.returns-in_default-spec_of-clause-wrong
-returns-in_default-spec_of-clause-wrong g c =
-    told_here _ _ _ c.args.reader.now c.fill_record.new.self (record_of c.in-Some.kind c.in-Some.body.now) c.ahead.result.now c.ahead.ensures c.in-Some.ensures.found
-    (λ e. search rules) c.in-Ok.ensures.found
+returns-in_default-spec_of-clause-wrong g c = record {
+  area = refl;
+  at = told_other _ is_specification c.args.reader.now c.fill_record.new.self (record_of c.in-Some.kind c.in-Some.body.now) c.ahead.result.now c.at-place.result c.ahead.ensures
+      c.in-Some.ensures.found (c.in_default-spec_of.ensures.wrong) (c.at-place.ensures.value ∙ c.fill_record.ensures.at.at) c.in-Ok.ensures.found;
+}
 
 pub returns-clause-found : goal.returns-clause-found
 returns-clause-found g c =
@@ -39,7 +42,7 @@ pub returns-in-Err-clause-as_before : goal.returns-in-Err-clause-as_before
 returns-in-Err-clause-as_before g c = c.in-Err.ensures.as_before
 
 pub returns-in-Err-clause-wrong : goal.returns-in-Err-clause-wrong
-returns-in-Err-clause-wrong g c = on_each (g.D.Disk.reads_as c.args.disk.now) _ (λ _ _ e. absurd (c.in-Err.ensures.reads (same_stop _ _ e)))
+returns-in-Err-clause-wrong g c = no_damage _ c.in-Err.stop c.in-Err.ensures.reads
 
 pub returns-in_default-clause-reading : goal.returns-in_default-clause-reading
 returns-in_default-clause-reading g c = c.in-Ok.ensures.reading
@@ -57,7 +60,7 @@ pub returns-clause-as_before : goal.returns-clause-as_before
 returns-clause-as_before g c = c.in-Ok.ensures.as_before
 
 pub returns-clause-wrong : goal.returns-clause-wrong
-returns-clause-wrong g c = on_each (g.D.Disk.reads_as c.args.disk.now) _ (λ _ _ e. absurd (no_error _ _ e))
+returns-clause-wrong g c = tt
 
 pub returns-in-Err-clause-cause : goal.returns-in-Err-clause-cause
 returns-in-Err-clause-cause g c = stop_counts _ _ _ _ c.in-Err.ensures.cause
@@ -66,10 +69,10 @@ pub returns-clause-cause : goal.returns-clause-cause
 returns-clause-cause g c = answer_counts _ _ _ _ (answer_still _ _ _ _ c.in-Ok.ensures.cause)
 
 pub returns-in_default-clause-cause : goal.returns-in_default-clause-cause
-returns-in_default-clause-cause g c = no_fault_behind _ _ (answer_still _ _ _ _ c.in-Ok.ensures.cause) wrong_not_fault
+returns-in_default-clause-cause g c = no_fault_behind _ _ (answer_still _ _ _ _ c.in-Ok.ensures.cause) (wrong_not_fault _)
 
 pub returns-in_default-spec_of-clause-cause : goal.returns-in_default-spec_of-clause-cause
-returns-in_default-spec_of-clause-cause g c = no_fault_behind _ _ (answer_still _ _ _ _ c.in-Ok.ensures.cause) wrong_not_fault
+returns-in_default-spec_of-clause-cause g c = no_fault_behind _ _ (answer_still _ _ _ _ c.in-Ok.ensures.cause) (wrong_not_fault _)
 
 pub skip-requires : goal.skip-requires
 skip-requires g c = omega (arith, c.in-Some.ensures.within, ap length c.ahead.ensures)
@@ -79,3 +82,10 @@ returns-clause-reading g c = still_reading (g.D.Disk.reads_as c.args.disk.now) _
 
 pub returns-clause-at : goal.returns-clause-at
 returns-clause-at g c = (c.skip.ensures.at.len ∙ c.fill_record.ensures.at.len, omega (arith, c.skip.ensures.at.at, c.fill_record.ensures.at.at, c.in-Some.ensures.fits))
+
+pub returns-in_default-clause-wrong : goal.returns-in_default-clause-wrong
+returns-in_default-clause-wrong g c = record {
+  area = refl;
+  at = told_missing _ is_specification c.args.reader.now c.fill_record.new.self c.ahead.result.now c.at-place.result c.ahead.ensures
+      c.in_default.ensures.found (c.at-place.ensures.value ∙ c.fill_record.ensures.at.at) c.in-Ok.ensures.found;
+}

@@ -1,11 +1,13 @@
-use Rattle.std.proofs.Common.{sym, ◌∙◌, rules}
-use Rattle.log_file.proofs.Pieces.{told_start, told_no_start}
-use Rattle.log_file.proofs.Exits.{on_each, told_first, not_called, no_error, same_stop, no_fault_counts, stop_counts, answer_counts, answer_still, wrong_not_fault, counts_on}
+use Rattle.std.proofs.Common.{refl, sym, ◌∙◌, rules}
+use Rattle.log_file.proofs.Pieces.{told_start, told_no_start, told_short_start}
+use Rattle.log_file.proofs.Exits.{on_each, told_first, not_called, no_fault_counts, stop_counts, answer_counts, answer_still, wrong_not_fault, counts_on, no_damage}
 use Rattle.log_file.proofs.records.read_start.Goals as goal
 
 pub returns-then-not-is_start-clause-wrong : goal.returns-then-not-is_start-clause-wrong
-returns-then-not-is_start-clause-wrong g c =
-    told_no_start _ c.args.reader.now c.fill.new.self c.ahead.result.now _ c.fill.ensures.at c.requires c.ahead.ensures (sym c.is_start.ensures.value ∙ search rules) c.in-Ok.ensures.reading
+returns-then-not-is_start-clause-wrong g c = record {
+  area = refl;
+  at = told_no_start _ c.args.reader.now c.fill.new.self c.ahead.result.now c.fill.ensures.at c.requires c.ahead.ensures (sym c.is_start.ensures.value ∙ search rules) c.in-Ok.ensures.reading;
+}
 
 pub returns-clause-found : goal.returns-clause-found
 returns-clause-found g c =
@@ -30,10 +32,10 @@ pub returns-then-not-is_start-clause-found : goal.returns-then-not-is_start-clau
 returns-then-not-is_start-clause-found g c = on_each (g.D.Disk.reads_as c.args.disk.now) _ (λ _ _. tt)
 
 pub returns-then-left-lt8-clause-cause : goal.returns-then-left-lt8-clause-cause
-returns-then-left-lt8-clause-cause g c = no_fault_counts _ wrong_not_fault
+returns-then-left-lt8-clause-cause g c = no_fault_counts _ (wrong_not_fault _)
 
 pub returns-in-Err-clause-wrong : goal.returns-in-Err-clause-wrong
-returns-in-Err-clause-wrong g c = on_each (g.D.Disk.reads_as c.args.disk.now) _ (λ _ _ e. absurd (c.in-Err.ensures.reads (same_stop _ _ e)))
+returns-in-Err-clause-wrong g c = no_damage _ c.in-Err.stop c.in-Err.ensures.reads
 
 pub returns-in-Err-clause-as_before : goal.returns-in-Err-clause-as_before
 returns-in-Err-clause-as_before g c = c.in-Err.ensures.as_before
@@ -45,10 +47,10 @@ pub returns-then-not-is_start-clause-as_before : goal.returns-then-not-is_start-
 returns-then-not-is_start-clause-as_before g c = c.in-Ok.ensures.as_before
 
 pub returns-then-not-is_start-clause-cause : goal.returns-then-not-is_start-clause-cause
-returns-then-not-is_start-clause-cause g c = counts_on _ _ _ (answer_still _ _ _ _ c.in-Ok.ensures.cause) (no_fault_counts _ wrong_not_fault)
+returns-then-not-is_start-clause-cause g c = counts_on _ _ _ (answer_still _ _ _ _ c.in-Ok.ensures.cause) (no_fault_counts _ (wrong_not_fault _))
 
 pub returns-clause-wrong : goal.returns-clause-wrong
-returns-clause-wrong g c = on_each (g.D.Disk.reads_as c.args.disk.now) _ (λ _ _ e. absurd (no_error _ _ e))
+returns-clause-wrong g c = tt
 
 pub returns-clause-as_before : goal.returns-clause-as_before
 returns-clause-as_before g c = c.in-Ok.ensures.as_before
@@ -67,3 +69,6 @@ returns-in-Err-clause-reading g c = told_first (g.D.Disk.reads_as c.args.disk.no
 
 pub returns-then-not-is_start-clause-reading : goal.returns-then-not-is_start-clause-reading
 returns-then-not-is_start-clause-reading g c = told_first (g.D.Disk.reads_as c.args.disk.now) _ _ _ c.in-Ok.ensures.reading
+
+pub returns-then-left-lt8-clause-wrong : goal.returns-then-left-lt8-clause-wrong
+returns-then-left-lt8-clause-wrong g c = record { area = refl; at = told_short_start _ c.args.reader.now c.left.result c.requires c.left.ensures c.if-left-lt8.true }

@@ -1,7 +1,11 @@
-use Rattle.std.proofs.Common.{Err, refl, sym, ap, ◌∙◌}
+use Rattle.std.proofs.Common.{List, Err, refl, sym, ap, ◌∙◌, subst}
+use Rattle.std.specs.Prelude.{IfSome}
 use Rattle.outside.proofs.Moments.{now_too}
-use Rattle.log_file.proofs.Exits.{fault_counts, stop_counts, counts_on, fault_not_wrong, not_wrong, wrong_is_no_fault, memory_not_fault, answer_counts, answer_still}
-use Rattle.node_core.proofs.OpenLemmas.{leaves_synced, leaves_read, is_within, opened_read, not_sound, not_joined, one_after, opened_only, if_some_also, same_stop, ok_err, not_ok, counts_none}
+use Rattle.log_file.proofs.Exits.{fault_counts, stop_counts, counts_on, memory_not_fault, answer_counts, answer_still, damage_also, damage_named, named_no_fault, in_log_also}
+use Rattle.chain_tree.specs.declared.entry.Entry.{Entry}
+use Rattle.node_core.specs.Node.{KeptValue}
+use Rattle.node_core.specs.Opening.{NameItsBodies}
+use Rattle.node_core.proofs.OpenLemmas.{leaves_synced, leaves_read, is_within, opened_read, not_sound, none_from, names_its_bodies, unfit_from, not_joined, one_after, opened_only, if_some_also, same_stop, ok_err, not_ok, counts_none}
 use Rattle.node_core.proofs.node.read_store.Goals as goal
 
 pub open-requires : goal.open-requires
@@ -15,7 +19,7 @@ returns-in-Err-clause-left g c =
     leaves_synced g.D.Disk.reads_as g.D.Disk.images g.D.Disk.moment g.D.Disk.left_since _ _ c.in-Err.ensures.same c.in-Err.ensures.images c.in-Err.ensures.moments
 
 pub returns-in-Err-clause-not_a_store : goal.returns-in-Err-clause-not_a_store
-returns-in-Err-clause-not_a_store g c = λ e. absurd (fault_not_wrong e)
+returns-in-Err-clause-not_a_store g c = tt
 
 pub returns-in-Err-clause-cause : goal.returns-in-Err-clause-cause
 returns-in-Err-clause-cause g c = fault_counts _ _ _ _ c.in-Err.ensures.cause
@@ -26,8 +30,8 @@ returns-in-Err-open-clause-left g c =
     c.in-Ok.ensures.snap_a c.in-Ok.ensures.snap_b c.open.ensures.no_log c.open.ensures.rests c.open.ensures.moments c.open.ensures.others
 
 pub returns-in-Err-open-clause-not_a_store : goal.returns-in-Err-open-clause-not_a_store
-returns-in-Err-open-clause-not_a_store g c same =
-    not_sound _ _ c.in-Ok.ensures.same c.in-Err-open.ensures.not_a_store (ap Err (same_stop _ _ same))
+returns-in-Err-open-clause-not_a_store g c = 
+    damage_also _ _ c.in-Err-open.stop (λ damage wrong. not_sound _ _ damage.at c.in-Ok.ensures.same wrong.at) c.in-Err-open.ensures.not_a_store
 
 pub returns-in-Err-open-clause-cause : goal.returns-in-Err-open-clause-cause
 returns-in-Err-open-clause-cause g c = counts_on _ _ _ (c.in-Ok.ensures.cause.unchanged refl) (stop_counts _ _ _ _ c.in-Err-open.ensures.cause)
@@ -38,14 +42,15 @@ returns-in-Err-into_kept-clause-left g c =
     c.in-Ok.ensures.snap_a c.in-Ok.ensures.snap_b c.open.ensures.no_log c.open.ensures.rests c.open.ensures.moments c.open.ensures.others
 
 pub returns-in-Err-into_kept-clause-not_a_store : goal.returns-in-Err-into_kept-clause-not_a_store
-returns-in-Err-into_kept-clause-not_a_store g c same =
+returns-in-Err-into_kept-clause-not_a_store g c = 
+    damage_named _ _ c.in-Err-into_kept.stop (λ _ _.
     not_joined _ _ c.in-Ok-open.opened.spec c.open.new.visitor.stored c.in-Ok-open.opened.tree.entries c.in-Ok.ensures.same c.in-Ok-open.ensures.opened c.in-Ok-open.ensures.blocks
-    (λ rated counted. not_ok c.into_kept.result _ c.in-Err-into_kept.is (c.into_kept.ensures.right rated counted))
+    (λ rated counted. not_ok c.into_kept.result _ c.in-Err-into_kept.is (c.into_kept.ensures.right rated counted))) c.in-Err-into_kept.ensures.stop
 
 pub returns-in-Err-into_kept-clause-cause : goal.returns-in-Err-into_kept-clause-cause
-returns-in-Err-into_kept-clause-cause g c =
+returns-in-Err-into_kept-clause-cause g c = 
     counts_none _ _ _ (c.in-Ok.ensures.cause.unchanged refl) c.open.ensures.cause (λ fault. ok_err _ _ (sym c.in-Ok-open.is ∙ fault))
-    (λ fault. wrong_is_no_fault (sym c.in-Err-into_kept.ensures.stop ∙ same_stop _ _ fault))
+    (λ fault. named_no_fault _ c.in-Err-into_kept.stop c.in-Err-into_kept.ensures.stop (same_stop _ _ fault))
 
 pub returns-in-Err-new-clause-left : goal.returns-in-Err-new-clause-left
 returns-in-Err-new-clause-left g c =
@@ -53,7 +58,7 @@ returns-in-Err-new-clause-left g c =
     c.in-Ok.ensures.snap_a c.in-Ok.ensures.snap_b c.open.ensures.no_log c.open.ensures.rests c.open.ensures.moments c.open.ensures.others
 
 pub returns-in-Err-new-clause-not_a_store : goal.returns-in-Err-new-clause-not_a_store
-returns-in-Err-new-clause-not_a_store g c = λ e. absurd (not_wrong e)
+returns-in-Err-new-clause-not_a_store g c = tt
 
 pub returns-in-Err-new-clause-cause : goal.returns-in-Err-new-clause-cause
 returns-in-Err-new-clause-cause g c =
@@ -75,7 +80,7 @@ returns-in-Ok-new-clause-read g c =
     c.in-Ok-into_kept.kept.0 c.in-Ok-into_kept.ensures.kept c.in-Ok-new.cache c.in-Ok-new.ensures.empty c.in-Ok-open.opened.log.place c.in-Ok-into_kept.kept.1 _ _ c.in-Ok-open.ensures.settled
 
 pub returns-in-Ok-new-clause-not_a_store : goal.returns-in-Ok-new-clause-not_a_store
-returns-in-Ok-new-clause-not_a_store g c = λ e. absurd (ok_err _ _ e)
+returns-in-Ok-new-clause-not_a_store g c = tt
 
 pub returns-in-Ok-new-clause-one_image : goal.returns-in-Ok-new-clause-one_image
 returns-in-Ok-new-clause-one_image g c =
@@ -122,3 +127,41 @@ returns-in-Err-new-clause-room g c = tt
 
 pub returns-in-Ok-new-clause-room : goal.returns-in-Ok-new-clause-room
 returns-in-Ok-new-clause-room g c = c.in-Ok-new.ensures.most
+
+pub returns-in-Err-clause-damage : goal.returns-in-Err-clause-damage
+returns-in-Err-clause-damage g c = tt
+
+pub returns-in-Err-new-clause-damage : goal.returns-in-Err-new-clause-damage
+returns-in-Err-new-clause-damage g c = tt
+
+pub returns-in-Ok-new-clause-damage : goal.returns-in-Ok-new-clause-damage
+returns-in-Ok-new-clause-damage g c = tt
+
+pub returns-in-Err-clause-named : goal.returns-in-Err-clause-named
+returns-in-Err-clause-named g c = tt
+
+pub returns-in-Err-open-clause-named : goal.returns-in-Err-open-clause-named
+returns-in-Err-open-clause-named g c = tt
+
+pub returns-in-Err-into_kept-clause-named : goal.returns-in-Err-into_kept-clause-named
+returns-in-Err-into_kept-clause-named g c = tt
+
+pub returns-in-Err-new-clause-named : goal.returns-in-Err-new-clause-named
+returns-in-Err-new-clause-named g c = tt
+
+pub returns-in-Err-open-clause-damage : goal.returns-in-Err-open-clause-damage
+returns-in-Err-open-clause-damage g c = 
+    in_log_also _ _ _ _ c.in-Err-open.stop (λ at wrong. none_from _ _ at c.in-Ok.ensures.same wrong) c.in-Err-open.ensures.not_a_store
+
+pub returns-in-Err-into_kept-clause-damage : goal.returns-in-Err-into_kept-clause-damage
+returns-in-Err-into_kept-clause-damage g c = 
+    damage_named _ _ c.in-Err-into_kept.stop (λ damage unfit. record {
+      area = unfit.0;
+      at = unfit_from _ _ c.in-Ok-open.opened.spec c.open.new.visitor.stored c.in-Ok-open.opened.tree.entries c.in-Ok.ensures.same c.in-Ok-open.ensures.opened
+          c.in-Ok-open.ensures.blocks damage.at unfit.1;
+    }) c.in-Err-into_kept.ensures.stop
+
+pub returns-in-Ok-new-clause-named : goal.returns-in-Ok-new-clause-named
+returns-in-Ok-new-clause-named g c = 
+    subst (λ (es : List Entry). IfSome (g.D.Disk.reads_as c.args.disk.now) (λ now. NameItsBodies now.log es)) (ap (λ (k : KeptValue). k.entries) (sym c.in-Ok-into_kept.ensures.kept))
+    (names_its_bodies _ _ c.in-Ok-open.opened.spec c.open.new.visitor.stored c.in-Ok-open.opened.tree.entries c.in-Ok.ensures.same c.in-Ok-open.ensures.opened c.in-Ok-open.ensures.blocks)

@@ -1,11 +1,12 @@
-use Rattle.std.proofs.Common.{sym, ap, ◌∙◌, subst}
+use Rattle.std.proofs.Common.{refl, sym, ap, ◌∙◌, subst}
+use Rattle.std.specs.Prelude.{IsSome}
 use Rattle.outside.proofs.Endings.{after_still}
 use Rattle.chain_tree.specs.Entries.{TreeValue}
 use Rattle.chain_tree.specs.Reading.{stop_of}
 use Rattle.chain_tree.specs.Told.{blocks_of}
 use Rattle.block_store.specs.Held.{CacheValue}
 use Rattle.node_core.specs.Node.{KeptValue, HasOnlyRead}
-use Rattle.node_core.proofs.SourceLemmas.{kept-on, counts-blocks, tells-joined, has-looked}
+use Rattle.node_core.proofs.SourceLemmas.{kept-on, counts-blocks, tells-kept, tells-joined, has-looked}
 use Rattle.node_core.proofs.over_disk.moved.Goals as goal
 
 pub new-store-requires : goal.new-store-requires
@@ -54,3 +55,9 @@ returns-clause-steps g c = c.moved.ensures.steps
 
 pub returns-clause-most : goal.returns-clause-most
 returns-clause-most g c = c.moved.ensures.most
+
+pub returns-clause-at_record : goal.returns-clause-at_record
+returns-clause-at_record g c = λ told damage e.
+    let same = ap (λ (t : TreeValue). t.entries) c.new-store.ensures.tree ∙ ap (λ (v : KeptValue). v.entries) c.kept.view_is in
+    c.moved.ensures.at_record (subst IsSome (sym (tells-kept c.args.kept.now c.new-store.result.tree.now.entries c.args.cache.now.held (g.D.Disk.reads_as c.new-store.result.disk.now)
+    (g.D.Disk.reads_as c.args.disk.now) same (ap g.D.Disk.reads_as c.new-store.ensures.disk) c.requires.own told)) refl) damage e

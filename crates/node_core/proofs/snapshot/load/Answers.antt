@@ -22,3 +22,12 @@ returns-in-Some-clause-led g c = λ now told.
     ≤ c.args.steps.now + moves_by c.args.kept.now.chain.blocks now n))
     (sym (newest-at (g.D.Disk.reads_as c.args.disk.now) now c.in-Ok.found c.in-Some.area told c.in-Ok.ensures.newest c.in-Some.is))
     (c.load_from.ensures.led now ((g.met.D.Disk.content_rests c.args.disk.now c.newest_in.new.disk c.newest_in.ensures.content).reads ∙ told))
+
+pub returns-in-Err-clause-damage : goal.returns-in-Err-clause-damage
+returns-in-Err-clause-damage g c = λ now told damage e.
+    c.newest_in.ensures.damage c.args.kept.now.entries now told damage (c.in-Err.is ∙ ap Err (same_stop _ _ e))
+
+pub returns-in-Some-clause-damage : goal.returns-in-Some-clause-damage
+returns-in-Some-clause-damage g c = λ now told damage e.
+    c.load_from.ensures.damage now ((g.met.D.Disk.content_rests c.args.disk.now c.newest_in.new.disk c.newest_in.ensures.content).reads ∙ told)
+    (newest-at (g.D.Disk.reads_as c.args.disk.now) now c.in-Ok.found c.in-Some.area told c.in-Ok.ensures.newest c.in-Some.is) damage e

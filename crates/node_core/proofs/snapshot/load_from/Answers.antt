@@ -1,6 +1,6 @@
 use Rattle.std.proofs.Common.{Err, ap, ◌∙◌}
 use Rattle.log_file.proofs.Exits.{same_stop}
-use Rattle.node_core.proofs.LoadingLemmas.{loaded-within, loaded-cells, loaded-led, never-damaged}
+use Rattle.node_core.proofs.LoadingLemmas.{loaded-within, loaded-cells, loaded-led, never-closed, never-damaged, snapshot-damaged}
 use Rattle.node_core.proofs.snapshot.load_from.Goals as goal
 
 pub returns-in-Ok-Some-clause-within : goal.returns-in-Ok-Some-clause-within
@@ -19,3 +19,12 @@ pub returns-in-Err-clause-undamaged : goal.returns-in-Err-clause-undamaged
 returns-in-Err-clause-undamaged g c = λ now told is both joined damage e.
     never-damaged c.args.kept.now.chain c.args.area c.tree.result.now.entries (g.D.Disk.reads_as c.args.disk.now) now c.args.steps.now c.read.new.steps c.read.result damage
     c.tree.ensures.indexed c.tree.ensures.canonical joined.joined told is both c.read.ensures.snapshot (c.in-Err.is ∙ ap Err (same_stop _ _ e))
+
+pub returns-in-Err-clause-damage : goal.returns-in-Err-clause-damage
+returns-in-Err-clause-damage g c = λ now told is damage e.
+    snapshot-damaged c.args.area c.tree.result.now.entries c.args.kept.now.entries (g.D.Disk.reads_as c.args.disk.now) now c.args.steps.now c.read.new.steps c.read.result damage
+    c.tree.ensures.entries told is c.read.ensures.snapshot (c.in-Err.is ∙ ap Err (same_stop _ _ e))
+
+pub returns-in-Ok-None-clause-damage : goal.returns-in-Ok-None-clause-damage
+returns-in-Ok-None-clause-damage g c = λ now told is damage e.
+    absurd (never-closed c.args.area c.tree.result.now.entries (g.D.Disk.reads_as c.args.disk.now) now c.args.steps.now c.read.new.steps told is c.in-Ok-None.ensures.snapshot)

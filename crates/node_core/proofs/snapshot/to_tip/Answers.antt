@@ -1,9 +1,10 @@
-use Rattle.std.proofs.Common.{◌≡◌, ℕ, Err, Option, Some, refl, sym, ap, ◌∙◌, subst, arith}
+use Rattle.std.proofs.Common.{◌≡◌, ℕ, Err, Option, Some, refl, sym, ap, ◌∙◌, subst, inl, inr, arith}
 use Rattle.std.specs.Prelude.{IsSome}
 use Rattle.std.proofs.lemmas.Option.{same_Some}
 use Rattle.outside.specs.Image.{Image}
 use Rattle.cell_state.specs.State.{rows}
 use Rattle.chain_tree.proofs.BlockLemmas.{len-same}
+use Rattle.chain_tree.specs.Reading.{stop_of}
 use Rattle.log_file.proofs.Exits.{same_stop}
 use Rattle.reorg.specs.Moves.{AreOf}
 use Rattle.node_core.proofs.snapshot.to_tip.Goals as goal
@@ -20,3 +21,13 @@ returns-in-Ok-moved-clause-cells g c = λ now told areas joined first place at.
 pub returns-in-Err-moved-clause-undamaged : goal.returns-in-Err-moved-clause-undamaged
 returns-in-Err-moved-clause-undamaged g c = λ now told areas joined first damage e.
     c.moved.ensures.undamaged (subst IsSome (sym ((g.met.D.Disk.content_rests c.args.disk.now c.load.new.disk c.load.ensures.content).reads ∙ told)) refl) joined (c.in-Ok.ensures.cells now told areas first) damage (c.in-Err-moved.is ∙ ap Err (same_stop _ _ e))
+
+pub returns-in-Err-clause-damage : goal.returns-in-Err-clause-damage
+returns-in-Err-clause-damage g c = λ now told damage e.
+    inl (c.load.ensures.damage now told damage (c.in-Err.is ∙ ap Err (same_stop _ _ e)))
+
+pub returns-in-Err-moved-clause-damage : goal.returns-in-Err-moved-clause-damage
+returns-in-Err-moved-clause-damage g c = λ now told damage e.
+    let is = c.in-Err-moved.is ∙ ap Err (same_stop _ _ e) in
+    inr (c.moved.ensures.looked.damage damage (ap stop_of is),
+    c.moved.ensures.at_record (subst IsSome (sym ((g.met.D.Disk.content_rests c.args.disk.now c.load.new.disk c.load.ensures.content).reads ∙ told)) refl) damage is)

@@ -4,6 +4,8 @@ use Rattle.chain_tree.specs.Told.{blocks_of}
 use Rattle.codec_defs.specs.Schema.{Block}
 use Rattle.chain_defs.specs.Branch.{distance}
 use Rattle.cell_state.specs.State.{rows}
+use Rattle.chain_tree.specs.declared.entry.Entry.{Entry}
+use Rattle.reorg.specs.Damages.{IsAtRecord}
 use Rattle.reorg.specs.Moves.{AreOf}
 use Rattle.store_defs.specs.Store.{AreJoined}
 use Rattle.node_core.specs.Node.{KeptValue}
@@ -64,3 +66,8 @@ pub returns-clause-most : goal.returns-clause-most
 returns-clause-most g c =
     subst (λ (blocks : List Block). c.go_to.new.steps ≤ c.args.steps.now + distance blocks c.args.from c.args.to)
     (ap (λ (v : KeptValue). v.chain.blocks) c.self.view_is) (c.go_to.ensures.most (blocks_of c.self.inside.blocks.stored) c.self.invariant.indexed)
+
+pub returns-clause-at_record : goal.returns-clause-at_record
+returns-clause-at_record g c = λ told damage e.
+    let found = c.go_to.ensures.at_record (blocks_of c.self.inside.blocks.stored) c.self.invariant.indexed told damage e in
+    (found.0, subst (λ (entries : List Entry). IsAtRecord entries found.0 damage) (ap (λ (v : KeptValue). v.entries) c.self.view_is) found.1.1)

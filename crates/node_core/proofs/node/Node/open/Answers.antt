@@ -1,13 +1,13 @@
 use Rattle.std.proofs.Common.{Err, sym, ap, ◌∙◌}
 use Rattle.outside.proofs.Moments.{leaves_also}
-use Rattle.log_file.proofs.Exits.{stop_counts, answer_still}
+use Rattle.log_file.proofs.Exits.{stop_counts, answer_still, damage_also}
 use Rattle.node_core.specs.Node.{NodeValue}
 use Rattle.node_core.proofs.StayingLemmas.{not_stopped}
-use Rattle.node_core.proofs.OpenLemmas.{leaves_on, stands_while_opened, own_read, keeps_led, settled_led, own_led, one_still, sound_led, on_led, not_led, moved_to_open, led_counts, no_step, ok_err, same_stop}
+use Rattle.node_core.proofs.OpenLemmas.{leaves_on, stands_while_opened, own_read, keeps_led, settled_led, own_led, one_still, sound_led, on_led, not_led, cells_stopped, no_store_at, moved_to_open, led_counts, no_step, ok_err, same_stop}
 use Rattle.node_core.proofs.node.Node.open.Goals as goal
 
 pub returns-in-Err-clause-not_a_store : goal.returns-in-Err-clause-not_a_store
-returns-in-Err-clause-not_a_store g c same = c.in-Err.ensures.not_a_store (ap Err (same_stop _ _ same))
+returns-in-Err-clause-not_a_store g c = c.in-Err.ensures.not_a_store
 
 pub returns-in-Err-clause-left : goal.returns-in-Err-clause-left
 returns-in-Err-clause-left g c = c.read_store.ensures.left
@@ -57,7 +57,7 @@ returns-in-Ok-to_tip-clause-kept g c =
     c.read_store.ensures.left.others c.in-Ok.ensures.read c.in-Ok.ensures.cells
 
 pub returns-in-Ok-to_tip-clause-not_a_store : goal.returns-in-Ok-to_tip-clause-not_a_store
-returns-in-Ok-to_tip-clause-not_a_store g c = λ e. absurd (ok_err _ _ e)
+returns-in-Ok-to_tip-clause-not_a_store g c = tt
 
 pub returns-in-Ok-to_tip-clause-left : goal.returns-in-Ok-to_tip-clause-left
 returns-in-Ok-to_tip-clause-left g c =
@@ -107,11 +107,11 @@ returns-in-Ok-to_tip-clause-most g c =
     _ _ c.to_tip.ensures.most
 
 pub returns-in-Err-to_tip-clause-not_a_store : goal.returns-in-Err-to_tip-clause-not_a_store
-returns-in-Err-to_tip-clause-not_a_store g c same =
-    let found = c.stop_of_move.ensures.damaged (same_stop _ _ same) in
+returns-in-Err-to_tip-clause-not_a_store g c = 
+    damage_also _ _ c.stop_of_move.result (λ damage found.
     not_led g.D.Disk.reads_as g.D.Disk.images _ _ c.node.inside.kept c.node.inside.log.place c.node.inside.state c.node.inside.cache _ c.node.view_is
     c.read_store.ensures.left.others c.in-Ok.ensures.read c.in-Ok.ensures.cells
-    (λ there at areas joined cells. c.to_tip.ensures.undamaged there at areas joined cells found.0 (c.in-Err-to_tip.is ∙ ap Err found.1))
+    (λ there at areas joined cells. c.to_tip.ensures.undamaged there at areas joined cells damage (c.in-Err-to_tip.is ∙ ap Err found))) c.stop_of_move.ensures.damaged
 
 pub returns-in-Err-to_tip-clause-left : goal.returns-in-Err-to_tip-clause-left
 returns-in-Err-to_tip-clause-left g c =
@@ -171,3 +171,16 @@ returns-in-Err-to_tip-clause-room g c = tt
 
 pub returns-in-Ok-to_tip-clause-room : goal.returns-in-Ok-to_tip-clause-room
 returns-in-Ok-to_tip-clause-room g c = c.to_tip.ensures.room ∙ ap (λ (v : NodeValue). v.most) c.node.view_is ∙ c.in-Ok.ensures.room
+
+pub returns-in-Err-clause-damage : goal.returns-in-Err-clause-damage
+returns-in-Err-clause-damage g c = damage_also _ _ c.in-Err.stop (λ damage is. no_store_at _ damage is) c.in-Err.ensures.damage
+
+pub returns-in-Ok-to_tip-clause-damage : goal.returns-in-Ok-to_tip-clause-damage
+returns-in-Ok-to_tip-clause-damage g c = tt
+
+pub returns-in-Err-to_tip-clause-damage : goal.returns-in-Err-to_tip-clause-damage
+returns-in-Err-to_tip-clause-damage g c = 
+    damage_also _ _ c.stop_of_move.result (λ damage found.
+    cells_stopped g.D.Disk.reads_as g.D.Disk.images _ _ c.node.inside.kept c.node.inside.log.place c.node.inside.state c.node.inside.cache _ c.node.view_is
+    c.read_store.ensures.left.others c.in-Ok.ensures.read c.in-Ok.ensures.cells damage c.in-Ok.ensures.named
+    (λ there at. c.to_tip.ensures.damage there at damage (c.in-Err-to_tip.is ∙ ap Err found))) c.stop_of_move.ensures.damaged
