@@ -1,8 +1,9 @@
 // A block that is assembled.
-ghost use Rattle.std.specs.Prelude.{◌≡◌, ◌==◌, ◌<◌, ◌≤◌, ℕ, List, Option, length, map, is_some, if◌then◌else◌, Some, None, Err, IfOk, IsTrue};
+ghost use Rattle.std.specs.Prelude.{◌≡◌, ◌==◌, ◌<◌, ◌≤◌, ◌^◌, ℕ, List, Option, length, map, is_some, if◌then◌else◌, Some, None, Err, IfOk, IsTrue};
 ghost use Rattle.std.specs.List.{All, list_any};
 ghost use Rattle.outside.specs.declared.disk.Damage.{Damage};
 ghost use Rattle.outside.specs.declared.disk.ReadStop.TheVariants.{Damaged};
+ghost use Rattle.fold_defs.specs.Fold.{keep};
 ghost use Rattle.codec_defs.specs.Schema as schema;
 ghost use Rattle.codec_defs.specs.Shape.{IsA, encoded};
 ghost use Rattle.chain_defs.specs.Kept.{block_hash, kept_limit, place_of};
@@ -15,9 +16,11 @@ ghost use Rattle.block_defs.specs.Rules.{first_broken};
 ghost use Rattle.block_judge.specs.Standing.{StandsForAll, seen};
 ghost use Rattle.verdict_defs.specs.Chain.{verdict_over};
 ghost use Rattle.verdict_defs.specs.declared.verdict.Verdict.TheVariants.{Joined};
+ghost use Rattle.pool_defs.specs.Start as start;
 ghost use Rattle.pool_defs.specs.Assembly as pool;
 ghost use Rattle.pool_defs.specs.Laws.{breakable};
 ghost use Rattle.pool_defs.specs.Size.{most_items, most_bytes};
+ghost use Rattle.tx_pool.specs.Draft.{Fits, IsSoFar, draft_of};
 ghost use Rattle.tx_pool.specs.Assembling.{IsAssembled, IsMade, chain_on};
 
 use crate::cellbase::cellbase_after;
@@ -87,6 +90,56 @@ fn broken_by<C: Cells, B: Blocks>(
     }
 }
 
+/// The block so far once each item was taken, after this cellbase.
+fn filled<'c, 'a, C: Cells, B: Blocks>(
+    alloc: Global,
+    context: &Context<'c, C>,
+    blocks: &mut B,
+    cellbase: &'a [u8],
+    items: &'a [Vec<u8>],
+) -> Result<Draft<'c, 'a, C>, ReadStop>
+    requires placed { IsParent context.now.tree.now.entries context.now.parent }
+    requires counts { B.count blocks.old ≡ length context.now.tree.now.entries }
+    requires canonical { (t : schema.Transaction) × IsA schema.transaction cellbase.now t }
+    requires size { length cellbase.now < 2 ^ 30 }
+    requires items { length items.now ≤ most_items }
+    requires bytes { All (λ item. length item.items ≤ most_bytes) items.now }
+    ensures read { HasRead B.told B.count B.loans_of B.faults B.damages blocks.old blocks.new (stop_of result) }
+    ensures fits { IfOk result (λ draft. Fits (draft_of C.rows draft)) }
+    ensures taken { (stored : List Stored) (witness : schema.CellbaseWitness) → B.told blocks.old ≡ Some stored → StandsForAll stored (seen C.rows context.now)
+        → IsA schema.transaction cellbase.now (start.cellbase context.now.spec.now (branch (blocks_of stored) context.now.parent) witness)
+        → IfOk result (λ draft. IsSoFar stored (seen C.rows context.now)
+        (keep (pool.take_item context.now.spec.now (branch (blocks_of stored) context.now.parent))
+        (pool.start context.now.spec.now (branch (blocks_of stored) context.now.parent) witness) (map (λ item. item.items) items.now)) (draft_of C.rows draft)) }
+    ensures undamaged { (stored : List Stored) (witness : schema.CellbaseWitness) → B.told blocks.old ≡ Some stored → StandsForAll stored (seen C.rows context.now)
+        → IsA schema.transaction cellbase.now (start.cellbase context.now.spec.now (branch (blocks_of stored) context.now.parent) witness)
+        → (damage : Damage) → result ≡ Err (Damaged damage) → ⊥ }
+{
+    let height = context.tree.entry(context.parent).number + 1;
+    let proposed = match Proposed::of(
+        alloc,
+        context.spec,
+        context.tree,
+        blocks,
+        context.parent,
+        height,
+    ) {
+        Ok(proposed) => proposed,
+        Err(stop) => return Err(stop),
+    };
+    let mut draft = match Draft::start(alloc, context, cellbase) {
+        Ok(draft) => draft,
+        Err(_) => return Err(ReadStop::NoMemory),
+    };
+    match draft.take_items(alloc, context, blocks, &proposed, items) {
+        Ok(()) => Ok(draft),
+        Err(stop) => {
+            drop(draft);
+            Err(stop)
+        }
+    }
+}
+
 /// What becomes of each item, and the bytes of the block.
 fn make_block<C: Cells, B: Blocks>(
     alloc: Global,
@@ -119,29 +172,10 @@ fn make_block<C: Cells, B: Blocks>(
         Ok(cellbase) => cellbase,
         Err(stop) => return Err(stop),
     };
-    let height = context.tree.entry(context.parent).number + 1;
-    let proposed = match Proposed::of(
-        alloc,
-        context.spec,
-        context.tree,
-        blocks,
-        context.parent,
-        height,
-    ) {
-        Ok(proposed) => proposed,
+    let draft = match filled(alloc, context, blocks, &cellbase, items) {
+        Ok(draft) => draft,
         Err(stop) => return Err(stop),
     };
-    let mut draft = match Draft::start(alloc, context, &cellbase) {
-        Ok(draft) => draft,
-        Err(_) => return Err(ReadStop::NoMemory),
-    };
-    match draft.take_items(alloc, context, blocks, &proposed, items) {
-        Ok(()) => {}
-        Err(stop) => {
-            drop(draft);
-            return Err(stop);
-        }
-    }
     match sealed(
         alloc,
         context.spec,

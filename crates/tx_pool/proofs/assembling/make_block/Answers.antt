@@ -3,12 +3,9 @@ use Rattle.std.specs.Int.{w128}
 use Rattle.std.proofs.lemmas.Int.{to_z-of_z}
 use Rattle.codec_defs.specs.Shape.{encoded}
 use Rattle.codec_defs.specs.Schema as schema
-use Rattle.chain_defs.specs.Branch.{branch}
 use Rattle.chain_tree.specs.Told.{blocks_of}
 use Rattle.chain_tree.proofs.ReadLemmas.{read_on, read_short}
-use Rattle.tx_rules.proofs.BranchLemmas.{branch-long}
 use Rattle.block_judge.proofs.Exits.{as_step}
-use Rattle.block_judge.proofs.NextLemmas.{proposed-here}
 use Rattle.block_judge.specs.Standing.{seen}
 use Rattle.tx_pool.specs.Draft.{draft_of}
 use Rattle.tx_pool.proofs.AssemblingLemmas.{bytes-as, fills-with, made-of, small-witness}
@@ -17,37 +14,24 @@ use Rattle.tx_pool.proofs.assembling.make_block.Goals as goal
 pub cellbase_after-requires-clause-witness : goal.cellbase_after-requires-clause-witness
 cellbase_after-requires-clause-witness g c = small-witness (length (encoded schema.cellbase_witness c.args.witness.now)) c.requires.witness
 
-pub returns-in-Err-take_items-clause-read : goal.returns-in-Err-take_items-clause-read
-returns-in-Err-take_items-clause-read g c = read_on (read_on c.in-Ok.ensures.read c.in-Ok-of.ensures.read) c.in-Err-take_items.ensures.read
-
-pub returns-in-Err-take_items-clause-undamaged : goal.returns-in-Err-take_items-clause-undamaged
-returns-in-Err-take_items-clause-undamaged g c stored tells stands damage same =
-    let told = c.in-Ok.ensures.read.told ∙ tells in
-    let proposed = proposed-here c.args.context.now.spec.now (branch (blocks_of stored) c.args.context.now.parent) c.in-Ok-of.proposed _
-    (c.in-Ok-of.ensures.proposed stored told stands.stands.indexed)
-    (branch-long (blocks_of stored) c.args.context.now.tree.now.entries c.args.context.now.parent c.entry.result.now stands.stands.indexed c.entry.ensures.entry) in
-    let started = c.in-Ok-start.ensures.started stored c.args.witness.now stands.stands
-    (bytes-as schema.transaction c.in-Ok.cellbase.items c.deref.result.now _ c.deref.ensures.value (c.in-Ok.ensures.cellbase stored tells stands.stands.indexed stands.fees)) in
-    c.in-Err-take_items.ensures.undamaged stored _ (c.in-Ok-of.ensures.read.told ∙ told) proposed started damage (as_step same)
+pub returns-in-Err-filled-clause-undamaged : goal.returns-in-Err-filled-clause-undamaged
+returns-in-Err-filled-clause-undamaged g c stored tells stands damage same =
+    c.in-Err-filled.ensures.undamaged stored c.args.witness.now (c.in-Ok.ensures.read.told ∙ tells) stands
+    (bytes-as schema.transaction c.in-Ok.cellbase.items c.deref.result.now _ c.deref.ensures.value (c.in-Ok.ensures.cellbase stored tells stands.stands.indexed stands.fees)) damage (as_step same)
 
 pub returns-in-Ok-sealed-clause-read : goal.returns-in-Ok-sealed-clause-read
-returns-in-Ok-sealed-clause-read g c = read_on (read_on c.in-Ok.ensures.read c.in-Ok-of.ensures.read) c.in-Ok-take_items.ensures.read
+returns-in-Ok-sealed-clause-read g c = read_on c.in-Ok.ensures.read c.in-Ok-filled.ensures.read
 
 pub returns-in-Ok-sealed-clause-made : goal.returns-in-Ok-sealed-clause-made
 returns-in-Ok-sealed-clause-made g c stored tells stands =
-    let told = c.in-Ok.ensures.read.told ∙ tells in
-    let proposed = proposed-here c.args.context.now.spec.now (branch (blocks_of stored) c.args.context.now.parent) c.in-Ok-of.proposed _
-    (c.in-Ok-of.ensures.proposed stored told stands.stands.indexed)
-    (branch-long (blocks_of stored) c.args.context.now.tree.now.entries c.args.context.now.parent c.entry.result.now stands.stands.indexed c.entry.ensures.entry) in
-    let started = c.in-Ok-start.ensures.started stored c.args.witness.now stands.stands
+    let taken = c.in-Ok-filled.ensures.taken stored c.args.witness.now (c.in-Ok.ensures.read.told ∙ tells) stands
     (bytes-as schema.transaction c.in-Ok.cellbase.items c.deref.result.now _ c.deref.ensures.value (c.in-Ok.ensures.cellbase stored tells stands.stands.indexed stands.fees)) in
-    let taken = c.in-Ok-take_items.ensures.taken stored _ (c.in-Ok-of.ensures.read.told ∙ told) proposed started in
     made-of stored (seen g.C.Cells.rows c.args.context.now) c.args.witness.now (map (λ (item : Vec ℕ Global). item.items) c.args.items.now)
-    (draft_of g.C.Cells.rows c.take_items.new.self) c.in-Ok-sealed.block.items taken
+    (draft_of g.C.Cells.rows c.in-Ok-filled.draft) c.in-Ok-sealed.block.items taken
     (c.in-Ok-sealed.ensures.sealed (blocks_of stored) _ stands.stands.indexed
-    (fills-with stored (seen g.C.Cells.rows c.args.context.now) _ (draft_of g.C.Cells.rows c.take_items.new.self) c.deref-2.result.now c.deref-3.result.now taken
+    (fills-with stored (seen g.C.Cells.rows c.args.context.now) _ (draft_of g.C.Cells.rows c.in-Ok-filled.draft) c.deref-2.result.now c.deref-3.result.now taken
     c.deref-2.ensures.value c.deref-3.ensures.value)
-    (record { interest_is = to_z-of_z w128 c.take_items.new.self.interest (search rules) ∙ taken.moved.interest_is; freed_is = taken.moved.freed_is }))
+    (record { interest_is = to_z-of_z w128 c.in-Ok-filled.draft.interest (search rules) ∙ taken.moved.interest_is; freed_is = taken.moved.freed_is }))
 
 pub returns-clause-read : goal.returns-clause-read
-returns-clause-read g c = read_short (read_on (read_on c.in-Ok.ensures.read c.in-Ok-of.ensures.read) c.in-Ok-take_items.ensures.read)
+returns-clause-read g c = read_short (read_on c.in-Ok.ensures.read c.in-Ok-filled.ensures.read)
