@@ -97,13 +97,21 @@ fn event_at<'a>(
     Some(Event::Makes(out_point, made))
 }
 
+/// The hash at a place.
+fn hash_at(hashes: &[[u8; 32]], place: usize) -> [u8; 32]
+    requires { place < length hashes.now }
+    ensures { slice_get hashes.now place ≡ Some result }
+{
+    hashes[place]
+}
+
 /// The hash of the transaction at a place of a block.
 fn hash_of(block: &BlockView<'_>, hashes: &[[u8; 32]], tx: &TxView<'_>, place: usize) -> [u8; 32]
     requires hashes { hashes.now ≡ map transaction_hash block.now.transactions }
     requires there { slice_get block.now.transactions place ≡ Some tx.now }
     ensures { result ≡ transaction_hash tx.now }
 {
-    hashes[place]
+    hash_at(hashes, place)
 }
 
 /// The events of a block that are still to come. Clauses see their list.

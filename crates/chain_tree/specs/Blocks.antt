@@ -27,7 +27,7 @@ AreRated entries = (place : ℕ) (entry : Entry) → entry_at entries place ≡ 
 
 -- What a caller sees to, of an entry on which a block or a transaction is judged: it is there, heights are numbers of 24 bits, and the DAO fields
 -- are rated.
-pub record IsParent (entries : List Entry) (parent : ℕ) : Type 0 where
-  pub parent : parent < length entries
+pub record IsParent (entries : List Entry) (place : ℕ) : Type 0 where
+  pub parent : place < length entries
   pub few : length entries < 2 ^ 24
   pub rated : AreRated entries

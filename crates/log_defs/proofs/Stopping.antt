@@ -22,13 +22,13 @@ then_blocks kept place r records found = elim found [
 ]
 
 -- after records that are not wrong
-pub stops_behind : (kept : List Block) (place : ℕ) (records more : List Record) (all : List Block) → blocks_over kept records ≡ Some all
+pub stops_after : (kept : List Block) (place : ℕ) (records more : List Record) (all : List Block) → blocks_over kept records ≡ Some all
     → length kept + length records ≤ record_limit + 1 → stop_of_blocks kept place (records ++ more) ≡ stop_of_blocks all (place + length (all_record_bytes records)) more
-stops_behind kept place [] more all over few =
+stops_after kept place [] more all over few =
     let same : kept ≡ all = (cc) in
     ap (λ (l : List Block). stop_of_blocks l place more) same ∙ ap (λ (n : ℕ). stop_of_blocks all n more) (omega arith)
-stops_behind kept place (r ∷ records) more all over few =
-    by_found (λ x. stops_behind (kept ++ x ∷ []) (place + length (record_bytes r)) records more all) (block_of_record kept r) refl over
+stops_after kept place (r ∷ records) more all over few =
+    by_found (λ x. stops_after (kept ++ x ∷ []) (place + length (record_bytes r)) records more all) (block_of_record kept r) refl over
   where
     room : leb (length kept) record_limit ≡ true
     room = le-leb (length kept) record_limit (omega (arith, few))
@@ -121,7 +121,7 @@ stops_past (one ∷ two ∷ records) more log says = by_test (are_first one two 
         omega (arith, one_genesis two.body good, leb-true (length records) record_limit room) in
         past_specification 8 one (two ∷ (records ++ more)) kinds.0
         ∙ past_genesis (8 + length (record_bytes one)) two (records ++ more) second
-        ∙ stops_behind (blocks_of_item two.body) (8 + length (record_bytes one) + length (record_bytes two)) records more blocks is few
+        ∙ stops_after (blocks_of_item two.body) (8 + length (record_bytes one) + length (record_bytes two)) records more blocks is few
         ∙ ap (λ (n : ℕ). stop_of_blocks blocks n more) size
         ∙ ap (λ (l : LogContent). stop_of_blocks l.blocks (8 + length (all_record_bytes (one ∷ two ∷ records))) more) same
 

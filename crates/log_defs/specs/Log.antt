@@ -131,7 +131,7 @@ abbrev pub is_genesis : Record → Bool
 is_genesis r = (r.kind == 2) && is_none (broken_genesis_rule r.body)
 
 -- Records stand one after the other from a place on. They stop being those of a log at the body of the first that may not stand where it does, or after
--- them, where one that is missing should begin.
+-- the last, where one that is missing should begin.
 
 -- records of blocks, after those of these blocks
 abbrev pub stop_of_blocks : List Block → ℕ → List Record → ℕ

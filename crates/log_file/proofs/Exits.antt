@@ -1,6 +1,6 @@
 -- What a function's clauses say where it ends.
 use Rattle.std.proofs.Common.{◌≡◌, ℕ, Bool, true, false, List, Result, Ok, Err, Option, Some, None, refl, sym, ap, ◌∙◌, subst, arith}
-use Rattle.std.specs.Prelude.{IfSome}
+use Rattle.std.specs.Prelude.{IfSome, IfErr}
 use Rattle.outside.specs.declared.disk.Damage.{Damage}
 use Rattle.outside.specs.Causes.{Rose, HasCause, CountsFault}
 use Rattle.outside.specs.Image.{Image}
@@ -133,6 +133,14 @@ damage_also P Q NoMemory also is = tt
 
 pub no_damage : (Q : Damage → Type 0) (stop : LogStop) → OfDamage (λ _. ⊥) stop → OfDamage Q stop
 no_damage Q stop none = damage_also (λ _. ⊥) Q stop (λ _ never. absurd never) none
+
+-- a stop that is converted
+pub damage_same : {T : Type 0} (result : Result T LogStop) (stop : LogStop) (Q : Damage → Type 0)
+    → ((damage : Damage) → result ≡ Err (NotAStore damage) → stop ≡ NotAStore damage) → OfDamage Q stop → IfErr result (OfDamage Q)
+damage_same (Ok value) stop Q same is = tt
+damage_same (Err DiskFault) stop Q same is = tt
+damage_same (Err (NotAStore damage)) stop Q same is = subst (OfDamage Q) (same damage refl) is
+damage_same (Err NoMemory) stop Q same is = tt
 
 -- a stop that names damage
 pub damage_named : (P Q : Damage → Type 0) (stop : LogStop) → ((damage : Damage) → P damage → Q damage) → IsDamage P stop → OfDamage Q stop

@@ -16,8 +16,8 @@ use Rattle.chain_tree.specs.declared.entry.Entry.{Entry}
 use Rattle.chain_tree.specs.Blocks.{IndexesBlocks}
 use Rattle.chain_tree.specs.Told.{Stored, blocks_of}
 use Rattle.genesis_defs.specs.Genesis.{is_first, genesis_rules, broken_by, broken_genesis_rule}
-use Rattle.log_defs.specs.Log.{record_limit}
-use Rattle.log_file.specs.Grammar.{record_of, is_genesis, AreBlocks}
+use Rattle.log_defs.specs.Log.{record_limit, is_genesis}
+use Rattle.log_file.specs.Grammar.{record_of, AreBlocks}
 
 pub limit_is : record_limit ≡ 999999
 unfolding record_limit kept_limit

@@ -315,11 +315,7 @@ pub no_genesis : (log : List ℕ) (spec : Specification) (first second : ReaderV
     → IsOtherHere log is_genesis second at → IsNoContentFrom log at
 no_genesis log spec first second at start one wrong = by_found (record_at (drop second.at log)) refl wrong
   where
-    next : ℕ
-    next = 8 + length (record_bytes one.r)
-
-    there : second.at ≡ next
-    unfolding next
+    there : second.at ≡ 8 + length (record_bytes one.r)
     there = omega (arith, one.at.at, start)
 
     all : records_of (drop 8 log) ≡ (one.r ∷ []) ++ records_of (drop second.at log)
@@ -328,7 +324,6 @@ no_genesis log spec first second at start one wrong = by_found (record_at (drop 
         ∙ ap (λ (n : ℕ). one.r ∷ records_of (drop n log)) (sym one.at.at)
 
     by_found : (o : Option Record) → record_at (drop second.at log) ≡ o → IsOther is_genesis second.at at o → IsNoContentFrom log at
-    unfolding next
     by_found None is here =
         let none : records_of (drop 8 log) ≡ one.r ∷ [] = split_end (records_of (drop 8 log)) (one.r ∷ []) log second.at all is in
         record {
@@ -341,16 +336,16 @@ no_genesis log spec first second at start one wrong = by_found (record_at (drop 
         record {
           none = ap content_of_records split ∙ not_next one.r r more here.0;
           stops = here.1 ∙ ap (λ (n : ℕ). n + 6) there
-              ∙ sym (ap (stop_of_records 8) split ∙ past_specification 8 one.r (r ∷ more) one.is.0 ∙ at_genesis next r more here.0);
+              ∙ sym (ap (stop_of_records 8) split ∙ past_specification 8 one.r (r ∷ more) one.is.0 ∙ at_genesis (8 + length (record_bytes one.r)) r more here.0);
         }
 
 -- ---- The whole log
 
 pub no_content : (log : List ℕ) (at : ℕ) → take 8 log ≡ magic → IsNoContentFrom log at → IsNoLogFrom log at
 unfolding log_of
-no_content log at begins no = record {
-  none = ap (λ (o : Option LogContent). cond (bytes_eq (take 8 log) magic) o None) no.none ∙ if_none (bytes_eq (take 8 log) magic);
-  stops = no.stops ∙ sym (stops_in_records log begins);
+no_content log at begins nothing = record {
+  none = ap (λ (o : Option LogContent). cond (bytes_eq (take 8 log) magic) o None) nothing.none ∙ if_none (bytes_eq (take 8 log) magic);
+  stops = nothing.stops ∙ sym (stops_in_records log begins);
 }
 
 pub no_start : (log : List ℕ) (at : ℕ) → (take 8 log ≡ magic → ⊥) × (at ≡ 0) → IsNoLogFrom log at

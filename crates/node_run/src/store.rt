@@ -23,12 +23,12 @@ use std::sync::ledger::Ledger;
 /// The status of a stop of opening.
 fn status_of_opening(stop: LogStop) -> Status
     ensures one_of { IsOneOf opening_stops result }
-    ensures none { (result ≡ Status.NotAStore) ↔ (stop ≡ LogStop.NotAStore) }
+    ensures none { (result ≡ Status.NotAStore) ↔ ((damage : Damage) × (stop ≡ LogStop.NotAStore damage)) }
     ensures fault { (result ≡ Status.DiskFault) ↔ (stop ≡ LogStop.DiskFault) }
 {
     match stop {
         LogStop::DiskFault => Status::DiskFault,
-        LogStop::NotAStore => Status::NotAStore,
+        LogStop::NotAStore(_) => Status::NotAStore,
         LogStop::NoMemory => Status::NoMemory,
     }
 }

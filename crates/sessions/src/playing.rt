@@ -116,7 +116,7 @@ fn end_of_opening(stop: LogStop) -> End
 {
     match stop {
         LogStop::DiskFault => End::DiskFault,
-        LogStop::NotAStore => End::NoMemory,
+        LogStop::NotAStore(_) => End::NoMemory,
         LogStop::NoMemory => End::NoMemory,
     }
 }

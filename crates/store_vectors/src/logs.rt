@@ -5,7 +5,7 @@ use crate::forms::are_bytes;
 use chain_tree::{Entry, Tree};
 use log_file::{Body, LogStop, Visitor, append, create, open};
 use mol_schema::BlockView;
-use outside::{Area, Disk, NoMemory, WriteStop};
+use outside::{Area, Damage, Disk, NoMemory, WriteStop};
 use outside_mem::MemDisk;
 use row_table::Row;
 use std::alloc::Global;
@@ -167,7 +167,10 @@ fn opened(alloc: Global, disk: &mut MemDisk) -> Result<(u64, u64), LogStop> {
     let mut shown = Shown::none(alloc);
     let found = open(alloc, disk, &mut shown)?;
     if !are_shown(&found.tree, &shown.entries) {
-        return Err(LogStop::NotAStore);
+        return Err(LogStop::NotAStore(Damage {
+            area: Area::Log,
+            at: found.log.place,
+        }));
     }
     Ok((shown.blocks.len() as u64, found.log.place))
 }
@@ -180,7 +183,9 @@ pub(crate) fn agrees_on_open(alloc: Global, disk: &mut MemDisk, row: &mut Row) -
                 && row.number()? == place
                 && row.number()? == byte_at(disk, place)?,
         ),
-        Err(LogStop::NotAStore) => Some(row.word() == "not_a_store"),
+        Err(LogStop::NotAStore(damage)) => {
+            Some(row.word() == "not_a_store" && is_at(damage, row.number()?))
+        }
         Err(LogStop::DiskFault) => Some(row.word() == "disk_fault"),
         Err(LogStop::NoMemory) => None,
     }
@@ -221,7 +226,7 @@ pub(crate) fn agrees_on_prefixes(alloc: Global, bytes: &[u8], row: &mut Row) -> 
     Some(true)
 }
 
-/// The count of the blocks and where the records end, with a comma between, or `not_a_store`.
+/// The count of the blocks and where the records end, or `not_a_store` and the place, with a comma between.
 fn agrees_on_prefix(alloc: Global, bytes: &[u8], wanted: &str) -> Option<bool> {
     let mut disk = MemDisk::new(alloc, Vec::new(alloc));
     let placed = put(&mut disk, bytes);
@@ -230,9 +235,21 @@ fn agrees_on_prefix(alloc: Global, bytes: &[u8], wanted: &str) -> Option<bool> {
     placed?;
     match found {
         Ok(found) => Some(pair_of(wanted) == Some(found)),
-        Err(LogStop::NotAStore) => Some(wanted == "not_a_store"),
+        Err(LogStop::NotAStore(damage)) => {
+            let (word, place) = wanted.split_once(',')?;
+            Some(word == "not_a_store" && is_at(damage, place.parse().ok()?))
+        }
         Err(_) => None,
     }
+}
+
+/// Whether LOG is damaged at this place.
+fn is_at(damage: Damage, place: u64) -> bool {
+    damage
+        == Damage {
+            area: Area::Log,
+            at: place,
+        }
 }
 
 fn pair_of(column: &str) -> Option<(u64, u64)> {

@@ -5,14 +5,14 @@ use Rattle.std.proofs.lemmas.Option.{same_Some, slice_get_within, slice_get-map}
 use Rattle.chain_defs.specs.Hashes.{transaction_hash}
 use Rattle.cell_state.proofs.events.hash_of.Goals as goal
 
-pub index_bounds : goal.index_bounds
-index_bounds c =
+pub hash_at-requires : goal.hash_at-requires
+hash_at-requires c =
     let within = slice_get_within c.args.block.now.transactions c.args.place c.args.tx.now c.requires.there in
     let long = length-map c.args.block.now.transactions transaction_hash in
     omega (arith, within, long, ap length c.requires.hashes)
 
 pub returns : goal.returns
 returns c =
-    same_Some c.index.result (transaction_hash c.args.tx.now)
-    (c.index.ensures ∙ ap (λ (hashes : List (List ℕ)). slice_get hashes c.args.place) c.requires.hashes
+    same_Some c.hash_at.result (transaction_hash c.args.tx.now)
+    (sym c.hash_at.ensures ∙ ap (λ (hashes : List (List ℕ)). slice_get hashes c.args.place) c.requires.hashes
     ∙ slice_get-map transaction_hash c.args.block.now.transactions c.args.place ∙ ap (option_map transaction_hash) c.requires.there)

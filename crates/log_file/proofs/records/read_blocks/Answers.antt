@@ -1,16 +1,17 @@
 use Rattle.std.proofs.Common.{◌≡◌, Ok, true, false, ap, arith, rules}
 use Rattle.std.proofs.lemmas.Grind.{common_steps}
 use Rattle.log_file.specs.Grammar.{blocks_with}
-use Rattle.log_file.proofs.Exits.{in_log_also}
+use Rattle.log_file.proofs.Exits.{damage_same, in_log_also}
 use Rattle.log_file.proofs.Progress.{with_each, told_wrong, told_more, told_all}
 use Rattle.log_file.proofs.records.read_blocks.Goals as goal
 
 pub returns-in_err-read_block-clause-wrong : goal.returns-in_err-read_block-clause-wrong
 returns-in_err-read_block-clause-wrong g c = 
-    in_log_also _ _ _ _ _ (λ at wrong. with_each _ _ (λ spec.
+    damage_same c.from_residual.result c.in_err-read_block.field-0.0 _ (λ damage e. search rules)
+    (in_log_also _ _ _ _ c.in_err-read_block.field-0.0 (λ at wrong. with_each _ _ (λ spec.
     told_wrong spec c.args.reader.now c.records.reader (blocks_with (g.V.Visitor.visited c.args.visitor.now) c.args.tree.now.entries)
     (blocks_with (g.V.Visitor.visited c.records.visitor) c.records.tree.entries) _ _ at c.records.invariant.as_before.reads (c.records.invariant.told spec) wrong))
-    c.in_err-read_block.ensures.wrong
+    c.in_err-read_block.ensures.wrong)
 
 pub records-preserved : goal.records-preserved
 records-preserved g c =

@@ -1,4 +1,4 @@
-use Rattle.std.proofs.Common.{length, refl, ap, ◌∙◌, arith, rules}
+use Rattle.std.proofs.Common.{◌≡◌, false, length, refl, ap, ◌∙◌, arith, rules}
 use Rattle.log_defs.specs.Log.{is_specification}
 use Rattle.log_file.specs.Grammar.{record_of}
 use Rattle.log_file.proofs.Exits.{on_each, stop_counts, answer_counts, answer_still, no_fault_behind, wrong_not_fault, no_damage}
@@ -6,10 +6,11 @@ use Rattle.log_file.proofs.Pieces.{told_passed, told_other, told_missing, still_
 use Rattle.log_file.proofs.records.read_spec.Goals as goal
 
 pub returns-in_default-spec_of-clause-wrong : goal.returns-in_default-spec_of-clause-wrong
-returns-in_default-spec_of-clause-wrong g c = record {
+returns-in_default-spec_of-clause-wrong g c =
+  let wrong : is_specification (record_of c.in-Some.kind c.in-Some.body.now) ≡ false = search rules in record {
   area = refl;
   at = told_other _ is_specification c.args.reader.now c.fill_record.new.self (record_of c.in-Some.kind c.in-Some.body.now) c.ahead.result.now c.at-place.result c.ahead.ensures
-      c.in-Some.ensures.found (c.in_default-spec_of.ensures.wrong) (c.at-place.ensures.value ∙ c.fill_record.ensures.at.at) c.in-Ok.ensures.found;
+      c.in-Some.ensures.found wrong (c.at-place.ensures.value ∙ c.fill_record.ensures.at.at) c.in-Ok.ensures.found;
 }
 
 pub returns-clause-found : goal.returns-clause-found

@@ -1,8 +1,10 @@
 use Rattle.std.proofs.Common.{ap, subst}
-use Rattle.std.specs.Prelude.{Err}
+use Rattle.std.specs.Prelude.{Err, IfSome}
 use Rattle.outside.specs.declared.disk.Area.TheVariants.{Log}
 use Rattle.node_core.proofs.KeepingLemmas.{known_as_before}
 use Rattle.outside.proofs.Endings.{no_fault, counts-as, no_answer}
+use Rattle.log_file.specs.Stops.{OfDamage}
+use Rattle.store_defs.specs.Store.{IsSound}
 use Rattle.report_defs.specs.Status.{IsOneOf}
 use Rattle.node_run.specs.Store.{opening_stops}
 use Rattle.node_run.proofs.Exits.{same_stop}
@@ -66,3 +68,8 @@ returns-in-Ok-clause-settled g c = c.in-Ok.ensures.settled
 
 pub returns-in-Err-clause-settled : goal.returns-in-Err-clause-settled
 returns-in-Err-clause-settled g c = tt
+
+pub returns-in-Err-clause-not_a_store : goal.returns-in-Err-clause-not_a_store
+returns-in-Err-clause-not_a_store g c = λ e.
+    let found = c.status_of_opening.ensures.none.0 (same_stop _ _ e) in
+    subst (OfDamage (λ _. IfSome (g.D.Disk.reads_as c.args.disk.now) (λ now. IsSound now → ⊥))) found.1 c.in-Err.ensures.not_a_store

@@ -65,8 +65,8 @@ returns-in-Ok-apply g c = record {
   most = let one = c.in-Ok-apply.ensures.steps in omega (arith, one);
 }
 
-pub returns-in-Err-apply : goal.returns-in-Err-apply
-returns-in-Err-apply g c = record {
+pub returns : goal.returns
+returns g c = record {
   read = read_wrong c.damage_at.result refl c.damage_at.ensures.area c.in-Ok.ensures.read;
   rows = λ stored b tells there. tt;
   fit = λ stored b tells there. tt;

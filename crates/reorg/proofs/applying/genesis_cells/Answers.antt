@@ -36,8 +36,8 @@ returns-in-Ok-genesis g c = record {
   undamaged = λ stored tells damage same. no_answer _ _ same;
 }
 
-pub returns-in-Err-genesis : goal.returns-in-Err-genesis
-returns-in-Err-genesis g c = record {
+pub returns : goal.returns
+returns g c = record {
   read = read_short c.in-Ok.ensures.read;
   rows = λ stored tells indexes. tt;
   undamaged = λ stored tells damage same. memory_undamaged damage same;
