@@ -35,7 +35,7 @@ stops_after kept place (r ∷ records) more all over few =
 
     by_found : ((x : Block) → blocks_over (kept ++ x ∷ []) records ≡ Some all → length (kept ++ x ∷ []) + length records ≤ record_limit + 1
         → stop_of_blocks (kept ++ x ∷ []) (place + length (record_bytes r)) (records ++ more)
-            ≡ stop_of_blocks all (place + length (record_bytes r) + length (all_record_bytes records)) more)
+        ≡ stop_of_blocks all (place + length (record_bytes r) + length (all_record_bytes records)) more)
         → (o : Option Block) → block_of_record kept r ≡ o → option_and_then (λ x. blocks_over (kept ++ x ∷ []) records) o ≡ Some all
         → stop_of_blocks kept place ((r ∷ records) ++ more) ≡ stop_of_blocks all (place + length (all_record_bytes (r ∷ records))) more
     by_found again None is over = absurd (cc)
@@ -115,7 +115,7 @@ stops_past (one ∷ two ∷ records) more log says = by_test (are_first one two 
         let same : record { specification = one.body; genesis = two.body; records = records; blocks = blocks } ≡ log = (cc) in
         let good : is_none (broken_genesis_rule two.body) ≡ true = good_genesis one two first in
         let kinds = and_parts (is_specification one) (two.kind == 2)
-            (and_parts (is_specification one && (two.kind == 2)) (is_none (broken_genesis_rule two.body)) first).0 in
+        (and_parts (is_specification one && (two.kind == 2)) (is_none (broken_genesis_rule two.body)) first).0 in
         let second : is_genesis two ≡ true = and_from (two.kind == 2) (is_none (broken_genesis_rule two.body)) kinds.1 good in
         let few : length (blocks_of_item two.body) + length records ≤ record_limit + 1 =
         omega (arith, one_genesis two.body good, leb-true (length records) record_limit room) in

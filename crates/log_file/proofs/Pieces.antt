@@ -208,18 +208,24 @@ pub told_no_start : (reads : Option Image) (old mid : ReaderValue) (bytes : List
     → bytes_eq (take 8 bytes) magic ≡ false → IfSome reads (λ image. IsReading image.log old → IsReading image.log mid × (8 ≤ length mid.ahead))
     → IfSome reads (λ image. IsReading image.log old → (take 8 image.log ≡ magic → ⊥) × ◌≡◌ {A = ℕ} 0 0)
 told_no_start None old mid bytes at start is other read = tt
-told_no_start (Some image) old mid bytes at start is other read = λ reading. (λ begins.
-    let same : take 8 bytes ≡ magic = ap (take 8) is ∙ start_same image.log old mid at start (read reading).0 (read reading).1 ∙ begins in
-    let both : true ≡ false = sym ((bytes_decides (take 8 bytes) magic).1 same) ∙ other in
-    absurd (cc), refl)
+told_no_start (Some image) old mid bytes at start is other read = λ reading. (
+  λ begins.
+      let same : take 8 bytes ≡ magic = ap (take 8) is ∙ start_same image.log old mid at start (read reading).0 (read reading).1 ∙ begins in
+      let both : true ≡ false = sym ((bytes_decides (take 8 bytes) magic).1 same) ∙ other in
+      absurd (cc),
+  refl,
+)
 
 -- and none where there are fewer of them
 pub told_short_start : (reads : Option Image) (old : ReaderValue) (left : ℕ) → old.at ≡ 0 → old.at + left ≡ old.len → left < 8
     → IfSome reads (λ image. IsReading image.log old → (take 8 image.log ≡ magic → ⊥) × ◌≡◌ {A = ℕ} 0 0)
 told_short_start None old left start end short = tt
-told_short_start (Some image) old left start end short = λ reading. (λ begins.
-    let eight : length (take 8 image.log) ≡ 8 = ap length begins in
-    absurd (omega (arith, eight, length-take 8 image.log, reading.len, start, end, short)), refl)
+told_short_start (Some image) old left start end short = λ reading. (
+  λ begins.
+      let eight : length (take 8 image.log) ≡ 8 = ap length begins in
+      absurd (omega (arith, eight, length-take 8 image.log, reading.len, start, end, short)),
+  refl,
+)
 
 -- the record that was found
 found_is : (log : List ℕ) (old mid : ReaderValue) (r : Record) (bytes : List ℕ) → bytes ≡ mid.ahead → Some r ≡ record_at bytes

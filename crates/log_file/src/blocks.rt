@@ -101,12 +101,7 @@ fn judged<'a>(tree: &Tree, kind: u8, body: &'a [u8], at: u64) -> Option<Found<'a
 }
 
 /// The genesis in the body of a record, which begins at `at`.
-fn genesis<'a>(
-    alloc: Global,
-    kind: u8,
-    body: &'a [u8],
-    at: u64,
-) -> Result<BlockView<'a>, LogStop>
+fn genesis<'a>(alloc: Global, kind: u8, body: &'a [u8], at: u64) -> Result<BlockView<'a>, LogStop>
     ensures genesis { IfOk result (λ block. is_genesis (record_of kind body.now) ≡ true) }
     ensures decoded { IfOk result (λ block. decoded schema.block body.now ≡ Some block) }
     ensures first { IfOk result (λ block. block.header.number ≡ 0) }

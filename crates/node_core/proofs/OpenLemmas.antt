@@ -485,7 +485,7 @@ module _ {D : Type 0} (reads_as : D → Option Image) (images : D → Image → 
         node.entries,
         at_some (λ now. NameItsBodies now.log node.entries) (reads_as old) now told named,
         subst (λ (es : List Entry). IsOfCells es now damage) (ap (λ (n : NodeValue). n.entries) is)
-        (met (with_content Log others.0 now) (told_mid now told)),
+            (met (with_content Log others.0 now) (told_mid now told)),
       ))
 
   -- ---- Whose live cells were led to the tip

@@ -84,13 +84,7 @@ fn first_unfit(unfit: Option<u32>, fits: bool, place: u32) -> Option<u32>
 {
     match unfit {
         Some(first) => Some(first),
-        None => {
-            if fits {
-                None
-            } else {
-                Some(place)
-            }
-        }
+        None => { if fits { None } else { Some(place) } }
     }
 }
 

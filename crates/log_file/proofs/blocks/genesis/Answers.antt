@@ -13,7 +13,7 @@ returns-in-Some-clause-first c =
     genesis_first c.args.body.now c.in-Some.block there kept
 
 pub returns-in-None-clause-wrong : goal.returns-in-None-clause-wrong
-returns-in-None-clause-wrong c = 
+returns-in-None-clause-wrong c =
     let none : decoded shapes.block c.args.body.now ≡ None = search rules in
     (refl, not_genesis c.args.kind c.args.body.now none)
 

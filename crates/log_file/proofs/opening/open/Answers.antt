@@ -120,7 +120,7 @@ pub returns-in-Err-read_log-clause-unwritten : goal.returns-in-Err-read_log-clau
 returns-in-Err-read_log-clause-unwritten g c = λ _. c.in-Err-read_log.ensures.as_before.reads ∙ c.in-Ok.ensures.same
 
 pub returns-in-Err-read_log-clause-only_read : goal.returns-in-Err-read_log-clause-only_read
-returns-in-Err-read_log-clause-only_read g c = 
+returns-in-Err-read_log-clause-only_read g c =
     damage_also _ _ c.in-Err-read_log.stop (λ _ _.
     read_only g.D.Disk.reads_as g.D.Disk.images g.D.Disk.moment g.D.Disk.left_since _ _ _ c.in-Ok.ensures.same c.in-Ok.ensures.images c.in-Ok.ensures.moments c.in-Err-read_log.ensures.as_before)
     c.in-Err-read_log.ensures.not_a_store

@@ -6,7 +6,7 @@ use Rattle.log_file.proofs.Whole.{IsRead, told_read, told_wrong_blocks, told_ope
 use Rattle.log_file.proofs.opening.read_log.Goals as goal
 
 pub returns-in-Err-read_blocks-clause-not_a_store : goal.returns-in-Err-read_blocks-clause-not_a_store
-returns-in-Err-read_blocks-clause-not_a_store g c = 
+returns-in-Err-read_blocks-clause-not_a_store g c =
     let front = c.in-Ok.ensures in
     in_log_also _ _ _ _ c.in-Err-read_blocks.stop (λ at wrong.
     told_wrong_blocks _ _ c.in-Ok.head.0 c.args.len c.new-reader.result c.read_head.new.reader (blocks_with (g.V.Visitor.visited c.read_head.new.visitor) c.in-Ok.head.1.entries) at
@@ -49,7 +49,7 @@ pub returns-in-Err-clause-place : goal.returns-in-Err-clause-place
 returns-in-Err-clause-place g c = tt
 
 pub returns-in-Err-clause-not_a_store : goal.returns-in-Err-clause-not_a_store
-returns-in-Err-clause-not_a_store g c = 
+returns-in-Err-clause-not_a_store g c =
     in_log_also _ _ _ _ c.in-Err.stop (λ at wrong. told_wrong_front _ _ _ at c.requires.len c.new-reader.ensures.reading wrong) c.in-Err.ensures.wrong
 
 pub returns-in-Err-clause-as_before : goal.returns-in-Err-clause-as_before

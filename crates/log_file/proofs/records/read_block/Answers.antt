@@ -137,7 +137,7 @@ pub returns-in_default-clause-byte : goal.returns-in_default-clause-byte
 returns-in_default-clause-byte g c = told_also _ (g.D.Disk.reads_as c.args.disk.now) _ _ c.in-Ok.ensures.byte
 
 pub returns-in-Err-put-clause-wrong : goal.returns-in-Err-put-clause-wrong
-returns-in-Err-put-clause-wrong g c = 
+returns-in-Err-put-clause-wrong g c =
     at_place _ _ _ _ c.in-Err-put.stop (λ wrong.
     told_wrong_block _ (blocks_of (g.V.Visitor.visited c.args.visitor.now)) c.args.reader.now c.fill_record.new.self (record_of c.in-Some.kind c.in-Some.body.now) c.ahead.result.now
     c.at-place.result c.ahead.ensures c.in-Some.ensures.found wrong (c.at-place.ensures.value ∙ c.fill_record.ensures.at.at) c.in-Ok.ensures.found) c.in-Err-put.ensures.wrong

@@ -6,7 +6,7 @@ use Rattle.log_file.proofs.Progress.{with_each, told_wrong, told_more, told_all}
 use Rattle.log_file.proofs.records.read_blocks.Goals as goal
 
 pub returns-in_err-read_block-clause-wrong : goal.returns-in_err-read_block-clause-wrong
-returns-in_err-read_block-clause-wrong g c = 
+returns-in_err-read_block-clause-wrong g c =
     damage_same c.from_residual.result c.in_err-read_block.field-0.0 _ (λ damage e. search rules)
     (in_log_also _ _ _ _ c.in_err-read_block.field-0.0 (λ at wrong. with_each _ _ (λ spec.
     told_wrong spec c.args.reader.now c.records.reader (blocks_with (g.V.Visitor.visited c.args.visitor.now) c.args.tree.now.entries)

@@ -94,7 +94,7 @@ pub returns-clause-blocks : goal.returns-clause-blocks
 returns-clause-blocks g c = c.in-Ok-begin.ensures.blocks
 
 pub returns-in-Err-begin-clause-wrong : goal.returns-in-Err-begin-clause-wrong
-returns-in-Err-begin-clause-wrong g c = 
+returns-in-Err-begin-clause-wrong g c =
     at_place _ _ _ _ c.in-Err-begin.stop (λ wrong.
     told_other _ is_genesis c.args.reader.now c.fill_record.new.self (record_of c.in-Some.kind c.in-Some.body.now) c.ahead.result.now c.at-place.result c.ahead.ensures
     c.in-Some.ensures.found wrong (c.at-place.ensures.value ∙ c.fill_record.ensures.at.at) c.in-Ok.ensures.found) c.in-Err-begin.ensures.wrong

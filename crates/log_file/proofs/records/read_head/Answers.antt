@@ -8,13 +8,13 @@ pub returns-in-Err-clause-wrong : goal.returns-in-Err-clause-wrong
 returns-in-Err-clause-wrong g c = in_log_also _ _ _ _ c.in-Err.stop (λ at wrong. told_wrong_start _ c.args.reader.now at wrong) c.in-Err.ensures.wrong
 
 pub returns-in-Err-read_spec-clause-wrong : goal.returns-in-Err-read_spec-clause-wrong
-returns-in-Err-read_spec-clause-wrong g c = 
+returns-in-Err-read_spec-clause-wrong g c =
     let start = c.in-Ok.ensures in
     in_log_also _ _ _ _ c.in-Err-read_spec.stop (λ at wrong.
     told_wrong_spec _ _ c.args.reader.now c.read_start.new.reader at start.as_before.reads start.at.at start.found start.reading wrong) c.in-Err-read_spec.ensures.wrong
 
 pub returns-in-Err-read_genesis-clause-wrong : goal.returns-in-Err-read_genesis-clause-wrong
-returns-in-Err-read_genesis-clause-wrong g c = 
+returns-in-Err-read_genesis-clause-wrong g c =
     let start = c.in-Ok.ensures in
     let one = c.in-Ok-read_spec.ensures in
     in_log_also _ _ _ _ c.in-Err-read_genesis.stop (λ at wrong.

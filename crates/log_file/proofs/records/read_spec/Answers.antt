@@ -7,11 +7,11 @@ use Rattle.log_file.proofs.records.read_spec.Goals as goal
 
 pub returns-in_default-spec_of-clause-wrong : goal.returns-in_default-spec_of-clause-wrong
 returns-in_default-spec_of-clause-wrong g c =
-  let wrong : is_specification (record_of c.in-Some.kind c.in-Some.body.now) ≡ false = search rules in record {
-  area = refl;
-  at = told_other _ is_specification c.args.reader.now c.fill_record.new.self (record_of c.in-Some.kind c.in-Some.body.now) c.ahead.result.now c.at-place.result c.ahead.ensures
-      c.in-Some.ensures.found wrong (c.at-place.ensures.value ∙ c.fill_record.ensures.at.at) c.in-Ok.ensures.found;
-}
+    let wrong : is_specification (record_of c.in-Some.kind c.in-Some.body.now) ≡ false = search rules in record {
+      area = refl;
+      at = told_other _ is_specification c.args.reader.now c.fill_record.new.self (record_of c.in-Some.kind c.in-Some.body.now) c.ahead.result.now c.at-place.result c.ahead.ensures
+          c.in-Some.ensures.found wrong (c.at-place.ensures.value ∙ c.fill_record.ensures.at.at) c.in-Ok.ensures.found;
+    }
 
 pub returns-clause-found : goal.returns-clause-found
 returns-clause-found g c =

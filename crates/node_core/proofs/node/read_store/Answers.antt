@@ -30,7 +30,7 @@ returns-in-Err-open-clause-left g c =
     c.in-Ok.ensures.snap_a c.in-Ok.ensures.snap_b c.open.ensures.no_log c.open.ensures.rests c.open.ensures.moments c.open.ensures.others
 
 pub returns-in-Err-open-clause-not_a_store : goal.returns-in-Err-open-clause-not_a_store
-returns-in-Err-open-clause-not_a_store g c = 
+returns-in-Err-open-clause-not_a_store g c =
     damage_also _ _ c.in-Err-open.stop (λ damage wrong. not_sound _ _ damage.at c.in-Ok.ensures.same wrong.at) c.in-Err-open.ensures.not_a_store
 
 pub returns-in-Err-open-clause-cause : goal.returns-in-Err-open-clause-cause
@@ -42,13 +42,13 @@ returns-in-Err-into_kept-clause-left g c =
     c.in-Ok.ensures.snap_a c.in-Ok.ensures.snap_b c.open.ensures.no_log c.open.ensures.rests c.open.ensures.moments c.open.ensures.others
 
 pub returns-in-Err-into_kept-clause-not_a_store : goal.returns-in-Err-into_kept-clause-not_a_store
-returns-in-Err-into_kept-clause-not_a_store g c = 
+returns-in-Err-into_kept-clause-not_a_store g c =
     damage_named _ _ c.in-Err-into_kept.stop (λ _ _.
     not_joined _ _ c.in-Ok-open.opened.spec c.open.new.visitor.stored c.in-Ok-open.opened.tree.entries c.in-Ok.ensures.same c.in-Ok-open.ensures.opened c.in-Ok-open.ensures.blocks
     (λ rated counted. not_ok c.into_kept.result _ c.in-Err-into_kept.is (c.into_kept.ensures.right rated counted))) c.in-Err-into_kept.ensures.stop
 
 pub returns-in-Err-into_kept-clause-cause : goal.returns-in-Err-into_kept-clause-cause
-returns-in-Err-into_kept-clause-cause g c = 
+returns-in-Err-into_kept-clause-cause g c =
     counts_none _ _ _ (c.in-Ok.ensures.cause.unchanged refl) c.open.ensures.cause (λ fault. ok_err _ _ (sym c.in-Ok-open.is ∙ fault))
     (λ fault. named_no_fault _ c.in-Err-into_kept.stop c.in-Err-into_kept.ensures.stop (same_stop _ _ fault))
 
@@ -150,11 +150,11 @@ pub returns-in-Err-new-clause-named : goal.returns-in-Err-new-clause-named
 returns-in-Err-new-clause-named g c = tt
 
 pub returns-in-Err-open-clause-damage : goal.returns-in-Err-open-clause-damage
-returns-in-Err-open-clause-damage g c = 
+returns-in-Err-open-clause-damage g c =
     in_log_also _ _ _ _ c.in-Err-open.stop (λ at wrong. none_from _ _ at c.in-Ok.ensures.same wrong) c.in-Err-open.ensures.not_a_store
 
 pub returns-in-Err-into_kept-clause-damage : goal.returns-in-Err-into_kept-clause-damage
-returns-in-Err-into_kept-clause-damage g c = 
+returns-in-Err-into_kept-clause-damage g c =
     damage_named _ _ c.in-Err-into_kept.stop (λ damage unfit. record {
       area = unfit.0;
       at = unfit_from _ _ c.in-Ok-open.opened.spec c.open.new.visitor.stored c.in-Ok-open.opened.tree.entries c.in-Ok.ensures.same c.in-Ok-open.ensures.opened
@@ -162,6 +162,6 @@ returns-in-Err-into_kept-clause-damage g c =
     }) c.in-Err-into_kept.ensures.stop
 
 pub returns-in-Ok-new-clause-named : goal.returns-in-Ok-new-clause-named
-returns-in-Ok-new-clause-named g c = 
+returns-in-Ok-new-clause-named g c =
     subst (λ (es : List Entry). IfSome (g.D.Disk.reads_as c.args.disk.now) (λ now. NameItsBodies now.log es)) (ap (λ (k : KeptValue). k.entries) (sym c.in-Ok-into_kept.ensures.kept))
     (names_its_bodies _ _ c.in-Ok-open.opened.spec c.open.new.visitor.stored c.in-Ok-open.opened.tree.entries c.in-Ok.ensures.same c.in-Ok-open.ensures.opened c.in-Ok-open.ensures.blocks)

@@ -29,5 +29,7 @@ returns-in-Err-clause-damage g c = λ now told damage e.
 pub returns-in-Err-moved-clause-damage : goal.returns-in-Err-moved-clause-damage
 returns-in-Err-moved-clause-damage g c = λ now told damage e.
     let is = c.in-Err-moved.is ∙ ap Err (same_stop _ _ e) in
-    inr (c.moved.ensures.looked.damage damage (ap stop_of is),
-    c.moved.ensures.at_record (subst IsSome (sym ((g.met.D.Disk.content_rests c.args.disk.now c.load.new.disk c.load.ensures.content).reads ∙ told)) refl) damage is)
+    inr (
+      c.moved.ensures.looked.damage damage (ap stop_of is),
+      c.moved.ensures.at_record (subst IsSome (sym ((g.met.D.Disk.content_rests c.args.disk.now c.load.new.disk c.load.ensures.content).reads ∙ told)) refl) damage is,
+    )

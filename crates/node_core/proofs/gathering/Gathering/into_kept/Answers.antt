@@ -19,7 +19,7 @@ pub returns-in-Some-clause-stop : goal.returns-in-Some-clause-stop
 returns-in-Some-clause-stop c = (
   refl,
   body-of-unfit c.self.inside.blocks.stored c.args.self.stored c.args.tree.entries c.in-Some.place c.entry.result.now
-  (subst (λ (o : Option ℕ). IsUnfit o c.self.inside.blocks.stored) c.in-Some.is c.self.invariant.fit) (ap (λ (v : RecordedValue). v.stored) c.self.view_is) c.entry.ensures.entry,
+      (subst (λ (o : Option ℕ). IsUnfit o c.self.inside.blocks.stored) c.in-Some.is c.self.invariant.fit) (ap (λ (v : RecordedValue). v.stored) c.self.view_is) c.entry.ensures.entry,
 )
 
 -- there is a genesis

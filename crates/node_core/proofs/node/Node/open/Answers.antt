@@ -107,7 +107,7 @@ returns-in-Ok-to_tip-clause-most g c =
     _ _ c.to_tip.ensures.most
 
 pub returns-in-Err-to_tip-clause-not_a_store : goal.returns-in-Err-to_tip-clause-not_a_store
-returns-in-Err-to_tip-clause-not_a_store g c = 
+returns-in-Err-to_tip-clause-not_a_store g c =
     damage_also _ _ c.stop_of_move.result (λ damage found.
     not_led g.D.Disk.reads_as g.D.Disk.images _ _ c.node.inside.kept c.node.inside.log.place c.node.inside.state c.node.inside.cache _ c.node.view_is
     c.read_store.ensures.left.others c.in-Ok.ensures.read c.in-Ok.ensures.cells
@@ -179,7 +179,7 @@ pub returns-in-Ok-to_tip-clause-damage : goal.returns-in-Ok-to_tip-clause-damage
 returns-in-Ok-to_tip-clause-damage g c = tt
 
 pub returns-in-Err-to_tip-clause-damage : goal.returns-in-Err-to_tip-clause-damage
-returns-in-Err-to_tip-clause-damage g c = 
+returns-in-Err-to_tip-clause-damage g c =
     damage_also _ _ c.stop_of_move.result (λ damage found.
     cells_stopped g.D.Disk.reads_as g.D.Disk.images _ _ c.node.inside.kept c.node.inside.log.place c.node.inside.state c.node.inside.cache _ c.node.view_is
     c.read_store.ensures.left.others c.in-Ok.ensures.read c.in-Ok.ensures.cells damage c.in-Ok.ensures.named
