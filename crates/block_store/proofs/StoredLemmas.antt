@@ -1,12 +1,11 @@
 -- What a body says, and what a disk tells of the entries of a tree.
-use Rattle.std.proofs.Common.{◌≡◌, ℕ, zero, suc, ◌+◌, ◌-◌, ◌<◌, ◌≤◌, Bool, true, false, cond, leb, List, [], ◌∷◌, length, map, take, drop, Option, Some, None, Result, Err, refl, sym, ap, subst, ◌∙◌, arith, inl, inr}
+use Rattle.std.proofs.Common.{◌≡◌, ℕ, zero, suc, ◌+◌, ◌-◌, ◌<◌, ◌≤◌, Bool, true, false, cond, leb, List, [], ◌∷◌, length, take, drop, Option, Some, None, Result, Err, refl, sym, ap, subst, ◌∙◌, arith, inl, inr}
 use Rattle.std.specs.Prelude.{◌&&◌, slice_get, IfSome, is_some, IsSome, IsSomeAnd}
 use Rattle.std.specs.Option.{option_map, option_and_then}
 use Rattle.std.proofs.lemmas.Bool.{and_parts, leb-true}
 use Rattle.std.proofs.lemmas.List.{length-take-le, length-drop}
 use Rattle.codec_defs.specs.Shape.{decoded}
-use Rattle.codec_defs.specs.Schema.{Transaction, Block, block}
-use Rattle.chain_defs.specs.Hashes.{transaction_hash, proposal_id}
+use Rattle.codec_defs.specs.Schema.{Block, block}
 use Rattle.cell_model.specs.ListBlocks.{IsCanonical}
 use Rattle.cell_model.proofs.ListLemmas.{decoding-is}
 use Rattle.cell_defs.specs.Ext.{count_at, is_ext}
@@ -21,16 +20,6 @@ use Rattle.chain_tree.specs.declared.entry.Entry.{Entry}
 use Rattle.chain_tree.specs.Entries.{entry_at}
 use Rattle.block_store.specs.Stored.{with_ext, parts_in, beside, stored_in, stored_of, stored_at, put_first, all_stored, all_stored-length, told_by}
 use Rattle.block_store.specs.Held.{Holds, NothingNew, OnlyAdds, IsKept}
-
--- ---- Proposal ids by hashes
-
-images : (transactions : List Transaction) → map (take 10) (map transaction_hash transactions) ≡ map proposal_id transactions
-images [] = refl
-images (t ∷ later) = ap (λ (l : List (List ℕ)). proposal_id t ∷ l) (images later)
-
-pub ids-by : (transactions : List Transaction) → map (take 10) (drop 1 (map transaction_hash transactions)) ≡ map proposal_id (drop 1 transactions)
-ids-by [] = refl
-ids-by (t ∷ later) = images later
 
 -- ---- The parts of a body
 

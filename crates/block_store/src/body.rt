@@ -5,17 +5,17 @@ ghost use Rattle.codec_defs.specs.Shape.{decoded};
 ghost use Rattle.codec_defs.specs.Schema as schema;
 ghost use Rattle.codec_defs.specs.Schema.{Block};
 ghost use Rattle.chain_defs.specs.Hashes.{transaction_hash};
-ghost use Rattle.cell_model.specs.ListBlocks.{ids_of, IsCanonical};
+ghost use Rattle.cell_model.specs.ListBlocks.{IsCanonical};
 ghost use Rattle.block_store.specs.Stored.{parts_in, stored_in};
 
-use cell_model::{proposal_id, tx_hash};
+use cell_model::tx_hashes;
 use log_file::{ext_form, parts};
 use mol_schema::BlockView;
 use outside::NoMemory;
 use std::alloc::Global;
 use std::marker::Model;
 
-/// The body of an entry whose block is canonical, with the proposal ids of its block. Clauses see the block and its
+/// The body of an entry whose block is canonical, with the hashes of the block's transactions. Clauses see the block and its
 /// ext; that of the genesis is empty.
 #[derive(Drop)]
 pub struct KeptBody {
@@ -23,14 +23,14 @@ pub struct KeptBody {
     /// The block is from here up to `end`, and the ext from there on.
     start: usize,
     end: usize,
-    ids: Vec<[u8; 10]>,
+    hashes: Vec<[u8; 32]>,
 }
 
 impl Model for KeptBody {
     ghost use Rattle.std.specs.Prelude.{◌≡◌, ◌-◌, ◌≤◌, length, take, drop};
     ghost use Rattle.codec_defs.specs.Schema as schema;
     ghost use Rattle.chain_tree.specs.Told.{Stored};
-    ghost use Rattle.cell_model.specs.ListBlocks.{ids_of, IsCanonical};
+    ghost use Rattle.cell_model.specs.ListBlocks.{hashes_of, IsCanonical};
 
     ghost Value = { Stored };
 
@@ -38,31 +38,7 @@ impl Model for KeptBody {
 
     ghost invariant = { λ body. (body.start ≤ body.end) × (body.end ≤ length body.bytes.items)
         × IsCanonical (take (body.end - body.start) (drop body.start body.bytes.items))
-        × (body.ids.items ≡ ids_of (schema.block.decoding (take (body.end - body.start) (drop body.start body.bytes.items)))) };
-}
-
-/// The proposal ids of the transactions of a block after its first, in their order.
-fn proposal_ids(alloc: Global, block: &BlockView<'_>) -> Result<Vec<[u8; 10]>, NoMemory>
-    ensures { IfOk result (λ ids. ids.items ≡ ids_of block.now) }
-{
-    let count = block.transactions_count();
-    let mut ids = Vec::with_capacity(alloc, count.saturating_sub(1))?;
-    'later: for i in 1..count {
-        ids.push(proposal_id(&tx_hash(&block.transactions_item(i))))?;
-    }
-    Ok(ids)
-}
-
-/// The same, by the hashes of all transactions of the block.
-fn ids_by(alloc: Global, hashes: &[[u8; 32]]) -> Result<Vec<[u8; 10]>, NoMemory>
-    ensures { IfOk result (λ ids. ids.items ≡ map (take 10) (drop 1 hashes.now)) }
-{
-    let count = hashes.len();
-    let mut ids = Vec::with_capacity(alloc, count.saturating_sub(1))?;
-    'later: for i in 1..count {
-        ids.push(proposal_id(&hashes[i]))?;
-    }
-    Ok(ids)
+        × (body.hashes.items ≡ hashes_of (schema.block.decoding (take (body.end - body.start) (drop body.start body.bytes.items)))) };
 }
 
 /// Where the block of a body begins and ends. The ext, if the entry has one, stands after it, to the end.
@@ -93,14 +69,14 @@ impl KeptBody {
         requires hashes { (b : Block) → decoded schema.block block.now ≡ Some b → hashes.now ≡ map transaction_hash b.transactions }
         ensures { (b : Block) → decoded schema.block block.now ≡ Some b → IfOk result (λ body. body ≡ record { block = b; ext = ext.now }) }
     {
-        let ids = ids_by(alloc, hashes)?;
+        let hashes = hashes.to_vec(alloc)?;
         let mut bytes = block.to_vec(alloc)?;
         bytes.extend_from_slice(ext)?;
         Ok(KeptBody {
             bytes,
             start: 0,
             end: block.len(),
-            ids,
+            hashes,
         })
     }
 
@@ -111,15 +87,15 @@ impl KeptBody {
         let Some((start, end)) = block_range(place, &bytes) else {
             return Ok(None);
         };
-        let ids = match BlockView::read(&bytes[start..end]) {
-            Some(block) => proposal_ids(alloc, &block)?,
+        let hashes = match BlockView::read(&bytes[start..end]) {
+            Some(block) => tx_hashes(alloc, &block)?,
             None => return Ok(None),
         };
         Ok(Some(KeptBody {
             bytes,
             start,
             end,
-            ids,
+            hashes,
         }))
     }
 
@@ -137,10 +113,11 @@ impl KeptBody {
         &self.bytes[self.end..]
     }
 
-    /// The proposal ids of the block's transactions after the first.
-    pub(crate) fn ids(&self) -> &[[u8; 10]]
-        ensures { result.now ≡ ids_of self.now.block }
+    /// The block, with the hashes of its transactions.
+    pub(crate) fn hashed(&self) -> (BlockView<'_>, &[[u8; 32]])
+        ensures block { result.0 ≡ self.now.block }
+        ensures hashes { result.1.now ≡ map transaction_hash result.0.transactions }
     {
-        &self.ids
+        (self.block(), &self.hashes)
     }
 }

@@ -127,9 +127,9 @@ impl<'d, D: Disk> Blocks for Store<'d, D> {
         }
     }
 
-    fn ids(&self) -> &[[u8; 10]] {
+    fn hashed(&self) -> (BlockView<'_>, &[[u8; 32]]) {
         match self.hand {
-            Some(e) => self.cache.body(e).ids(),
+            Some(e) => self.cache.body(e).hashed(),
             None => unreachable!(),
         }
     }

@@ -11,7 +11,7 @@ use Rattle.codec_defs.proofs.ShapeLaws.{IsA-decoded}
 use Rattle.codec_defs.proofs.RowLaws.{block-check}
 use Rattle.chain_tree.specs.Told.{Stored, blocks_of}
 use Rattle.cell_defs.specs.Ext.{is_ext}
-use Rattle.cell_model.specs.ListBlocks.{ListBlocksValue, place_among, current_place, contents, IsCanonical, IsExtFor, AreKept, stored_from, ids_of, all_ids, id_lists}
+use Rattle.cell_model.specs.ListBlocks.{ListBlocksValue, place_among, current_place, contents, IsCanonical, IsExtFor, AreKept, stored_from, hashes_of, all_hashes, hash_lists}
 
 -- ---- A canonical block is the one that is taken out of its bytes
 
@@ -149,20 +149,20 @@ at_entry P stored place entry there holds = subst (λ (it : Option Stored). IfSo
 pub of_entry : (P : Stored → Type 0) (stored : List Stored) (place : ℕ) (entry : Stored) → slice_get stored place ≡ Some entry → IfSome (slice_get stored place) P → P entry
 of_entry P stored place entry there holds = subst (λ (it : Option Stored). IfSome it P) there holds
 
-as_many_ids : (blocks : List (Vec ℕ Global)) (ids : List (Vec (List ℕ) Global)) → id_lists ids ≡ all_ids blocks → length ids ≡ length blocks
-as_many_ids blocks ids are =
-    sym (length-map ids (λ (v : Vec (List ℕ) Global). v.items)) ∙ ap length are ∙ length-map blocks (λ (v : Vec ℕ Global). ids_of (block.decoding v.items))
+as_many_hashes : (blocks : List (Vec ℕ Global)) (hashes : List (Vec (List ℕ) Global)) → hash_lists hashes ≡ all_hashes blocks → length hashes ≡ length blocks
+as_many_hashes blocks hashes are =
+    sym (length-map hashes (λ (v : Vec (List ℕ) Global). v.items)) ∙ ap length are ∙ length-map blocks (λ (v : Vec ℕ Global). hashes_of (block.decoding v.items))
 
--- the ids beside the block at a place
-pub ids_at : (blocks : List (Vec ℕ Global)) (ids : List (Vec (List ℕ) Global)) (place : ℕ) (vector : Vec (List ℕ) Global) → id_lists ids ≡ all_ids blocks
-    → place < length blocks → vector ≡ get_or ids place vector → vector.items ≡ ids_of (block.decoding (get_or (contents blocks) place []))
-ids_at [] ids place vector are within is = absurd (omega (arith, within))
-ids_at (first ∷ later) ids place vector are within is =
+-- the hashes beside the block at a place
+pub hashes_at : (blocks : List (Vec ℕ Global)) (hashes : List (Vec (List ℕ) Global)) (place : ℕ) (vector : Vec (List ℕ) Global) → hash_lists hashes ≡ all_hashes blocks
+    → place < length blocks → vector ≡ get_or hashes place vector → vector.items ≡ hashes_of (block.decoding (get_or (contents blocks) place []))
+hashes_at [] hashes place vector are within is = absurd (omega (arith, within))
+hashes_at (first ∷ later) hashes place vector are within is =
     let blocks : List (Vec ℕ Global) = first ∷ later in
-    let there : place < length ids = omega (arith, within, as_many_ids blocks ids are) in
-    ap (λ (v : Vec (List ℕ) Global). v.items) is ∙ sym (get_or-map (λ (v : Vec (List ℕ) Global). v.items) ids place vector [] there)
-    ∙ ap (λ (l : List (List (List ℕ))). get_or l place []) are ∙ get_or-map (λ (v : Vec ℕ Global). ids_of (block.decoding v.items)) blocks place first [] within
-    ∙ ap (λ (b : List ℕ). ids_of (block.decoding b)) (sym (get_or-map (λ (v : Vec ℕ Global). v.items) blocks place first [] within))
+    let there : place < length hashes = omega (arith, within, as_many_hashes blocks hashes are) in
+    ap (λ (v : Vec (List ℕ) Global). v.items) is ∙ sym (get_or-map (λ (v : Vec (List ℕ) Global). v.items) hashes place vector [] there)
+    ∙ ap (λ (l : List (List (List ℕ))). get_or l place []) are ∙ get_or-map (λ (v : Vec ℕ Global). hashes_of (block.decoding v.items)) blocks place first [] within
+    ∙ ap (λ (b : List ℕ). hashes_of (block.decoding b)) (sym (get_or-map (λ (v : Vec ℕ Global). v.items) blocks place first [] within))
 
 -- the block that one of several vectors encodes
 pub decoded_in : (blocks : List (Vec ℕ Global)) (place : ℕ) (vector : Vec ℕ Global) (bytes : List ℕ) → All IsCanonical (contents blocks) → place < length blocks
@@ -172,13 +172,13 @@ decoded_in blocks place vector bytes canonical within is same =
     ∙ canonical-decoded vector.items (subst IsCanonical (sym (read_at blocks place vector within is))
     (canonical place [] (omega (arith, within, length-map blocks (λ (v : Vec ℕ Global). v.items)))))
 
--- the ids of one block more
-pub ids_more : (blocks more_blocks : List (Vec ℕ Global)) (ids more_ids : List (Vec (List ℕ) Global)) (bytes : Vec ℕ Global) (one : Vec (List ℕ) Global)
-    → id_lists ids ≡ all_ids blocks → more_blocks ≡ blocks ++ bytes ∷ [] → more_ids ≡ ids ++ one ∷ [] → one.items ≡ ids_of (block.decoding bytes.items)
-    → id_lists more_ids ≡ all_ids more_blocks
-ids_more blocks more_blocks ids more_ids bytes one are blocks_grow ids_grow is =
-    ap id_lists ids_grow ∙ map_push (λ (v : Vec (List ℕ) Global). v.items) ids one ∙ (λ i. are i ++ is i ∷ [])
-    ∙ sym (map_push (λ (v : Vec ℕ Global). ids_of (block.decoding v.items)) blocks bytes) ∙ ap all_ids (sym blocks_grow)
+-- the hashes of one block more
+pub hashes_more : (blocks more_blocks : List (Vec ℕ Global)) (hashes more_hashes : List (Vec (List ℕ) Global)) (bytes : Vec ℕ Global) (one : Vec (List ℕ) Global)
+    → hash_lists hashes ≡ all_hashes blocks → more_blocks ≡ blocks ++ bytes ∷ [] → more_hashes ≡ hashes ++ one ∷ [] → one.items ≡ hashes_of (block.decoding bytes.items)
+    → hash_lists more_hashes ≡ all_hashes more_blocks
+hashes_more blocks more_blocks hashes more_hashes bytes one are blocks_grow hashes_grow is =
+    ap hash_lists hashes_grow ∙ map_push (λ (v : Vec (List ℕ) Global). v.items) hashes one ∙ (λ i. are i ++ is i ∷ [])
+    ∙ sym (map_push (λ (v : Vec ℕ Global). hashes_of (block.decoding v.items)) blocks bytes) ∙ ap all_hashes (sym blocks_grow)
 
 -- the current entry
 pub by_hand : (P : Stored → Type 0) (it : ListBlocksValue) (place : ℕ) (entry : Stored) → it.hand ≡ Some place → place < length it.stored

@@ -1,12 +1,12 @@
--- Kept blocks in two lists of bytes: the encodings, and beside each its ext. Their proposal ids are kept beside them.
-use Rattle.std.specs.Prelude.{◌≡◌, ℕ, ◌-◌, ◌^◌, ◌<◌, List, [], ◌∷◌, length, map, drop, Vec, Bool, true, false, Option, Some, None, slice_index_or, nat_lt, if◌then◌else◌, IsTrue, IsSome, IfSome}
+-- Kept blocks in two lists of bytes: the encodings, and beside each its ext. The hashes of their transactions are kept beside them.
+use Rattle.std.specs.Prelude.{◌≡◌, ℕ, ◌-◌, ◌^◌, ◌<◌, List, [], ◌∷◌, length, map, Vec, Bool, true, false, Option, Some, None, slice_index_or, nat_lt, if◌then◌else◌, IsTrue, IsSome, IfSome}
 use Rattle.std.specs.Global.{Global}
 use Rattle.std.specs.List.{All}
 use Rattle.std.proofs.lemmas.Bool.{ltb-true}
 use Rattle.std.proofs.Common.{refl}
 use Rattle.codec_defs.specs.Shape.{decoded}
 use Rattle.codec_defs.specs.Schema.{Block, block}
-use Rattle.chain_defs.specs.Hashes.{proposal_id}
+use Rattle.chain_defs.specs.Hashes.{transaction_hash}
 use Rattle.chain_tree.specs.Told.{Stored}
 use Rattle.cell_defs.specs.Ext.{is_ext, count_at}
 
@@ -53,19 +53,19 @@ stored_from [] exts = []
 stored_from (b ∷ blocks) [] = []
 stored_from (b ∷ blocks) (ext ∷ exts) = record { block = block.decoding b; ext = ext } ∷ stored_from blocks exts
 
--- ---- The ids beside them
+-- ---- The hashes beside them
 
--- the proposal ids of the transactions of a block after its first
-abbrev pub ids_of : Block → List (List ℕ)
-ids_of b = map proposal_id (drop 1 b.transactions)
+-- the hashes of the transactions of a block
+abbrev pub hashes_of : Block → List (List ℕ)
+hashes_of b = map transaction_hash b.transactions
 
 -- those of the block that each of several vectors encodes
-abbrev pub all_ids : List (Vec ℕ Global) → List (List (List ℕ))
-all_ids blocks = map (λ v. ids_of (block.decoding v.items)) blocks
+abbrev pub all_hashes : List (Vec ℕ Global) → List (List (List ℕ))
+all_hashes blocks = map (λ v. hashes_of (block.decoding v.items)) blocks
 
--- the ids in each of several vectors
-abbrev pub id_lists : List (Vec (List ℕ) Global) → List (List (List ℕ))
-id_lists vectors = map (λ v. v.items) vectors
+-- the hashes in each of several vectors
+abbrev pub hash_lists : List (Vec (List ℕ) Global) → List (List (List ℕ))
+hash_lists vectors = map (λ v. v.items) vectors
 
 -- ---- The current one is one of them
 

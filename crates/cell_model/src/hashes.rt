@@ -1,5 +1,5 @@
 // The hashes of scripts, data and transactions, what an output occupies, and the row of an output.
-ghost use Rattle.std.specs.Prelude.{◌≡◌, ◌^◌, ◌<◌, length, take, ℕ};
+ghost use Rattle.std.specs.Prelude.{◌≡◌, ◌^◌, ◌<◌, length, map, take, ℕ, IfOk};
 ghost use Rattle.time_defs.specs.Dao.{occupied_capacity};
 ghost use Rattle.chain_defs.specs.Hashes.{transaction_hash};
 ghost use Rattle.cell_defs.specs.Cell as cells;
@@ -7,7 +7,9 @@ ghost use Rattle.cell_defs.specs.Row.{row_of};
 
 use crate::cells::CellMeta;
 use blake2b_ckb::ckbhash;
-use mol_schema::{OutputView, ScriptView, TxView};
+use mol_schema::{BlockView, OutputView, ScriptView, TxView};
+use outside::NoMemory;
+use std::alloc::Global;
 
 /// The hash of a transaction: of its `RawTransaction`, without witnesses (RFC 0022).
 #[tactic(auto, unfolding(chain_defs::specs::Hashes::transaction_hash))]
@@ -15,6 +17,18 @@ pub fn tx_hash(tx: &TxView<'_>) -> [u8; 32]
     ensures { result ≡ transaction_hash tx.now }
 {
     ckbhash(tx.raw().bytes())
+}
+
+/// The hashes of the transactions of a block, the cellbase's among them, in their order.
+pub fn tx_hashes(alloc: Global, block: &BlockView<'_>) -> Result<Vec<[u8; 32]>, NoMemory>
+    ensures { IfOk result (λ hashes. hashes.items ≡ map transaction_hash block.now.transactions) }
+{
+    let count = block.transactions_count();
+    let mut hashes = Vec::with_capacity(alloc, count)?;
+    'transactions: for i in 0..count {
+        hashes.push(tx_hash(&block.transactions_item(i)))?;
+    }
+    Ok(hashes)
 }
 
 /// The id by which a transaction is proposed, of its hash: the first ten bytes (RFC 0020, "proposal_short_id").

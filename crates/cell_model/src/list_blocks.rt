@@ -4,28 +4,28 @@ ghost use Rattle.std.specs.List.{All};
 ghost use Rattle.codec_defs.specs.Shape.{decoded};
 ghost use Rattle.codec_defs.specs.Schema as schema;
 ghost use Rattle.chain_tree.specs.Told.{blocks_of};
-ghost use Rattle.cell_model.specs.ListBlocks.{current_place, contents, id_lists, ids_of, all_ids, IsCanonical, IsExtFor, AreKept};
+ghost use Rattle.cell_model.specs.ListBlocks.{current_place, contents, hash_lists, hashes_of, all_hashes, IsCanonical, IsExtFor, AreKept};
 
-use crate::hashes::{proposal_id, tx_hash};
+use crate::hashes::tx_hashes;
 use chain_tree::Blocks;
 use mol_schema::BlockView;
 use outside::{NoMemory, ReadStop};
 use std::alloc::Global;
 use std::marker::Model;
 
-/// Kept blocks with their exts, in two lists of bytes, and beside each its proposal ids. Clauses see the list of the
-/// blocks, and which is the current one. It tells them, and never fails.
+/// Kept blocks with their exts, in two lists of bytes, and beside each the hashes of its transactions.
+/// Clauses see the list of the blocks, and which is the current one. It tells them, and never fails.
 #[derive(Drop)]
 pub struct ListBlocks {
     blocks: Vec<Vec<u8>>,
     exts: Vec<Vec<u8>>,
-    ids: Vec<Vec<[u8; 10]>>,
+    hashes: Vec<Vec<[u8; 32]>>,
     hand: Option<u32>,
 }
 
 impl Model for ListBlocks {
     ghost use Rattle.std.specs.Prelude.{◌≡◌, ◌<◌, length, IfSome};
-    ghost use Rattle.cell_model.specs.ListBlocks.{ListBlocksValue, contents, id_lists, all_ids, AreKept, stored_from};
+    ghost use Rattle.cell_model.specs.ListBlocks.{ListBlocksValue, contents, hash_lists, all_hashes, AreKept, stored_from};
 
     ghost Value = { ListBlocksValue };
 
@@ -33,31 +33,19 @@ impl Model for ListBlocks {
 
     ghost invariant = { λ it. AreKept (contents it.blocks.items) (contents it.exts.items)
         × IfSome it.hand (λ place. place < length it.blocks.items)
-        × (id_lists it.ids.items ≡ all_ids it.blocks.items) };
+        × (hash_lists it.hashes.items ≡ all_hashes it.blocks.items) };
 }
 
-/// The proposal ids of the transactions of a block after its first, in their order.
-fn proposal_ids(alloc: Global, block: &BlockView<'_>) -> Result<Vec<[u8; 10]>, NoMemory>
-    ensures { IfOk result (λ ids. ids.items ≡ ids_of block.now) }
-{
-    let count = block.transactions_count();
-    let mut ids = Vec::with_capacity(alloc, count.saturating_sub(1))?;
-    'later: for i in 1..count {
-        ids.push(proposal_id(&tx_hash(&block.transactions_item(i))))?;
-    }
-    Ok(ids)
-}
-
-/// The same of each block.
-fn proposal_ids_of_all(alloc: Global, blocks: &[Vec<u8>]) -> Result<Vec<Vec<[u8; 10]>>, NoMemory>
+/// The hashes of the transactions of each block.
+fn hashes_of_all(alloc: Global, blocks: &[Vec<u8>]) -> Result<Vec<Vec<[u8; 32]>>, NoMemory>
     requires { All IsCanonical (contents blocks.now) }
-    ensures { IfOk result (λ ids. id_lists ids.items ≡ all_ids blocks.now) }
+    ensures { IfOk result (λ hashes. hash_lists hashes.items ≡ all_hashes blocks.now) }
 {
-    let mut ids = Vec::with_capacity(alloc, blocks.len())?;
+    let mut hashes = Vec::with_capacity(alloc, blocks.len())?;
     'encodings: for block in blocks {
-        ids.push(proposal_ids(alloc, &BlockView::from_encoding(block))?)?;
+        hashes.push(tx_hashes(alloc, &BlockView::from_encoding(block))?)?;
     }
-    Ok(ids)
+    Ok(hashes)
 }
 
 impl ListBlocks {
@@ -72,11 +60,11 @@ impl ListBlocks {
         ensures exts { IfOk result (λ it. map (λ entry. entry.ext) it.stored ≡ contents exts.items) }
         ensures hand { IfOk result (λ it. it.hand ≡ None) }
     {
-        let ids = proposal_ids_of_all(alloc, &blocks)?;
+        let hashes = hashes_of_all(alloc, &blocks)?;
         Ok(ListBlocks {
             blocks,
             exts,
-            ids,
+            hashes,
             hand: None,
         })
     }
@@ -97,12 +85,12 @@ impl ListBlocks {
             → OnOk result (self.new ≡ record self.old { stored = self.old.stored ++ record { block = b; ext = ext.items } ∷ [] }) }
         ensures err { OnErr result (self.new ≡ self.old) }
     {
-        let ids = proposal_ids(alloc, &BlockView::from_encoding(&block))?;
-        self.ids.reserve(1)?;
+        let hashes = tx_hashes(alloc, &BlockView::from_encoding(&block))?;
+        self.hashes.reserve(1)?;
         self.blocks.reserve(1)?;
         self.exts.push(ext)?;
         self.blocks.push_reserved(block);
-        self.ids.push_reserved(ids);
+        self.hashes.push_reserved(hashes);
         Ok(())
     }
 }
@@ -155,9 +143,12 @@ impl Blocks for ListBlocks {
         }
     }
 
-    fn ids(&self) -> &[[u8; 10]] {
+    fn hashed(&self) -> (BlockView<'_>, &[[u8; 32]]) {
         match self.hand {
-            Some(e) => &self.ids[e as usize],
+            Some(e) => (
+                BlockView::from_encoding(&self.blocks[e as usize]),
+                &self.hashes[e as usize],
+            ),
             None => unreachable!(),
         }
     }

@@ -5,12 +5,11 @@
 //! leave, in their order, and changes none where an event does not fit what is live by then. `undo` takes a block back,
 //! with the rows that it spent, and changes none where one of them finds its out-point live. `genesis` gives those of
 //! one block, `load_row` adds one, `sorted` lists them. The hashes of a block's transactions come from the caller, who has
-//! them from judging the block, or makes them by [`tx_hashes`]. What a block's transactions may do with cells is left to
-//! the layers above.
+//! them from judging the block or from where it is kept. What a block's transactions may do with cells is left to the
+//! layers above.
 #![tactic(auto)]
 
 mod events;
-mod hashes;
 mod listing;
 mod made;
 mod odd;
@@ -19,6 +18,5 @@ mod slots;
 mod state;
 mod undoing;
 
-pub use hashes::tx_hashes;
 pub use odd::Odd;
 pub use state::{State, outputs_in};

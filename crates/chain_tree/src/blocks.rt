@@ -1,6 +1,6 @@
 // Where the bytes of kept blocks come from: the trait that the rules on cells, proposals and uncles read them by.
-ghost use Rattle.std.specs.Prelude.{◌≡◌, ◌-◌, ◌^◌, ◌<◌, ◌≤◌, Option, Some, None, Err, List, ℕ, length, map, drop, slice_get, OnOk, OnErr, IfSome, IsSome, IsTrue};
-ghost use Rattle.chain_defs.specs.Hashes.{proposal_id};
+ghost use Rattle.std.specs.Prelude.{◌≡◌, ◌-◌, ◌^◌, ◌<◌, ◌≤◌, Option, Some, None, Err, List, ℕ, length, map, slice_get, OnOk, OnErr, IfSome, IsSome, IsTrue};
+ghost use Rattle.chain_defs.specs.Hashes.{transaction_hash};
 ghost use Rattle.cell_defs.specs.Ext.{is_ext};
 ghost use Rattle.outside.specs.declared.disk.Damage.{Damage};
 ghost use Rattle.outside.specs.declared.disk.ReadStop.TheVariants.{Damaged};
@@ -11,7 +11,7 @@ use mol_schema::BlockView;
 use outside::ReadStop;
 
 /// The kept blocks with their exts, each by its place. One entry at a time is the current one: `bring` makes it so, and `block`,
-/// `spent` and `ids` give what it has. What is damaged stands in LOG, where the kept blocks are.
+/// `hashed` and `spent` give what it has. What is damaged stands in LOG, where the kept blocks are.
 pub trait Blocks {
     /// The kept blocks with their exts, where it tells them.
     ghost told: { Self → Option (List Stored) };
@@ -55,11 +55,12 @@ pub trait Blocks {
         ensures form { IsTrue (is_ext result.now) }
         ensures ext { IfSome (told self.now) (λ stored. IfSome (in_hand self.now) (λ e. IfSome (slice_get stored e) (λ it. result.now ≡ it.ext))) };
 
-    /// The proposal ids of the transactions of the current entry after its first, in their order. A source hashes a
-    /// transaction once for them, when it takes its block.
-    fn ids(&self) -> &[[u8; 10]]
+    /// The block of the current entry with the hashes of its transactions, the cellbase's among them, in their order; they
+    /// are its own, whatever is told. A source hashes a transaction once, when it takes its block.
+    fn hashed(&self) -> (BlockView<'_>, &[[u8; 32]])
         requires { IsSome (in_hand self.now) }
-        ensures { IfSome (told self.now) (λ stored. IfSome (in_hand self.now) (λ e. IfSome (slice_get stored e) (λ it. result.now ≡ map proposal_id (drop 1 it.block.transactions)))) };
+        ensures block { IfSome (told self.now) (λ stored. IfSome (in_hand self.now) (λ e. IfSome (slice_get stored e) (λ it. result.0 ≡ it.block))) }
+        ensures hashes { result.1.now ≡ map transaction_hash result.0.transactions };
 
     /// It tells as many as it has.
     ghost told_all: { (blocks : Self) → IfSome (told blocks) (λ stored. length stored ≡ count blocks) };

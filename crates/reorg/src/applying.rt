@@ -15,7 +15,7 @@ ghost use Rattle.cell_state.specs.State.{rows};
 ghost use Rattle.reorg.specs.Damages.{IsAtRecord};
 ghost use Rattle.reorg.specs.Moves.{AreOf};
 
-use cell_state::{State, outputs_in, tx_hashes};
+use cell_state::{State, outputs_in};
 use chain_tree::{Blocks, Tree};
 use mol_schema::BlockView;
 use outside::{Area, Damage, ReadStop, Steps};
@@ -52,12 +52,8 @@ pub fn genesis_cells<B: Blocks>(
         Ok(()) => {}
         Err(stop) => return Err(stop),
     }
-    let block = blocks.block();
-    let hashes = match tx_hashes(alloc, &block) {
-        Ok(hashes) => hashes,
-        Err(_) => return Err(ReadStop::NoMemory),
-    };
-    match State::genesis(alloc, &block, &hashes) {
+    let (block, hashes) = blocks.hashed();
+    match State::genesis(alloc, &block, hashes) {
         Ok(state) => Ok(state),
         Err(_) => Err(ReadStop::NoMemory),
     }
@@ -66,7 +62,6 @@ pub fn genesis_cells<B: Blocks>(
 /// Takes the events of the kept block at a place, which is not the genesis. Damaged where the source finds it damaged, or
 /// its events do not fit.
 pub(crate) fn apply_at<B: Blocks, L: Ledger>(
-    alloc: Global,
     state: &mut State,
     tree: &Tree,
     blocks: &mut B,
@@ -90,16 +85,12 @@ pub(crate) fn apply_at<B: Blocks, L: Ledger>(
         Ok(()) => {}
         Err(stop) => return Err(stop),
     }
-    let block = blocks.block();
+    let (block, hashes) = blocks.hashed();
     match state.reserve(outputs_in(&block)) {
         Ok(()) => {}
         Err(_) => return Err(ReadStop::NoMemory),
     }
-    let hashes = match tx_hashes(alloc, &block) {
-        Ok(hashes) => hashes,
-        Err(_) => return Err(ReadStop::NoMemory),
-    };
-    match state.apply(&block, &hashes, place, steps) {
+    match state.apply(&block, hashes, place, steps) {
         Ok(()) => Ok(()),
         Err(_) => Err(ReadStop::Damaged(damage_at(tree, place))),
     }

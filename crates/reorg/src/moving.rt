@@ -112,7 +112,7 @@ pub fn go_to<B: Blocks, L: Ledger>(
     let count = up.len();
     'up: for i in 0..count {
         let place = up[count - i - 1];
-        match apply_at(alloc, &mut state, tree, blocks, place, steps) {
+        match apply_at(&mut state, tree, blocks, place, steps) {
             Ok(()) => {}
             Err(stop) => return Err(stop),
         }

@@ -12,7 +12,7 @@ ghost use Rattle.reorg.specs.Moves.{CanBeTakenBack};
 
 use crate::applying::damage_at;
 use cell_model::Ext;
-use cell_state::{State, tx_hashes};
+use cell_state::State;
 use chain_tree::{Blocks, Tree};
 use outside::{ReadStop, Steps};
 use std::alloc::Global;
@@ -53,12 +53,8 @@ pub(crate) fn undo_at<B: Blocks, L: Ledger>(
         Ok(()) => {}
         Err(_) => return Err(ReadStop::NoMemory),
     }
-    let block = blocks.block();
-    let hashes = match tx_hashes(alloc, &block) {
-        Ok(hashes) => hashes,
-        Err(_) => return Err(ReadStop::NoMemory),
-    };
-    match state.undo(&block, &hashes, &ext, steps) {
+    let (block, hashes) = blocks.hashed();
+    match state.undo(&block, hashes, &ext, steps) {
         Ok(()) => Ok(()),
         Err(_) => Err(ReadStop::Damaged(damage_at(tree, place))),
     }

@@ -4,8 +4,8 @@ ghost use Rattle.std.specs.Prelude.{◌≡◌, true, false};
 ghost use Rattle.cell_model.specs.ListBlocks.{IsCanonical, IsExtFor};
 
 use blake2b_ckb::{Hasher, ckbhash};
-use cell_model::{CellMeta, Ext, ListBlocks, OutPoint};
-use cell_state::{State, tx_hashes};
+use cell_model::{CellMeta, Ext, ListBlocks, OutPoint, tx_hashes};
+use cell_state::State;
 use chain_tree::{Entry, Tree};
 use mol_schema::{BlockView, HeaderView};
 use outside::{ReadStop, Steps};

@@ -4,12 +4,12 @@ use Rattle.std.specs.Prelude.{slice_get, IfSome, IsSomeAnd}
 use Rattle.std.specs.Option.{option_map}
 use Rattle.std.proofs.lemmas.List.{length_push, length-map, length-take-le, take-append-le, take_at}
 use Rattle.std.proofs.lemmas.Option.{slice_get_within, slice_get-map, get_or_from_slice_get}
-use Rattle.codec_defs.specs.Schema.{Block}
+use Rattle.codec_defs.specs.Schema.{Transaction, Block}
 use Rattle.time_defs.specs.Specification.{Specification}
 use Rattle.time_defs.specs.Dao.{field_of_bytes}
 use Rattle.chain_defs.specs.Kept.{block_at, parent_place}
 use Rattle.chain_defs.specs.Branch.{places_within, branch_places, branch}
-use Rattle.chain_defs.specs.Hashes.{proposal_id}
+use Rattle.chain_defs.specs.Hashes.{transaction_hash, proposal_id}
 use Rattle.chain_defs.proofs.KeptLaws.{slice_get-below, slice_get-before, slice_get-push, slice_get-pushed}
 use Rattle.chain_defs.proofs.BranchLaws.{places_on, branch_before, branch-step, parent_place-below}
 use Rattle.chain_tree.specs.declared.entry.Entry.{Entry}
@@ -25,6 +25,7 @@ use Rattle.reward_defs.specs.Reward.{dao_of, field_at}
 use Rattle.reward_defs.proofs.FeeLaws.{fees-paid, ids-paid}
 use Rattle.rewards.specs.Own.{HasOwnFees, fees_on}
 use Rattle.rewards.specs.Paid.{ArePaid}
+use Rattle.rewards.proofs.SumLemmas.{as_many}
 use Rattle.rewards.specs.Reading.{AreKnownBlocks}
 
 -- ---- A branch by its places
@@ -157,10 +158,19 @@ has-parent kept top height place stands later = by_parent (parent_place kept pla
 
 -- ---- What its transactions pay
 
+-- the hashes begin with the proposal ids
+images : (transactions : List Transaction) → map (take 10) (map transaction_hash transactions) ≡ map proposal_id transactions
+images [] = refl
+images (t ∷ later) = ap (λ (l : List (List ℕ)). proposal_id t ∷ l) (images later)
+
+ids-begin : (transactions : List Transaction) → map (take 10) (drop 1 (map transaction_hash transactions)) ≡ map proposal_id (drop 1 transactions)
+ids-begin [] = refl
+ids-begin (t ∷ later) = images later
+
 pub paid-there : (spec : Specification) (told : Option (List Stored)) (entries : List Entry) (stored : List Stored) (top height place : ℕ) (it : Stored)
     → AreKnownBlocks spec told entries stored → top < length entries → 0 < height → 0 < place
     → slice_get (branch_places (blocks_of stored) top) height ≡ Some place → slice_get stored place ≡ Some it
-    → ArePaid it.ext (map proposal_id (drop 1 it.block.transactions)) (paid_at spec (branch (blocks_of stored) top) height)
+    → ArePaid it.ext (drop 1 (map transaction_hash it.block.transactions)) (paid_at spec (branch (blocks_of stored) top) height)
 unfolding paid_at
 paid-there spec told entries stored top height place it tells within high later at there = record {
   count = own.count above.parent above.is ∙ sym (ap length fees) ∙ length-map paids (λ (paid : Paid). paid.fee);
@@ -169,7 +179,7 @@ paid-there spec told entries stored top height place it tells within high later 
       ap (λ (l : List ℕ). slice_get l j) (sym fees) ∙ slice_get-map (λ (p : Paid). p.fee) paids j ∙ ap (option_map (λ (p : Paid). p.fee)) here in
       own.each above.parent j above.is (slice_get_within (fees_on spec kept above.parent it.block) j paid.fee fee)
       ∙ get_or_from_slice_get (fees_on spec kept above.parent it.block) j paid.fee 0 fee;
-  named = sym (ap (map (λ (paid : Paid). paid.id)) are ∙ ids-paid spec (branch kept above.parent) it.block 1 (drop 1 it.block.transactions));
+  named = ids-begin it.block.transactions ∙ sym (ap (map (λ (paid : Paid). paid.id)) are ∙ ids-paid spec (branch kept above.parent) it.block 1 (drop 1 it.block.transactions));
 }
   where
     kept : List Block
@@ -231,25 +241,28 @@ held P stored place it told hand tells in_hand there is =
     (subst (λ (t : Option (List Stored)). IfSome t (λ all. IfSome hand (λ e. IfSome (slice_get all e) P))) tells is))
 
 pub paid-in_hand : (spec : Specification) (told now : Option (List Stored)) (entries : List Entry) (stored : List Stored) (top height place : ℕ) (hand : Option ℕ)
-    (ext : List ℕ) (ids : List (List ℕ)) → AreKnownBlocks spec told entries stored → now ≡ told → hand ≡ Some place
+    (ext : List ℕ) (block : Block) (hashes later : List (List ℕ)) → AreKnownBlocks spec told entries stored → now ≡ told → hand ≡ Some place
     → IsSomeAnd (entry_at entries top) (λ entry. height ≤ entry.number) → 0 < height → place < length entries → 0 < place
     → ((kept : List Block) → IndexesBlocks kept entries → slice_get (branch_places kept top) height ≡ Some place)
-    → IfSome now (λ all. IfSome hand (λ e. IfSome (slice_get all e) (λ it. ids ≡ map proposal_id (drop 1 it.block.transactions))))
+    → IfSome now (λ all. IfSome hand (λ e. IfSome (slice_get all e) (λ it. block ≡ it.block)))
+    → hashes ≡ map transaction_hash block.transactions → later ≡ drop 1 hashes
     → IfSome now (λ all. IfSome hand (λ e. IfSome (slice_get all e) (λ it. ext ≡ it.ext)))
-    → ArePaid ext ids (paid_at spec (branch (blocks_of stored) top) height)
-paid-in_hand spec told now entries stored top height place hand ext ids tells same in_hand far high within later at of_ids of_ext =
+    → ArePaid ext later (paid_at spec (branch (blocks_of stored) top) height)
+paid-in_hand spec told now entries stored top height place hand ext block hashes later tells same in_hand far high within after at of_block of_hashes of_later of_ext =
     let long : length entries ≡ length stored = len-same (blocks_of stored) entries tells.indexes ∙ length-map stored (λ (it : Stored). it.block) in
     let it = slice_get-below stored place (omega (arith, within, long)) in
     let ext_is : ext ≡ it.0.ext = held (λ (s : Stored). ext ≡ s.ext) stored place it.0 now hand (same ∙ tells.is) in_hand it.1 of_ext in
-    let ids_is : ids ≡ map proposal_id (drop 1 it.0.block.transactions) =
-    held (λ (s : Stored). ids ≡ map proposal_id (drop 1 s.block.transactions)) stored place it.0 now hand (same ∙ tells.is) in_hand it.1 of_ids in
-    subst (λ (l : List ℕ). ArePaid l ids (paid_at spec (branch (blocks_of stored) top) height)) (sym ext_is)
-    (subst (λ (l : List (List ℕ)). ArePaid it.0.ext l (paid_at spec (branch (blocks_of stored) top) height)) (sym ids_is)
-    (paid-there spec told entries stored top height place it.0 tells (there-within entries top (λ entry. height ≤ entry.number) far) high later
+    let block_is : block ≡ it.0.block = held (λ (s : Stored). block ≡ s.block) stored place it.0 now hand (same ∙ tells.is) in_hand it.1 of_block in
+    let later_is : later ≡ drop 1 (map transaction_hash it.0.block.transactions) =
+    of_later ∙ ap (drop 1) of_hashes ∙ ap (λ (b : Block). drop 1 (map transaction_hash b.transactions)) block_is in
+    subst (λ (l : List ℕ). ArePaid l later (paid_at spec (branch (blocks_of stored) top) height)) (sym ext_is)
+    (subst (λ (l : List (List ℕ)). ArePaid it.0.ext l (paid_at spec (branch (blocks_of stored) top) height)) (sym later_is)
+    (paid-there spec told entries stored top height place it.0 tells (there-within entries top (λ entry. height ≤ entry.number) far) high after
     (at (blocks_of stored) tells.indexes) it.1))
 
--- it has no more ids than fees
-pub no_fee : (ext : List ℕ) (ids : List (List ℕ)) (paids : List Paid) (count : ℕ) → count ≡ count_at ext 0 → count < length ids → ArePaid ext ids paids → ⊥
-no_fee ext ids paids count is more are =
+-- there are no more than fees
+pub no_fee : (ext : List ℕ) (hashes : List (List ℕ)) (paids : List Paid) (count : ℕ) → count ≡ count_at ext 0 → count < length hashes
+    → ArePaid ext hashes paids → ⊥
+no_fee ext hashes paids count is more are =
     let fees : count_at ext 0 ≡ length paids = are.count in
-    let long : length ids ≡ length paids = ap length are.named ∙ length-map paids (λ paid. paid.id) in omega (arith, is, more, fees, long)
+    let long : length hashes ≡ length paids = as_many ext hashes paids are in omega (arith, is, more, fees, long)

@@ -50,57 +50,62 @@ sum-fails {X = X} f test xs i x there fails =
 
 -- ---- What transactions pay
 
--- what the i-th of some ids is paid
-pub record PaysAt (ext : List ℕ) (ids : List (List ℕ)) (paids : List Paid) (i : ℕ) : Type 0 where
+-- as many are paid as there are hashes
+pub as_many : (ext : List ℕ) (hashes : List (List ℕ)) (paids : List Paid) → ArePaid ext hashes paids → length hashes ≡ length paids
+as_many ext hashes paids are = sym (length-map hashes (take 10)) ∙ ap length are.named ∙ length-map paids (λ paid. paid.id)
+
+-- what the i-th of some transactions is paid
+pub record PaysAt (ext : List ℕ) (hashes : List (List ℕ)) (paids : List Paid) (i : ℕ) : Type 0 where
   pub paid : Paid
   pub there : slice_get paids i ≡ Some paid
   pub fee : fee_of ext (i + 1) ≡ paid.fee
-  pub id : slice_get ids i ≡ Some paid.id
+  pub id : option_map (take 10) (slice_get hashes i) ≡ Some paid.id
 
-pub pays-at : (ext : List ℕ) (ids : List (List ℕ)) (paids : List Paid) (i : ℕ) → ArePaid ext ids paids → i < length ids → PaysAt ext ids paids i
-pays-at ext ids paids i are within =
-    let long : length ids ≡ length paids = ap length are.named ∙ length-map paids (λ paid. paid.id) in
+pub pays-at : (ext : List ℕ) (hashes : List (List ℕ)) (paids : List Paid) (i : ℕ) → ArePaid ext hashes paids → i < length hashes
+    → PaysAt ext hashes paids i
+pays-at ext hashes paids i are within =
+    let long : length hashes ≡ length paids = as_many ext hashes paids are in
     let here = slice_get-below paids i (omega (arith, within, long)) in
     record {
       paid = here.0;
       there = here.1;
       fee = are.fees i here.0 here.1;
-      id = ap (λ (l : List (List ℕ)). slice_get l i) are.named ∙ slice_get-map (λ paid. paid.id) paids i ∙ ap (option_map (λ paid. paid.id)) here.1;
+      id = sym (slice_get-map (take 10) hashes i) ∙ ap (λ (l : List (List ℕ)). slice_get l i) are.named ∙ slice_get-map (λ paid. paid.id) paids i ∙ ap (option_map (λ paid. paid.id)) here.1;
     }
 
-pub committed-more : (ext : List ℕ) (ids : List (List ℕ)) (paids : List Paid) (i fee share : ℕ) (sum next : Option ℕ) → ArePaid ext ids paids → i < length ids
+pub committed-more : (ext : List ℕ) (hashes : List (List ℕ)) (paids : List Paid) (i fee share : ℕ) (sum next : Option ℕ) → ArePaid ext hashes paids → i < length hashes
     → fee ≡ fee_of ext (i + 1) → share ≡ committer_share fee → share < 2 ^ 64 → sum ≡ as_u64 (pos (sum_by (λ paid. committer_share paid.fee) (take i paids)))
     → Adds sum (Some share) next → next ≡ as_u64 (pos (sum_by (λ paid. committer_share paid.fee) (take (i + 1) paids)))
-committed-more ext ids paids i fee share sum next are within is share_is fits so_far adds =
-    let here : PaysAt ext ids paids i = pays-at ext ids paids i are within in
+committed-more ext hashes paids i fee share sum next are within is share_is fits so_far adds =
+    let here : PaysAt ext hashes paids i = pays-at ext hashes paids i are within in
     adds (sum_by (λ (paid : Paid). committer_share paid.fee) (take i paids)) share so_far (small share fits)
     ∙ ap (λ n. as_u64 (pos (sum_by (λ (paid : Paid). committer_share paid.fee) (take i paids) + n))) (share_is ∙ ap committer_share (is ∙ here.fee))
     ∙ ap (λ n. as_u64 (pos n)) (sum-push (λ (paid : Paid). committer_share paid.fee) paids i here.paid here.there)
 
-pub proposed-more : (ext : List ℕ) (ids : List (List ℕ)) (paids : List Paid) (test : List ℕ → Bool) (i fee share : ℕ) (id : List ℕ) (sum next : Option ℕ)
-    → ArePaid ext ids paids → i < length ids → slice_get ids i ≡ Some id → test id ≡ true
+pub proposed-more : (ext : List ℕ) (hashes : List (List ℕ)) (paids : List Paid) (test : List ℕ → Bool) (i fee share : ℕ) (hash : List ℕ) (sum next : Option ℕ)
+    → ArePaid ext hashes paids → i < length hashes → slice_get hashes i ≡ Some hash → test (take 10 hash) ≡ true
     → fee ≡ fee_of ext (i + 1) → share ≡ proposer_share fee → share < 2 ^ 64
     → sum ≡ as_u64 (pos (sum_by (λ paid. proposer_share paid.fee) (filter (λ paid. test paid.id) (take i paids))))
     → Adds sum (Some share) next → next ≡ as_u64 (pos (sum_by (λ paid. proposer_share paid.fee) (filter (λ paid. test paid.id) (take (i + 1) paids))))
-proposed-more ext ids paids test i fee share id sum next are within named passes is share_is fits so_far adds =
-    let here : PaysAt ext ids paids i = pays-at ext ids paids i are within in
+proposed-more ext hashes paids test i fee share hash sum next are within named passes is share_is fits so_far adds =
+    let here : PaysAt ext hashes paids i = pays-at ext hashes paids i are within in
     adds (sum_by (λ (paid : Paid). proposer_share paid.fee) (filter (λ (paid : Paid). test paid.id) (take i paids))) share so_far (small share fits)
     ∙ ap (λ n. as_u64 (pos (sum_by (λ (paid : Paid). proposer_share paid.fee) (filter (λ (paid : Paid). test paid.id) (take i paids)) + n)))
     (share_is ∙ ap proposer_share (is ∙ here.fee))
     ∙ ap (λ n. as_u64 (pos n)) (sum-passes (λ (paid : Paid). proposer_share paid.fee) (λ (paid : Paid). test paid.id) paids i here.paid here.there
-    (ap test (same_Some here.paid.id id (sym here.id ∙ named)) ∙ passes))
+    (ap test (same_Some here.paid.id (take 10 hash) (sym here.id ∙ ap (option_map (take 10)) named)) ∙ passes))
 
-pub proposed-same : (ext : List ℕ) (ids : List (List ℕ)) (paids : List Paid) (test : List ℕ → Bool) (i : ℕ) (id : List ℕ) (sum : Option ℕ)
-    → ArePaid ext ids paids → i < length ids → slice_get ids i ≡ Some id → test id ≡ false
+pub proposed-same : (ext : List ℕ) (hashes : List (List ℕ)) (paids : List Paid) (test : List ℕ → Bool) (i : ℕ) (hash : List ℕ) (sum : Option ℕ)
+    → ArePaid ext hashes paids → i < length hashes → slice_get hashes i ≡ Some hash → test (take 10 hash) ≡ false
     → sum ≡ as_u64 (pos (sum_by (λ paid. proposer_share paid.fee) (filter (λ paid. test paid.id) (take i paids))))
     → sum ≡ as_u64 (pos (sum_by (λ paid. proposer_share paid.fee) (filter (λ paid. test paid.id) (take (i + 1) paids))))
-proposed-same ext ids paids test i id sum are within named fails so_far =
-    let here : PaysAt ext ids paids i = pays-at ext ids paids i are within in
+proposed-same ext hashes paids test i id sum are within named fails so_far =
+    let here : PaysAt ext hashes paids i = pays-at ext hashes paids i are within in
     so_far ∙ ap (λ n. as_u64 (pos n)) (sum-fails (λ (paid : Paid). proposer_share paid.fee) (λ (paid : Paid). test paid.id) paids i here.paid here.there
-    (ap test (same_Some here.paid.id id (sym here.id ∙ named)) ∙ fails))
+    (ap test (same_Some here.paid.id (take 10 hash) (sym here.id ∙ ap (option_map (take 10)) named)) ∙ fails))
 
 -- all
-pub all-paid : (ext : List ℕ) (ids : List (List ℕ)) (paids : List Paid) (i : ℕ) → ArePaid ext ids paids → length ids ≤ i → take i paids ≡ paids
-all-paid ext ids paids i are all =
-    let long : length ids ≡ length paids = ap length are.named ∙ length-map paids (λ paid. paid.id) in
+pub all-paid : (ext : List ℕ) (hashes : List (List ℕ)) (paids : List Paid) (i : ℕ) → ArePaid ext hashes paids → length hashes ≤ i → take i paids ≡ paids
+all-paid ext hashes paids i are all =
+    let long : length hashes ≡ length paids = as_many ext hashes paids are in
     take_all i paids (omega (arith, all, long))

@@ -1,5 +1,5 @@
 // The fees that a kept block commits.
-ghost use Rattle.std.specs.Prelude.{◌≡◌, ◌+◌, ◌^◌, ◌<◌, ◌≤◌, List, length, filter, IsTrue, IsSomeAnd, pos};
+ghost use Rattle.std.specs.Prelude.{◌≡◌, ◌+◌, ◌^◌, ◌<◌, ◌≤◌, List, length, drop, filter, IsTrue, IsSomeAnd, pos};
 ghost use Rattle.std.specs.List.{sum_by};
 ghost use Rattle.std.specs.Str.{bytes_eq};
 ghost use Rattle.std.specs.HashMap as hashed;
@@ -21,7 +21,7 @@ ghost use Rattle.rewards.specs.Reading.{AreKnownBlocks, ComesTo};
 use crate::amounts::{committer_share, plus, proposer_share};
 use crate::places::place_at;
 use crate::starts::{Starts, is_started};
-use cell_model::fee_in;
+use cell_model::{fee_in, proposal_id};
 use chain_tree::{Blocks, Tree};
 use outside::{Area, Damage, ReadStop};
 
@@ -47,31 +47,41 @@ fn fee_at(ext: &[u8], i: usize) -> u64
     }
 }
 
-/// What the fees of some transactions give to the block that commits them.
-fn committed(ids: &[[u8; 10]], ext: &[u8]) -> Option<u64>
+/// The hashes of the transactions after the first.
+fn after_first(hashes: &[[u8; 32]]) -> &[[u8; 32]]
+    ensures { result.now ≡ drop 1 hashes.now }
+{
+    if hashes.is_empty() {
+        return hashes;
+    }
+    &hashes[1..]
+}
+
+/// What the fees of some transactions give to the block that commits them. The hashes are theirs.
+fn committed(hashes: &[[u8; 32]], ext: &[u8]) -> Option<u64>
     requires form { IsTrue (is_ext ext.now) }
-    requires few { length ids.now < 2 ^ 32 }
-    requires has { length ids.now ≤ count_at ext.now 0 }
-    ensures { (paids : List Paid) → ArePaid ext.now ids.now paids → result ≡ as_u64 (pos (sum_by (λ paid. fees.committer_share paid.fee) paids)) }
+    requires few { length hashes.now < 2 ^ 32 }
+    requires has { length hashes.now ≤ count_at ext.now 0 }
+    ensures { (paids : List Paid) → ArePaid ext.now hashes.now paids → result ≡ as_u64 (pos (sum_by (λ paid. fees.committer_share paid.fee) paids)) }
 {
     let mut sum = Some(0);
-    'fees: for i in 0..ids.len() {
+    'fees: for i in 0..hashes.len() {
         sum = plus(sum, Some(committer_share(fee_at(ext, i))));
     }
     sum
 }
 
 /// What the fees of some transactions that are committed at a height give to the proposer whose starts these are.
-fn proposed(starts: &Starts, height: u64, ids: &[[u8; 10]], ext: &[u8]) -> Option<u64>
+fn proposed(starts: &Starts, height: u64, hashes: &[[u8; 32]], ext: &[u8]) -> Option<u64>
     requires form { IsTrue (is_ext ext.now) }
-    requires few { length ids.now < 2 ^ 32 }
-    requires has { length ids.now ≤ count_at ext.now 0 }
-    ensures { (paids : List Paid) → ArePaid ext.now ids.now paids → result ≡ as_u64 (pos (sum_by (λ paid. fees.proposer_share paid.fee)
+    requires few { length hashes.now < 2 ^ 32 }
+    requires has { length hashes.now ≤ count_at ext.now 0 }
+    ensures { (paids : List Paid) → ArePaid ext.now hashes.now paids → result ≡ as_u64 (pos (sum_by (λ paid. fees.proposer_share paid.fee)
         (filter (λ paid. is_started (hashed.get bytes_eq starts.now paid.id) height) paids))) }
 {
     let mut sum = Some(0);
-    'fees: for i in 0..ids.len() {
-        if is_started(starts, &ids[i], height) {
+    'fees: for i in 0..hashes.len() {
+        if is_started(starts, &proposal_id(&hashes[i]), height) {
             sum = plus(sum, Some(proposer_share(fee_at(ext, i))));
         }
     }
@@ -108,12 +118,13 @@ pub(crate) fn committed_at<B: Blocks>(
         Ok(()) => {}
         Err(stop) => return Err(stop),
     }
-    let ids = blocks.ids();
+    let (_, hashes) = blocks.hashed();
+    let later = after_first(hashes);
     let ext = blocks.spent();
-    if ids.len() > fee_count(ext) as usize {
+    if later.len() > fee_count(ext) as usize {
         return Err(damaged());
     }
-    Ok(committed(ids, ext))
+    Ok(committed(later, ext))
 }
 
 /// What they give to the proposer whose starts these are. Damaged as above.
@@ -137,10 +148,11 @@ pub(crate) fn proposed_at<B: Blocks>(
         Ok(()) => {}
         Err(stop) => return Err(stop),
     }
-    let ids = blocks.ids();
+    let (_, hashes) = blocks.hashed();
+    let later = after_first(hashes);
     let ext = blocks.spent();
-    if ids.len() > fee_count(ext) as usize {
+    if later.len() > fee_count(ext) as usize {
         return Err(damaged());
     }
-    Ok(proposed(starts, height, ids, ext))
+    Ok(proposed(starts, height, later, ext))
 }

@@ -32,12 +32,12 @@ fn is_current<B: Blocks>(alloc: Global, blocks: &B, place: u32, row: &mut Row) -
 {
     let wanted = row.numbers(alloc)?;
     let ext = if place == 0 { 0 } else { blocks.spent().len() };
-    let block = blocks.block();
+    let (block, hashes) = blocks.hashed();
     Some(
         *wanted.first()? == block.header().number()
             && *wanted.get(1)? == block.bytes().len() as u64
             && *wanted.get(2)? == ext as u64
-            && *wanted.get(3)? == blocks.ids().len() as u64,
+            && *wanted.get(3)? == hashes.len().saturating_sub(1) as u64,
     )
 }
 

@@ -2,7 +2,7 @@
 
 use crate::cells::{bytes_of, text_of};
 use crate::kept::put;
-use cell_model::{CellMeta, ListBlocks, OutPoint, Resolved, fetch};
+use cell_model::{CellMeta, ListBlocks, OutPoint, Resolved, fetch, proposal_id};
 use chain_tree::Blocks;
 use outside::{Area, Damage, ReadStop};
 use std::alloc::Global;
@@ -86,8 +86,9 @@ pub(crate) fn ids(alloc: Global, blocks: &mut ListBlocks, columns: &str) -> Opti
     }
     blocks.bring(place).ok()?;
     let mut bytes = Vec::new(alloc);
-    for id in blocks.ids() {
-        bytes.extend_from_slice(id).ok()?;
+    let (_, hashes) = blocks.hashed();
+    for hash in hashes.iter().skip(1) {
+        bytes.extend_from_slice(&proposal_id(hash)).ok()?;
     }
     text_of(alloc, &bytes).ok()
 }

@@ -6,8 +6,8 @@ ghost use Rattle.tx_rules.specs.At.{IsPlaced};
 ghost use Rattle.chain_tree.specs.Blocks.{AreRated};
 
 use blake2b_ckb::ckbhash;
-use cell_model::{CellMeta, Cells, Ext, ListBlocks, OutPoint};
-use cell_state::{State, outputs_in, tx_hashes};
+use cell_model::{CellMeta, Cells, Ext, ListBlocks, OutPoint, tx_hashes};
+use cell_state::{State, outputs_in};
 use chain_tree::{Entry, Tree};
 use dao_math::is_rated;
 use epochs::Spec;

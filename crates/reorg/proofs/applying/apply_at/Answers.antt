@@ -33,31 +33,20 @@ returns-in-Err-reserve g c = record {
   most = omega arith;
 }
 
-pub returns-in-Err-tx_hashes : goal.returns-in-Err-tx_hashes
-returns-in-Err-tx_hashes g c = record {
-  read = read_short c.in-Ok.ensures.read;
-  rows = λ stored b tells there. tt;
-  fit = λ stored b tells there. tt;
-  undamaged = λ stored b height tells there above fit damage same. memory_undamaged damage same;
-  at_record = λ tells damage same. absurd (memory_undamaged damage same);
-  steps = tt;
-  most = omega arith;
-}
-
 pub returns-in-Ok-apply : goal.returns-in-Ok-apply
 returns-in-Ok-apply g c = record {
   read = c.in-Ok.ensures.read;
   rows = λ stored b tells there height o above.
-      let is : c.block-block.result ≡ b =
-      told-block stored c.block-block.result c.args.place b _ _ (c.in-Ok.ensures.read.told ∙ tells) c.in-Ok.ensures.taken c.block-block.ensures there in
+      let is : c.hashed.result.0 ≡ b =
+      told-block stored c.hashed.result.0 c.args.place b _ _ (c.in-Ok.ensures.read.told ∙ tells) c.in-Ok.ensures.taken c.hashed.ensures.block there in
       c.in-Ok-apply.ensures.rows height o above
-      ∙ row_after-same c.args.place (events_of_block height c.block-block.result) (rows c.reserve.new.self) (rows c.args.state.now) o (c.in-Ok-reserve.ensures.rows o)
+      ∙ row_after-same c.args.place (events_of_block height c.hashed.result.0) (rows c.reserve.new.self) (rows c.args.state.now) o (c.in-Ok-reserve.ensures.rows o)
       ∙ ap (λ (x : Block). row_after c.args.place (events_of_block height x) (rows c.args.state.now) o) is;
   fit = λ stored b tells there height above.
-      let is : c.block-block.result ≡ b =
-      told-block stored c.block-block.result c.args.place b _ _ (c.in-Ok.ensures.read.told ∙ tells) c.in-Ok.ensures.taken c.block-block.ensures there in
+      let is : c.hashed.result.0 ≡ b =
+      told-block stored c.hashed.result.0 c.args.place b _ _ (c.in-Ok.ensures.read.told ∙ tells) c.in-Ok.ensures.taken c.hashed.ensures.block there in
       subst (λ (x : Block). AllFit (events_of_block height x) (are_live (rows c.args.state.now))) is
-      (found-same (events_of_block height c.block-block.result) (rows c.reserve.new.self) (rows c.args.state.now) (λ o. sym (c.in-Ok-reserve.ensures.rows o))
+      (found-same (events_of_block height c.hashed.result.0) (rows c.reserve.new.self) (rows c.args.state.now) (λ o. sym (c.in-Ok-reserve.ensures.rows o))
       (c.in-Ok-apply.ensures.fit height above));
   undamaged = λ stored b height tells there above fit damage same. no_answer _ _ same;
   at_record = λ tells damage same. absurd (no_answer _ _ same);
@@ -71,10 +60,10 @@ returns g c = record {
   rows = λ stored b tells there. tt;
   fit = λ stored b tells there. tt;
   undamaged = λ stored b height tells there above fit damage same.
-      let is : c.block-block.result ≡ b =
-      told-block stored c.block-block.result c.args.place b _ _ (c.in-Ok.ensures.read.told ∙ tells) c.in-Ok.ensures.taken c.block-block.ensures there in
-      none-odd (events_of_block height c.block-block.result) (are_live (rows c.reserve.new.self)) c.in-Err-apply.field-0
-      (found-same (events_of_block height c.block-block.result) (rows c.args.state.now) (rows c.reserve.new.self) c.in-Ok-reserve.ensures.rows
+      let is : c.hashed.result.0 ≡ b =
+      told-block stored c.hashed.result.0 c.args.place b _ _ (c.in-Ok.ensures.read.told ∙ tells) c.in-Ok.ensures.taken c.hashed.ensures.block there in
+      none-odd (events_of_block height c.hashed.result.0) (are_live (rows c.reserve.new.self)) c.in-Err-apply.field-0
+      (found-same (events_of_block height c.hashed.result.0) (rows c.args.state.now) (rows c.reserve.new.self) c.in-Ok-reserve.ensures.rows
       (subst (λ (x : Block). AllFit (events_of_block height x) (are_live (rows c.args.state.now))) (sym is) fit))
       (c.in-Err-apply.ensures.odd height above);
   at_record = λ tells damage same. at-record c.args.tree.now.entries c.args.place c.damage_at.result damage c.damage_at.ensures.at same;

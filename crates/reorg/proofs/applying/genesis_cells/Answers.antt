@@ -17,20 +17,13 @@ returns-in-Err g c = record {
   undamaged = λ stored tells damage same. c.in-Err.ensures.undamaged (is_told _ stored tells) damage (handed c.in-Err.stop _ same);
 }
 
-pub returns-in-Err-tx_hashes : goal.returns-in-Err-tx_hashes
-returns-in-Err-tx_hashes g c = record {
-  read = read_short c.in-Ok.ensures.read;
-  rows = λ stored tells indexes. tt;
-  undamaged = λ stored tells damage same. memory_undamaged damage same;
-}
-
 pub returns-in-Ok-genesis : goal.returns-in-Ok-genesis
 returns-in-Ok-genesis g c = record {
   read = c.in-Ok.ensures.read;
   rows = λ stored tells indexes o.
       let there = block-there (blocks_of stored) c.args.tree.now.entries 0 indexes c.requires.some in
-      let is : c.block-block.result ≡ there.0 =
-      told-block stored c.block-block.result 0 there.0 _ _ (c.in-Ok.ensures.read.told ∙ tells) c.in-Ok.ensures.taken c.block-block.ensures there.1 in
+      let is : c.hashed.result.0 ≡ there.0 =
+      told-block stored c.hashed.result.0 0 there.0 _ _ (c.in-Ok.ensures.read.told ∙ tells) c.in-Ok.ensures.taken c.hashed.ensures.block there.1 in
       c.in-Ok-genesis.ensures o ∙ ap (λ (x : Block). row_after 0 (events_of_block 0 x) (λ _. None) o) is
       ∙ sym (live_row-genesis (blocks_of stored) there.0 o there.1);
   undamaged = λ stored tells damage same. no_answer _ _ same;

@@ -7,4 +7,4 @@ use Rattle.rewards.proofs.fees.committed.Given as goal
 
 -- the sum over those before the i-th
 abbrev pub invariant-fees : goal.invariant-fees
-invariant-fees l = (paids : List Paid) → ArePaid l.ext l.ids paids → l.sum ≡ as_u64 (pos (sum_by (λ paid. committer_share paid.fee) (take l.i paids)))
+invariant-fees l = (paids : List Paid) → ArePaid l.ext l.hashes paids → l.sum ≡ as_u64 (pos (sum_by (λ paid. committer_share paid.fee) (take l.i paids)))

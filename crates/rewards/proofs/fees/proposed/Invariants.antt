@@ -10,5 +10,5 @@ use Rattle.rewards.proofs.fees.proposed.Given as goal
 
 -- the sum over those before the i-th
 abbrev pub invariant-fees : goal.invariant-fees
-invariant-fees l = (paids : List Paid) → ArePaid l.ext l.ids paids → l.sum ≡ as_u64 (pos (sum_by (λ paid. proposer_share paid.fee)
+invariant-fees l = (paids : List Paid) → ArePaid l.ext l.hashes paids → l.sum ≡ as_u64 (pos (sum_by (λ paid. proposer_share paid.fee)
     (filter (λ paid. is_started (get bytes_eq l.starts paid.id) l.height) (take l.i paids))))

@@ -3,9 +3,8 @@ use Rattle.std.proofs.Math.Seq.{take-append_seam, drop-append_seam}
 use Rattle.std.proofs.lemmas.List.{length-append}
 use Rattle.codec_defs.specs.Schema.{Block, block}
 use Rattle.chain_defs.specs.Hashes.{transaction_hash}
-use Rattle.cell_model.specs.ListBlocks.{ids_of, IsCanonical}
+use Rattle.cell_model.specs.ListBlocks.{hashes_of, IsCanonical}
 use Rattle.cell_model.proofs.ListLemmas.{canonical-decoded, decoding-is}
-use Rattle.block_store.proofs.StoredLemmas.{ids-by}
 use Rattle.block_store.proofs.body.KeptBody.of.Goals as goal
 
 pub invariant_of-result : goal.invariant_of-result
@@ -18,8 +17,7 @@ invariant_of-result c =
       omega arith,
       omega (arith, ap length whole, length-append c.args.block.now c.args.ext.now),
       subst IsCanonical (sym first) c.requires.canonical,
-      c.in_ok-ids.ensures ∙ ap (λ (hs : List (List ℕ)). map (take 10) (drop 1 hs)) hashes ∙ ids-by here.transactions
-          ∙ ap (λ (bytes : List ℕ). ids_of (block.decoding bytes)) (sym first),
+      c.in_ok-hashes.ensures ∙ hashes ∙ ap (λ (bytes : List ℕ). hashes_of (block.decoding bytes)) (sym first),
     )
 
 pub returns : goal.returns

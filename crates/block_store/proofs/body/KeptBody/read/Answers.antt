@@ -1,7 +1,7 @@
 use Rattle.std.proofs.Common.{◌≡◌, ◌-◌, ◌≤◌, ℕ, List, length, take, drop, Some, ap, sym, subst, ◌∙◌}
 use Rattle.codec_defs.specs.Shape.{decoded}
 use Rattle.codec_defs.specs.Schema.{block}
-use Rattle.cell_model.specs.ListBlocks.{ids_of}
+use Rattle.cell_model.specs.ListBlocks.{hashes_of}
 use Rattle.cell_model.proofs.ListLemmas.{decoding-is}
 use Rattle.block_store.specs.Stored.{parts_in}
 use Rattle.block_store.proofs.StoredLemmas.{body-read, is-canonical}
@@ -17,7 +17,7 @@ invariant_of-result c =
       c.in-Some.ensures.ordered,
       subst (λ (bytes : List ℕ). end ≤ length bytes) c.deref.ensures.value c.in-Some.ensures.within,
       is-canonical _ b is,
-      c.in_ok-ids-in-Some-read.ensures ∙ ap ids_of (sym (decoding-is _ b is)),
+      c.in_ok-hashes-in-Some-read.ensures ∙ ap hashes_of (sym (decoding-is _ b is)),
     )
 
 pub returns : goal.returns

@@ -3,8 +3,8 @@ use Rattle.std.proofs.lemmas.List.{length_push}
 use Rattle.codec_defs.specs.Shape.{decoded}
 use Rattle.codec_defs.specs.Schema.{block}
 use Rattle.codec_defs.proofs.ShapeLaws.{IsA-decoded}
-use Rattle.cell_model.specs.ListBlocks.{ListBlocksValue, contents, stored_from, ids_of}
-use Rattle.cell_model.proofs.ListLemmas.{as_many, canonical-decoded, hand-more, seen-push, kept_more, ids_more}
+use Rattle.cell_model.specs.ListBlocks.{ListBlocksValue, contents, stored_from, hashes_of}
+use Rattle.cell_model.proofs.ListLemmas.{as_many, canonical-decoded, hand-more, seen-push, kept_more, hashes_more}
 use Rattle.cell_model.proofs.list_blocks.ListBlocks.push.Goals as goal
 use Rattle.cell_model.proofs.list_blocks.ListBlocks.push.Goals.{After-push_reserved-2}
 
@@ -39,9 +39,9 @@ invariant_of-self-2 c =
           c.requires.canonical
           (λ some. c.requires.later (omega (arith, some, many c))),
       hand-more here.hand (length here.blocks.items) _ (omega (arith, ap length (blocks-more c), length_push here.blocks.items c.args.block)) c.self.invariant.1,
-      ids_more here.blocks.items _ here.ids.items _ c.args.block c.in_ok-ids.ids c.self.invariant.2 (blocks-more c)
-          (c.push_reserved-2.ensures.items ∙ ap (λ (l : List (Vec (List ℕ) Global)). l ++ c.in_ok-ids.ids ∷ []) c.in_ok-reserve.ensures.items)
-          (c.in_ok-ids.ensures ∙ ap ids_of view_is),
+      hashes_more here.blocks.items _ here.hashes.items _ c.args.block c.in_ok-hashes.hashes c.self.invariant.2 (blocks-more c)
+          (c.push_reserved-2.ensures.items ∙ ap (λ (l : List (Vec (List ℕ) Global)). l ++ c.in_ok-hashes.hashes ∷ []) c.in_ok-reserve.ensures.items)
+          (c.in_ok-hashes.ensures ∙ ap hashes_of view_is),
     )
 
 pub returns-clause-pushed : goal.returns-clause-pushed

@@ -3,9 +3,9 @@ use Rattle.std.proofs.lemmas.List.{map_push}
 use Rattle.codec_defs.specs.Shape.{decoded}
 use Rattle.codec_defs.specs.Schema.{block}
 use Rattle.codec_defs.proofs.ShapeLaws.{IsA-decoded}
-use Rattle.cell_model.specs.ListBlocks.{ids_of, id_lists}
+use Rattle.cell_model.specs.ListBlocks.{hashes_of, hash_lists}
 use Rattle.cell_model.proofs.ListLemmas.{decoded_in, one_image_more, all_images}
-use Rattle.cell_model.proofs.list_blocks.proposal_ids_of_all.Goals as goal
+use Rattle.cell_model.proofs.list_blocks.hashes_of_all.Goals as goal
 
 pub from_encoding-requires : goal.from_encoding-requires
 from_encoding-requires c =
@@ -20,12 +20,12 @@ encodings-preserved c =
     let encoded : decoded block c.deref.result.now ≡ Some (block.decoding vector.items) =
     decoded_in blocks c.encodings.block-index vector c.deref.result.now c.requires c.encodings-test.true c.block-item.is c.deref.ensures.value in
     let view_is : c.from_encoding.result ≡ block.decoding vector.items = c.from_encoding.ensures _ (IsA-decoded block c.deref.result.now _ encoded) in
-    let grown : id_lists c.push.new.self.items ≡ id_lists c.encodings.ids.items ++ c.in_ok-proposal_ids.field-0.items ∷ [] =
-    ap id_lists c.in_ok-push.ensures.items ∙ map_push (λ (v : Vec (List ℕ) Global). v.items) c.encodings.ids.items c.in_ok-proposal_ids.field-0 in
-    one_image_more (λ (v : Vec ℕ Global). ids_of (block.decoding v.items)) blocks c.encodings.block-index vector (id_lists c.encodings.ids.items) _ _
-    c.in_ok-proposal_ids.field-0.items c.encodings-test.true (sym c.block-item.is) (c.in_ok-proposal_ids.ensures ∙ ap ids_of view_is) c.encodings.invariant grown
+    let grown : hash_lists c.push.new.self.items ≡ hash_lists c.encodings.hashes.items ++ c.in_ok-tx_hashes.field-0.items ∷ [] =
+    ap hash_lists c.in_ok-push.ensures.items ∙ map_push (λ (v : Vec (List ℕ) Global). v.items) c.encodings.hashes.items c.in_ok-tx_hashes.field-0 in
+    one_image_more (λ (v : Vec ℕ Global). hashes_of (block.decoding v.items)) blocks c.encodings.block-index vector (hash_lists c.encodings.hashes.items) _ _
+    c.in_ok-tx_hashes.field-0.items c.encodings-test.true (sym c.block-item.is) (c.in_ok-tx_hashes.ensures ∙ ap hashes_of view_is) c.encodings.invariant grown
 
 pub returns : goal.returns
 returns c =
-    all_images (λ (v : Vec ℕ Global). ids_of (block.decoding v.items)) c.args.blocks.now c.encodings.block-index (id_lists c.encodings.ids.items) _
+    all_images (λ (v : Vec ℕ Global). hashes_of (block.decoding v.items)) c.args.blocks.now c.encodings.block-index (hash_lists c.encodings.hashes.items) _
     c.encodings-test.false c.encodings.invariant

@@ -2,7 +2,7 @@ use Rattle.std.proofs.Common.{arith}
 use Rattle.std.proofs.lemmas.Option.{slice_get_within, get_or_from_slice_get}
 use Rattle.chain_defs.specs.Hashes.{transaction_hash}
 use Rattle.cell_model.proofs.ListLemmas.{one_image_more, all_images}
-use Rattle.cell_state.proofs.hashes.tx_hashes.Goals as goal
+use Rattle.cell_model.proofs.hashes.tx_hashes.Goals as goal
 
 pub transactions-preserved : goal.transactions-preserved
 transactions-preserved c =
