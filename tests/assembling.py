@@ -48,7 +48,7 @@ def check_assembled_transfers(program):
 
 
 def check_extra_item_before_the_end(program):
-    """Who sends a byte after the thousandth item need not end the input to be told so."""
+    """Who sends a byte after the thousandth item need not end the input to be answered."""
     most = runs.WITNESS + SHORT * model.MOST_ITEMS
     chain = runs.Chain()
     with store_of(program, chain) as folder, started([program, folder, 'assemble']) as process:

@@ -252,7 +252,7 @@ whole entries t resolved formed =
     (sym (length-map resolved.inputs (λ (copy : ResolvedValue). copy.out_point)) ∙ ap length formed.inputs
     ∙ length-map t.raw.inputs (λ (input : CellInput). input.previous_output) ∙ ap (λ (it : Transaction). length it.raw.inputs) (sym formed.tx))
 
--- Over kept blocks that are told what a transaction resolves to shows its scene at its site.
+-- Over kept blocks that are known what a transaction resolves to shows its scene at its site.
 scene-same : (stored : List Stored) (at : AtValue) (rows : OutPoint → Option Row) (site : Site) (entries : List Entry) (t : Transaction)
     (resolved : ResolvedTxValue) → IsSiteOf stored at rows site → IsFormed entries t resolved → IsResolved (blocks_of stored) at.parent site t resolved
     → scene_shown site.spec.epoch_length stored resolved ≡ Some (scene_of site t)

@@ -1,4 +1,4 @@
--- What an answer says whatever is told of kept blocks: on a block, of J17; and on a transaction alone, of J18 and J20.
+-- What an answer says whatever is known of kept blocks: on a block, of J17; and on a transaction alone, of J18 and J20.
 use Rattle.std.specs.Prelude.{◌≡◌, ◌⊎◌, ⊤, ◌<◌, Bool, true, false, Option, is_some, Result, Ok, Err}
 use Rattle.outside.specs.declared.disk.ReadStop.TheVariants.{DiskFault, NoMemory, Damaged}
 use Rattle.codec_defs.specs.Schema.{OutPoint}

@@ -5,7 +5,7 @@ use Rattle.std.specs.Str.{bytes_eq}
 use Rattle.codec_defs.specs.Schema.{OutPoint}
 use Rattle.cell_defs.specs.Row.{Row}
 
--- For some keys the row since, or that there is none, in no order that is told.
+-- For some keys the row since, or that there is none, in any order.
 abbrev pub Changed : Type 0
 Changed = List ((List ℕ × ℕ) × Option Row)
 

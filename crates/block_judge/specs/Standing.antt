@@ -14,7 +14,7 @@ use Rattle.uncle_rules.specs.Embedded.{UnclesValue, IndexesUncles}
 use Rattle.rewards.specs.Own.{HaveOwnFees}
 use Rattle.block_judge.specs.declared.context.Context.{Context}
 
--- Over kept blocks that are told the tree indexes them, and the rows are those of the live cells of the parent's branch, of which those with a
+-- Over kept blocks that are known the tree indexes them, and the rows are those of the live cells of the parent's branch, of which those with a
 -- type script hold what they occupy.
 pub record Stands (stored : List Stored) (entries : List Entry) (parent : ℕ) (rows : OutPoint → Option Row) : Type 0 where
   pub indexed : IndexesBlocks (blocks_of stored) entries

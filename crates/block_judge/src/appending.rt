@@ -55,7 +55,7 @@ pub fn judge_appended<C: Cells, S: Cells, B: Blocks>(
     ensures interest_fits { IfOk result (λ passed. nat_abs passed.interest < 2 ^ 96) }
     ensures freed_fits { IfOk result (λ passed. passed.freed < 2 ^ 96) }
 
-    // Over kept blocks that are told, with the cells after the transactions so far. J19 is kept where its id is proposed.
+    // Over kept blocks that are known, with the cells after the transactions so far. J19 is kept where its id is proposed.
     ensures broken { (stored : List Stored) → B.told blocks.old ≡ Some stored → SeesSoFar stored (seen C.rows context.now) so_far.now (S.rows cells.now)
         → IsTrue (is_proposed context.now.spec.now (branch (blocks_of stored) context.now.parent) tx.now)
         → (rule : Rule) → result ≡ Err (Broken rule)

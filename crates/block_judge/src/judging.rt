@@ -62,7 +62,7 @@ pub fn judge<C: Cells, B: Blocks>(
     ensures fees { IfOk result (λ ext. length ext.fees ≡ length block.now.transactions - 1) }
     ensures rated { IfOk result (λ _. IsTrue (is_rated block.now.header.dao)) }
 
-    // Over kept blocks that are told with their own fees, with the cells of the parent's branch.
+    // Over kept blocks that are known with their own fees, with the cells of the parent's branch.
     ensures broken { (stored : List Stored) → B.told blocks.old ≡ Some stored
         → StandsForAll stored (seen C.rows context.now) → PassesAtSight (blocks_of stored) (seen C.rows context.now) block.now
         → (rule : Rule) → result ≡ Err (Broken rule)
@@ -108,7 +108,7 @@ pub fn dry_run<C: Cells, B: Blocks>(
     // Over any source of blocks: J18 and J20.
     ensures by_rows { SaysByRows (has_form tx.now) (spends_rows (C.rows context.now.cells.now) tx.now) result }
 
-    // Over kept blocks that are told, with the cells of the parent's branch.
+    // Over kept blocks that are known, with the cells of the parent's branch.
     ensures broken { (stored : List Stored) → B.told blocks.old ≡ Some stored → StandsFor stored (seen C.rows context.now)
         → (rule : Rule) → result ≡ Err (Broken rule) → broken_in_dry_run context.now.spec.now (branch (blocks_of stored) context.now.parent) tx.now ≡ Some (rule_number rule) }
     ensures unbroken { (stored : List Stored) → B.told blocks.old ≡ Some stored → StandsFor stored (seen C.rows context.now)

@@ -1,4 +1,4 @@
--- What a cache holds, beside what is told.
+-- What a cache holds, beside what is known.
 use Rattle.std.proofs.Common.{◌≡◌, ℕ, zero, suc, ◌<◌, List, [], ◌∷◌, ◌++◌, length, Some, sym, ap, ◌∙◌, arith, inl, inr}
 use Rattle.std.specs.Prelude.{slice_get}
 use Rattle.chain_defs.proofs.KeptLaws.{slice_get-push, slice_get-before}

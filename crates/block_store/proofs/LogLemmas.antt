@@ -22,7 +22,7 @@ use Rattle.chain_tree.specs.Told.{Stored, blocks_of}
 use Rattle.chain_tree.specs.declared.entry.Entry.{Entry}
 use Rattle.block_store.specs.Stored.{of_length, body_at, with_ext, parts_in, beside, stored_in, stored_of, put_first, all_stored, all_in, later_record}
 use Rattle.log_file.specs.Opening.{kept_records}
-use Rattle.block_store.specs.Laws.{LogHasRecords, ReadsItsRecord, SaysWhatIsKept, LogHasBlocks, SaysWhatIsOpened, OpensTold, SaysOneMore, FollowsTheLog, AddsARecord}
+use Rattle.block_store.specs.Laws.{LogHasRecords, ReadsItsRecord, SaysWhatIsKept, LogHasBlocks, SaysWhatIsOpened, OpensKnown, SaysOneMore, FollowsTheLog, AddsARecord}
 use Rattle.block_store.proofs.StoredLemmas.{put_first-at}
 
 -- ---- The first record of a log
@@ -273,8 +273,8 @@ says_what_is_opened records log stored says blocks exts =
     let its = said_by records log says in
     genesis_told log.genesis log.records log.blocks stored (decoded block log.genesis) refl its.genesis its.blocks blocks exts
 
-pub opens_told : OpensTold
-opens_told image log stored entries says blocks exts named =
+pub opens_known : OpensKnown
+opens_known image log stored entries says blocks exts named =
     let records : List Record = records_of (drop 8 image.log) in
     let its = said_by records log says in
     log_has_records image log.specification (record_of 2 log.genesis ∷ log.records) entries (record { holds = its.split; named = named })

@@ -19,7 +19,7 @@ use Rattle.log_defs.specs.Log.{parts_of_body}
 use Rattle.chain_tree.specs.Told.{Stored}
 use Rattle.chain_tree.specs.declared.entry.Entry.{Entry}
 use Rattle.chain_tree.specs.Entries.{entry_at}
-use Rattle.block_store.specs.Stored.{with_ext, parts_in, beside, stored_in, stored_of, stored_at, put_first, all_stored, all_stored-length, told_by}
+use Rattle.block_store.specs.Stored.{with_ext, parts_in, beside, stored_in, stored_of, stored_at, put_first, all_stored, all_stored-length, known_by}
 use Rattle.block_store.specs.Held.{Holds, NothingNew, OnlyAdds, IsKept}
 
 -- ---- Proposal ids by hashes
@@ -85,7 +85,7 @@ put_first-at None later stored is = absurd cc
 put_first-at (Some it) None stored is = absurd cc
 put_first-at (Some it) (Some rest) stored is = (it, rest, refl, refl, cc)
 
--- what is told for a place is what LOG has for the entry there
+-- what is known for a place is what LOG has for the entry there
 pub all_stored-at : (image : Image) (place e : ℕ) (entries : List Entry) (stored : List Stored) → all_stored image place entries ≡ Some stored
     → option_and_then (stored_of image (place + e)) (entry_at entries e) ≡ slice_get stored e
 all_stored-at image place e [] [] is = refl
@@ -117,10 +117,10 @@ told-at image entries e it P (Some stored) is there holds = at_place (slice_get 
         same_one : Some it ≡ Some other → it ≡ other
         same_one same = cc
 
--- what is held for an entry is what is told of it
+-- what is held for an entry is what is known of it
 pub held-told : (reads : Option Image) (entries : List Entry) (held : List (ℕ × Stored)) (hand : Option ℕ) (e : ℕ) (it : Stored) (P : Stored → Type 0)
     → IfSome reads (IsKept entries held) → hand ≡ Some e → Holds held e it → P it
-    → IfSome (told_by reads entries) (λ stored. IfSome hand (λ place. IfSome (slice_get stored place) P))
+    → IfSome (known_by reads entries) (λ stored. IfSome hand (λ place. IfSome (slice_get stored place) P))
 held-told None entries held hand e it P kept is holds so = tt
 held-told (Some image) entries held hand e it P kept is holds so =
     subst (λ (o : Option ℕ). IfSome (all_stored image 0 entries) (λ stored. IfSome o (λ place. IfSome (slice_get stored place) P))) (sym is)
@@ -149,8 +149,8 @@ pub kept-counted : (reads : Option Image) (entries : List Entry) (old new : List
     → IfSome reads (IsKept entries old) → IfSome reads (IsKept entries new)
 kept-counted reads entries old new same kept = subst (λ (held : List (ℕ × Stored)). IfSome reads (IsKept entries held)) (sym same) kept
 
--- where all is told, LOG has a block for each entry
-pub told-there : (reads : Option Image) (entries : List Entry) (e : ℕ) → e < length entries → IsSome (told_by reads entries)
+-- where all is known, LOG has a block for each entry
+pub told-there : (reads : Option Image) (entries : List Entry) (e : ℕ) → e < length entries → IsSome (known_by reads entries)
     → IfSome reads (λ image. stored_at image entries e ≡ None) → ⊥
 told-there None entries e within told missing = absurd cc
 told-there (Some image) entries e within told missing = by_told (all_stored image 0 entries) refl told

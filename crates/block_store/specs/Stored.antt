@@ -56,8 +56,8 @@ all_stored image place [] = Some []
 all_stored image place (entry ∷ entries) = put_first (stored_of image place entry) (all_stored image (suc place) entries)
 
 -- the kept blocks with their exts that a disk tells for the entries of a tree
-abbrev pub told_by : Option Image → List Entry → Option (List Stored)
-told_by reads entries = option_and_then (λ image. all_stored image 0 entries) reads
+abbrev pub known_by : Option Image → List Entry → Option (List Stored)
+known_by reads entries = option_and_then (λ image. all_stored image 0 entries) reads
 
 -- ---- The same of records
 
@@ -67,8 +67,8 @@ all_in place [] = Some []
 all_in place (r ∷ records) = put_first (stored_in place r.body) (all_in (suc place) records)
 
 -- Those in the records of a log after that of its specification: first the genesis.
-abbrev pub told_in : List Record → Option (List Stored)
-told_in records = all_in 0 records
+abbrev pub known_in : List Record → Option (List Stored)
+known_in records = all_in 0 records
 
 -- the record of a kept block after the genesis
 abbrev pub later_record : Stored → Record
@@ -95,6 +95,6 @@ all_stored-length image place [] = refl
 all_stored-length image place (entry ∷ entries) =
     put_first-length (length entries) (stored_of image place entry) (all_stored image (suc place) entries) (all_stored-length image (suc place) entries)
 
-pub tells_all : (reads : Option Image) (entries : List Entry) → IfSome (told_by reads entries) (λ stored. length stored ≡ length entries)
+pub tells_all : (reads : Option Image) (entries : List Entry) → IfSome (known_by reads entries) (λ stored. length stored ≡ length entries)
 tells_all None entries = tt
 tells_all (Some image) entries = all_stored-length image 0 entries

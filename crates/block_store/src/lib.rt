@@ -2,7 +2,7 @@
 //! keeps the last ones in a cache.
 //!
 //! The contract of use: [`Store`] is a [`Blocks`](chain_tree::Blocks). What it tells is what LOG has at the places of
-//! the tree's entries (`told_by`), whatever the cache holds. A body is read in one piece, split, checked once and then
+//! the tree's entries (`known_by`), whatever the cache holds. A body is read in one piece, split, checked once and then
 //! held; what is held already is not read again. Fewer bytes than an entry says, and bytes that are no body, are
 //! damage at that place; where LOG has a block for each entry there is none. [`Cache::put`] takes what was joined.
 //! Which entries stand for LOG, and what becomes of the disk, is left to the layers above.

@@ -7,7 +7,7 @@ ghost use Rattle.outside.specs.declared.disk.ReadStop.TheVariants.{Damaged};
 ghost use Rattle.chain_tree.specs.declared.entry.Entry.{Entry};
 ghost use Rattle.chain_tree.specs.Entries.{entry_at};
 ghost use Rattle.chain_tree.specs.Reading.{HasRead, stop_of, found_next};
-ghost use Rattle.block_store.specs.Stored.{stored_at, told_by};
+ghost use Rattle.block_store.specs.Stored.{stored_at, known_by};
 ghost use Rattle.block_store.specs.Held.{Lent, held_at, IsKept, IsInHand};
 
 use crate::cache::Cache;
@@ -56,7 +56,7 @@ impl<'d, D: Disk> Blocks for Store<'d, D> {
     ghost use Rattle.block_store.specs.Stored.{tells_all};
     ghost use Rattle.block_store.specs.Held.{hand_below};
 
-    ghost told = { λ it. told_by (D.reads_as it.disk.now) it.tree.now.entries };
+    ghost told = { λ it. known_by (D.reads_as it.disk.now) it.tree.now.entries };
 
     ghost count = { λ it. length it.tree.now.entries };
 
@@ -85,13 +85,13 @@ impl<'d, D: Disk> Blocks for Store<'d, D> {
     fn bring(&mut self, e: u32) -> Result<(), ReadStop>
         requires within { e < length self.old.tree.now.entries }
         ensures read { HasRead {L = Lent D.Content}
-            (λ it. told_by (D.reads_as it.disk.now) it.tree.now.entries) (λ it. length it.tree.now.entries)
+            (λ it. known_by (D.reads_as it.disk.now) it.tree.now.entries) (λ it. length it.tree.now.entries)
             (λ it. record { disk = it.disk.ghost_name; cache = it.cache.ghost_name; content = D.content_of it.disk.now; entries = it.tree.now.entries; most = it.cache.now.most })
             (λ it. D.faults it.disk.now) (λ it. it.cache.now.damages) self.old self.new (stop_of result) }
         ensures taken { OnOk result (self.new.hand ≡ Some e) }
         ensures dropped { OnErr result (self.new.hand ≡ None) }
         ensures counted { (damage : Damage) → result ≡ Err (Damaged damage) → self.new.cache.now.damages ≡ found_next damage self.old.cache.now.damages }
-        ensures undamaged { IsSome (told_by (D.reads_as self.old.disk.now) self.old.tree.now.entries)
+        ensures undamaged { IsSome (known_by (D.reads_as self.old.disk.now) self.old.tree.now.entries)
             → (damage : Damage) → result ≡ Err (Damaged damage) → ⊥ }
         ensures place { (damage : Damage) → result ≡ Err (Damaged damage)
             → IsSomeAnd (entry_at self.old.tree.now.entries e) (λ entry. damage ≡ record { area = log_area; at = entry.at }) }

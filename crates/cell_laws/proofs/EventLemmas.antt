@@ -37,7 +37,7 @@ or-or : (a b c : Option Event) → option_or (option_or a b) c ≡ option_or a (
 or-or None b c = refl
 or-or (Some event) b c = refl
 
--- one event more in front
+-- one event more at the start
 pub last_naming-step : (o : OutPoint) (event : Event) (later : List Event)
     → last_naming o (event ∷ later) ≡ option_or (last_naming o later) (cond (names o event) (Some event) None)
 unfolding last_naming

@@ -21,7 +21,7 @@ use Rattle.cell_laws.proofs.JoinLemmas.{branch_places-join, length-branch, event
 
 -- ---- Events one after the other
 
--- one event more in front
+-- one event more at the start
 pub row_after-step : (place : ℕ) (event : Event) (later : List Event) (rows : OutPoint → Option Row) (o : OutPoint)
     → row_after place (event ∷ later) rows o ≡ row_after place later (with_event place event rows) o
 unfolding row_after

@@ -54,7 +54,7 @@ make-at first (output ∷ outputs) t height place (suc index) =
     let same : (first + 1) + index ≡ first + suc index = omega arith in
     make-at (first + 1) outputs t height place index ∙ ap (λ n. option_map (make t height place n) (slice_get outputs index)) same
 
--- in front stand the spends
+-- the spends stand first
 pub event-spent : (t : Transaction) (height place index : ℕ) (event : Event) → slice_get (spends_at t height place) index ≡ Some event
     → slice_get (events_of t height place) index ≡ Some event
 event-spent t height place index event is = slice_get-front (spends_at t height place) (makes_from 0 t.raw.outputs t height place) index event is

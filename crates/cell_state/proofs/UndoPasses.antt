@@ -66,7 +66,7 @@ rows-over (one ∷ all) (suc count) past = rows-over all count (omega (arith, pa
 
 -- ---- Rows marked as put back
 
--- what is live by then, told by rows
+-- what is live by then, by rows
 pub record IsLeftToPut (all left : List (OutPoint × Row)) (found : OutPoint → Option Row) (new : StateValue) : Type 0 where
   pub later : OutPoint → Option Row
   pub there : AreThere later new

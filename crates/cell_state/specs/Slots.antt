@@ -8,7 +8,7 @@ use Rattle.cell_defs.specs.Row.{Row}
 use Rattle.cell_state.specs.declared.slots.Slot.{Slot}
 use Rattle.cell_state.specs.declared.slots.Slot.TheVariants.{Live, Spent, Added, Gone}
 
--- A slot for each of some keys, in no order that is told, and how many more fit without an allocation.
+-- A slot for each of some keys, in any order, and how many more fit without an allocation.
 pub record StateValue : Type 0 where
   pub entries : List ((List ℕ × ℕ) × Slot)
   pub spare : ℕ

@@ -10,7 +10,7 @@ use Rattle.std.proofs.lemmas.Option.{slice_get_within}
 use Rattle.codec_defs.specs.Schema.{Block}
 use Rattle.chain_defs.specs.Kept.{block_hash, block_at, place_of, StandsOn, IsKept, HashesDiffer}
 
--- an element by its place, in a list, in its front, and with more after
+-- an element by its place, in a list, in its prefix, and with more after
 pub slice_get-below : {X : Type 0} (xs : List X) (i : ℕ) → i < length xs → (x : X) × (slice_get xs i ≡ Some x)
 slice_get-below [] i below = absurd (omega arith)
 slice_get-below (x ∷ xs) zero below = (x, refl)
@@ -39,7 +39,7 @@ slice_get-pushed (first ∷ xs) x zero y there = inl (omega arith, there)
 slice_get-pushed (first ∷ xs) x (suc i) y there =
     ⊎_elim (λ before. inl (omega (arith, before.0), before.1)) (λ last. inr (omega (arith, last.0), last.1)) (slice_get-pushed xs x i y there)
 
--- a place after one more block in front
+-- a place after one more block before it
 pub suc_of : (found : Option ℕ) (place : ℕ) → option_map suc found ≡ Some place → (i : ℕ) × (suc i ≡ place) × (found ≡ Some i)
 suc_of None place is = absurd (cc)
 suc_of (Some i) place is = (i, grind arith, refl)

@@ -29,7 +29,7 @@ found_next damage before = record { count = counted before.count; last = Some da
 abbrev pub AnswersFound : Findings → Findings → Option ReadStop → Type 0
 AnswersFound before after stop = ((damage : Damage) → stop ≡ Some (Damaged damage) → after.last ≡ Some damage → ⊥) → after ≡ before
 
--- What a call leaves of a source and finds there: it tells what it told, as many blocks, on the same loans. Damage is in LOG, a fault is counted,
+-- What a call leaves of a source and finds there: what is known of it is what was known, as many blocks, on the same loans. Damage is in LOG, a fault is counted,
 -- and damage that the source finds is answered with the place that the source named.
 pub record HasRead {S L : Type 0} (tells : S → Option (List Stored)) (counts : S → ℕ) (loans_of : S → L) (faults : S → ℕ) (damages : S → Findings)
     (old new : S) (stop : Option ReadStop) : Type 0 where

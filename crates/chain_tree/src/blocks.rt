@@ -48,7 +48,7 @@ pub trait Blocks {
         requires { IsSome (in_hand self.now) }
         ensures { IfSome (told self.now) (λ stored. IfSome (in_hand self.now) (λ e. IfSome (slice_get stored e) (λ it. result ≡ it.block))) };
 
-    /// The whole ext of the current entry, which is not the genesis. It has the form of one, whatever is told.
+    /// The whole ext of the current entry, which is not the genesis. It has the form of one over any source.
     fn spent(&self) -> &[u8]
         requires later { IfSome (in_hand self.now) (λ e. 0 < e) }
         requires in_hand { IsSome (in_hand self.now) }

@@ -64,7 +64,7 @@ sized parts = append_assoc (to_le_bytes w32 (full_size parts)) (offsets (header_
 pub header_number-dynvec : (parts : List (List ℕ)) → full_size parts < 2 ^ 32 → header_number (dynvec parts) 0 ≡ full_size parts
 header_number-dynvec parts fits = ap (λ (b : List ℕ). header_number b 0) (sized parts) ∙ header_number-written [] (full_size parts) (offsets (header_size parts) parts ++ concat parts) 0 refl fits
 
--- the offset of the part after `front`
+-- the offset of the part after the parts `front`
 offset_at : (front : List (List ℕ)) (part : List ℕ) (back : List (List ℕ)) (parts : List (List ℕ)) → front ++ part ∷ back ≡ parts → full_size parts < 2 ^ 32
     → header_number (dynvec parts) (4 + 4 * length front) ≡ header_size parts + length (concat front)
 unfolding offsets full_size

@@ -22,7 +22,7 @@ use Rattle.block_defs.specs.Rules.{all_rules, first_broken}
 use Rattle.time_defs.specs.Dao.{is_rated}
 use Rattle.genesis_defs.specs.Genesis.{is_first, has_no_uncles_or_proposals, has_transactions, all_hold_capacity, genesis_rules}
 
--- ---- Rows in front and after
+-- ---- Rows before and after
 
 pub holds-prefix : (earlier later : List (ℕ × Bool)) → AllHold (earlier ++ later) → AllHold earlier
 holds-prefix [] later hold = All-nil (λ rule. IsTrue rule.1)

@@ -62,7 +62,7 @@ AllLive-spent code front o (input ∷ later) live apart =
       AllLive-spent code front o later live.1 parts.1,
     )
 
--- Spends of live and distinct cells fit. The code is what the out-points are told apart by.
+-- Spends of live and distinct cells fit. The code is what tells the out-points apart.
 spends-fit : (code : OutPoint → List ℕ) (front : List Event) (inputs : List CellInput) → AllLive (cell_after front) inputs
     → are_distinct (map (λ (input : CellInput). code input.previous_output) inputs) ≡ true
     → FitAfter front (map (λ (input : CellInput). Spends input.previous_output) inputs)

@@ -1,4 +1,4 @@
--- What the bytes of a log hold, by their front.
+-- What the bytes of a log hold, by their prefix.
 use Rattle.std.proofs.Common.{◌≡◌, ℕ, zero, suc, ◌+◌, ◌-◌, ◌<◌, ◌≤◌, Bool, true, false, cond, eqb, ltb, List, [], ◌∷◌, ◌++◌, length, take, drop, get_or, Option, Some, None, refl, sym, ap, ◌∙◌, subst, arith}
 use Rattle.std.specs.Prelude.{slice_index, ◌&&◌, All}
 use Rattle.std.specs.Int.{w32, to_le_bytes, from_le_bytes}

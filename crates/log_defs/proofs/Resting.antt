@@ -1,4 +1,4 @@
--- A log at rest stays so while its front does, and with one record more it is at rest after that one.
+-- A log at rest stays so while its prefix does, and with one record more it is at rest after that one.
 use Rattle.std.proofs.Common.{◌≡◌, ◌⊎◌, inl, inr, ℕ, ◌+◌, ◌<◌, ◌≤◌, List, [], ◌∷◌, ◌++◌, length, take, drop, get_or, Some, None, refl, sym, ap, ◌∙◌, subst, arith}
 use Rattle.std.specs.Prelude.{slice_index, All}
 use Rattle.std.proofs.lemmas.Bool.{cases_eq}
@@ -42,7 +42,7 @@ begins_too place records bytes other rest same =
     let le : 8 ≤ place = omega (arith, place_is place records bytes rest) in
     sym (take-take 8 place other le) ∙ ap (take 8) same ∙ take-take 8 place bytes le ∙ rest.begins
 
--- the front up to a place stays, and no record stands there
+-- the prefix up to a place stays, and no record stands there
 pub ends_kept : (place : ℕ) (records : List Record) (bytes other : List ℕ) → EndsAt place records bytes → take place other ≡ take place bytes
     → place < length other → record_at (drop place other) ≡ None → EndsAt place records other
 ends_kept place records bytes other rest same more none =
@@ -62,7 +62,7 @@ gate_there place bytes = get_or-drop place bytes 0 0 ∙ ap (λ (k : ℕ). get_o
 pub closed_rest : (place : ℕ) (records : List Record) (bytes : List ℕ) → EndsAt place records bytes → (slice_index bytes place ≡ 1 → ⊥) → IsAtRest place records bytes
 closed_rest place records bytes end closed = record { begins = end.begins; holds = end.holds; ends = end.ends; there = end.there; closed = closed }
 
--- the front up to a place and the byte there stay
+-- the prefix up to a place and the byte there stay
 pub rest_kept : (place : ℕ) (records : List Record) (bytes other : List ℕ) → IsAtRest place records bytes → take place other ≡ take place bytes
     → place < length other → (slice_index other place ≡ 1 → ⊥) → IsAtRest place records other
 rest_kept place records bytes other rest same more closed =

@@ -10,7 +10,7 @@ use Rattle.log_file.specs.declared.stop.LogStop.{LogStop}
 use Rattle.log_file.specs.declared.stop.LogStop.TheVariants.{DiskFault, NotAStore, NoMemory}
 use Rattle.log_file.specs.Stops.{OfDamage, IsDamage, in_log, IsInLog}
 
--- what holds of each image holds of the one that is told
+-- what holds of each image holds of the one that is known
 pub on_each : (reads : Option Image) (P : Image → Type 0) → ((image : Image) → P image) → IfSome reads P
 on_each None P holds = tt
 on_each (Some image) P holds = holds image

@@ -79,7 +79,7 @@ of-told reads Q now told is = subst (λ (r : Option Image). IfSome r (λ image. 
 pub sound_on : (node : NodeValue) (reads : Option Image) (images : Image → Type 0) → IsOn node reads images → IsSoundOn node reads
 sound_on node reads images on = record { sound = on.sound; told = subst (λ (r : Option Image). IsSome r) (sym on.image.told) refl }
 
--- what told its bytes tells them still
+-- bytes that were known are known still
 pub tells_still : (due : Option ℕ) (old new : Option Image) → OthersReadBut due old new → IsSome old → IsSome new
 tells_still due None new others told = absurd (cc)
 tells_still None (Some now) new (log, is) told = subst (λ (r : Option Image). IsSome r) (sym is) refl

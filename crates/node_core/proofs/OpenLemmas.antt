@@ -300,7 +300,7 @@ module _ {D : Type 0} (reads_as : D → Option Image) (images : D → Image → 
     others = subst (OthersRead Log (reads_as old)) (sym second.reads) first.others;
   }
 
--- where a disk told, and others of its areas read as they did, it tells
+-- where a disk's content was known, and others of its areas read as they did, it is known
 tells_still : (old new : Option Image) (now : Image) → old ≡ Some now → OthersRead Log old new → IsSome new
 tells_still old new now told (bytes, wrote) =
     subst IsSome (sym (wrote ∙ ap (option_map (with_content Log bytes)) told)) refl

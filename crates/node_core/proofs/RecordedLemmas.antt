@@ -33,7 +33,7 @@ pub tells-stored : (spec : Specification) (stored : List Stored) (entries : List
     → told ≡ Some (stored_of kept) → told ≡ Some stored
 tells-stored spec stored entries kept told whole tells = tells ∙ ap (λ (l : List Stored). Some l) (stored-here spec stored entries kept whole)
 
--- as many told as there are blocks have these blocks
+-- as many known entries as there are blocks have these blocks
 blocks-paired : (blocks : List Block) (exts : List (List ℕ)) → length (paired blocks exts) ≡ length blocks → blocks_of (paired blocks exts) ≡ blocks
 blocks-paired [] exts same = refl
 blocks-paired (b ∷ blocks) [] same = absurd (omega (arith, same))

@@ -15,7 +15,7 @@ use Rattle.chain_tree.specs.Reading.{AnswersFound}
 use Rattle.chain_tree.specs.Blocks.{IndexesBlocks}
 use Rattle.chain_tree.proofs.BlockLemmas.{len-same}
 use Rattle.store_defs.specs.Store.{AreJoined}
-use Rattle.block_store.specs.Stored.{told_by}
+use Rattle.block_store.specs.Stored.{known_by}
 use Rattle.block_store.specs.Held.{CacheValue, IsKept}
 use Rattle.block_store.proofs.LogLemmas.{log_has_blocks}
 use Rattle.block_store.proofs.AgreeLemmas.{agrees_always}
@@ -42,7 +42,7 @@ same_stop first second is = cc
 -- ---- Over a disk
 
 module _ (kept : KeptValue) (image : Image) (held : List (ℕ × Stored)) (read : IsReadBy kept held image) where
-  told_at : told_by (Some image) kept.entries ≡ Some (stored_of kept)
+  told_at : known_by (Some image) kept.entries ≡ Some (stored_of kept)
   told_at = log_has_blocks image read.specification (stored_of kept) kept.entries read.names read.can
 
   -- what is held in memory is what LOG has
@@ -69,18 +69,18 @@ read-later kept held later None own is_kept = tt
 read-later kept held later (Some image) own is_kept = read_at kept image held own later is_kept
 
 tells-all : (kept : KeptValue) (held : List (ℕ × Stored)) (reads : Option Image) → IfSome reads (IsReadBy kept held) → IsSome reads
-    → told_by reads kept.entries ≡ Some (stored_of kept)
+    → known_by reads kept.entries ≡ Some (stored_of kept)
 tells-all kept held None own told = absurd (cc)
 tells-all kept held (Some image) own told = told_at kept image held own
 
 -- a store over a disk that reads as it did tells what is kept
 pub tells-kept : (kept : KeptValue) (entries : List Entry) (held : List (ℕ × Stored)) (reads before : Option Image) → entries ≡ kept.entries → reads ≡ before
-    → IfSome before (IsReadBy kept held) → IsSome before → told_by reads entries ≡ Some (stored_of kept)
+    → IfSome before (IsReadBy kept held) → IsSome before → known_by reads entries ≡ Some (stored_of kept)
 tells-kept kept entries held reads before same rests own told =
-    ap (λ (o : Option Image). told_by o entries) rests ∙ ap (told_by before) same ∙ tells-all kept held before own told
+    ap (λ (o : Option Image). known_by o entries) rests ∙ ap (known_by before) same ∙ tells-all kept held before own told
 
 pub tells-joined : (kept : KeptValue) (entries : List Entry) (held : List (ℕ × Stored)) (reads before : Option Image) → entries ≡ kept.entries → reads ≡ before
-    → IfSome before (IsReadBy kept held) → IsSome before → AreJoined kept.chain kept.exts → HoldsJoined kept (told_by reads entries)
+    → IfSome before (IsReadBy kept held) → IsSome before → AreJoined kept.chain kept.exts → HoldsJoined kept (known_by reads entries)
 tells-joined kept entries held reads before same rests own told joined =
     record { all = tells-kept kept entries held reads before same rests own told; joined = joined }
 

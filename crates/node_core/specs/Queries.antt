@@ -1,4 +1,4 @@
--- What queries are told of a node's chain.
+-- What queries answer of a node's chain.
 use Rattle.std.specs.Prelude.{◌≡◌, ℕ, List, Option, Some, None}
 use Rattle.codec_defs.specs.Shape.{encoded, IsA}
 use Rattle.codec_defs.specs.Schema.{OutPoint, Block, block, header}
@@ -24,13 +24,13 @@ pub record FetchedValue : Type 0 where
   pub copy : ResolvedValue
   pub height : ℕ
 
--- what is told of a height of the best branch: the header of its block, and none where it has no block there
+-- what is answered for a height of the best branch: the header of its block, and none where it has no block there
 abbrev pub IsHeaderAt : List Block → ℕ → Option HeaderValue → Type 0
 IsHeaderAt kept height None = block_at (best_branch kept) height ≡ None
 IsHeaderAt kept height (Some told) =
     (b : Block) × (block_at (best_branch kept) height ≡ Some b) × (told.hash ≡ block_hash b) × (told.bytes ≡ encoded header b.header)
 
--- what is told of the block there: its encoding
+-- what is answered of the block there: its encoding
 abbrev pub IsBlockAt : List Block → ℕ → Option (List ℕ) → Type 0
 IsBlockAt kept height None = block_at (best_branch kept) height ≡ None
 IsBlockAt kept height (Some bytes) = (b : Block) × (block_at (best_branch kept) height ≡ Some b) × IsA block bytes b
@@ -42,7 +42,7 @@ pub record IsLiveRow (kept : List Block) (o : OutPoint) (cell : Cell) (row : Row
   pub live : live_cell (best_branch kept) o ≡ Some cell
   pub its_row : row ≡ row_on kept tip cell
 
--- what is told of an out-point: its live cell, and none where no cell is live with it
+-- what is answered for an out-point: its live cell, and none where no cell is live with it
 abbrev pub IsLiveCell : List Block → OutPoint → Option LiveValue → Type 0
 IsLiveCell kept o None = live_cell (best_branch kept) o ≡ None
 IsLiveCell kept o (Some told) = (cell : Cell) × IsLiveRow kept o cell told.row × (told.height ≡ cell.height)

@@ -11,7 +11,7 @@ use Rattle.node_run.proofs.StoreLemmas.{opened_store}
 
 -- ---- A node that is sound
 
--- a disk that told tells
+-- what was known of a disk is known still
 tells_too : (before after : Option Image) → IsKnownAsBefore before after → IsSome before → IsSome after
 tells_too before after as_before told = as_before ∙ told
 

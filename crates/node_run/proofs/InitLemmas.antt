@@ -1,4 +1,4 @@
--- What `init` told and left at each exit.
+-- What `init` printed and left at each exit.
 use Rattle.std.proofs.Common.{◌≡◌, inl, inr, ℕ, false, List, [], ◌∷◌, length, map, get_or, Vec, Global, refl, ap, sym, ◌∙◌, subst, arith}
 use Rattle.std.specs.Prelude.{Option, Some, None, Result, Ok, IfSome, ◌==◌}
 use Rattle.std.proofs.lemmas.Bool.Decides.{nat_tests}
@@ -106,7 +106,7 @@ module _ {D : Type 0} (reads_as : D → Option Image) (images : D → Image → 
 abbrev pub full : List ℕ → Report
 full whole = whole_report init_items 2 report_of_items whole
 
--- what is told of it, and how far was read and written
+-- what is printed of it, and how far was read and written
 abbrev pub Tells : Option (List ℕ) → List ℕ → List ℕ → Status → Type 0
 Tells left given taken status = MatchesReportOf full given left taken status × ReadsWhole init_limits (Done ∷ BadGenesis ∷ []) given left taken status
 
@@ -241,7 +241,7 @@ init_ended = among early_ends init_statuses refl
 pub new_no_input_fault : (status : Status) → IsOneOf new_statuses status → status ≡ InputFault → ⊥
 new_no_input_fault = lacks new_statuses InputFault refl
 
--- ---- What was told of a store that was made, or of a rule that is broken
+-- ---- What was printed of a store that was made, or of a rule that is broken
 
 pub told_new : (text : List ℕ) (status result : Status) (taken : List ℕ) → IsOneOf (Done ∷ BadGenesis ∷ []) status → IsWrittenAnswer text status result taken
     → IsOneOf new_statuses result
@@ -250,7 +250,7 @@ told_new text status result taken one (inl told) =
     (among (Done ∷ BadGenesis ∷ []) new_statuses refl status one)
 told_new text status result taken one (inr failed) = inr (inl failed.1)
 
--- what was answered and is no fault of the sink was told
+-- what was answered and is no fault of the sink was printed
 pub told_as : (wanted : Status) (text : List ℕ) (status result : Status) (taken : List ℕ) → (SinkFault ≡ wanted → ⊥) → IsWrittenAnswer text status result taken
     → result ≡ wanted → status ≡ wanted
 told_as wanted text status result taken other (inl told) same = sym told.1 ∙ same

@@ -1,4 +1,4 @@
--- What a question read, told and left at each exit.
+-- What a question read, printed and left at each exit.
 use Rattle.std.proofs.Common.{◌≡◌, ◌⊎◌, ℕ, ◌≤◌, List, [], ◌∷◌, length, refl, ap, sym, ◌∙◌, subst, arith}
 use Rattle.std.specs.Prelude.{Option, Some, Result, Ok, Err, IfOk, IfSome, string_bytes}
 use Rattle.outside.specs.Image.{Image}

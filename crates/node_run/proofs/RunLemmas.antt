@@ -19,7 +19,7 @@ use Rattle.report_defs.specs.Promise.{MatchesReport, KeepsOrder, ReadsFileInOrde
 use Rattle.report_defs.specs.Survival.{Each, Run, IsDone, IsKeptPrefix, IsKeptBy, IsLeftBy, KeepsStore, KeepsItems, KeepsDisk, Answers, IsPromised, items_of}
 use Rattle.node_run.specs.Store.{Delivers}
 use Rattle.node_run.specs.Question.{DeliversAnswer}
-use Rattle.node_run.specs.Simulation.{IsSimulationTold}
+use Rattle.node_run.specs.Simulation.{IsSimulationPrinted}
 use Rattle.node_run.proofs.LineLemmas.{prefix_of_none}
 use Rattle.node_run.proofs.StoreLemmas.{same_chain, store_of_stands}
 
@@ -228,7 +228,7 @@ module _ {D : Type 0} (reads_as : D → Option Image) (images : D → Image → 
       uncalled_promised (Some (Standalone command)) old left given taken status refl (λ store found. says) (λ now. tt) (λ kept. tt)
 
   pub simulation_promised : (simulation : simulations.Simulation) (old : D) (left : Option (List ℕ)) (taken : List ℕ) (status : Status)
-      → IsSimulationTold simulation left taken status
+      → IsSimulationPrinted simulation left taken status
       → IsPromised (Some (Simulation simulation)) (reads_as old) (images old) (images old) (left_since old (moment old)) left [] taken status
   simulation_promised simulation old left taken status says =
       uncalled_promised (Some (Simulation simulation)) old left [] taken status refl (λ store found. says) (λ now. tt) (λ kept. tt)

@@ -1,4 +1,4 @@
--- What was told of a simulation, or why nothing was.
+-- What was printed of a simulation, or why nothing was.
 use Rattle.std.proofs.Common.{◌≡◌, inl, inr, ℕ, List, [], refl, sym, ◌∙◌, subst, append-nil}
 use Rattle.std.specs.Prelude.{Option}
 use Rattle.report_defs.specs.declared.command.Simulation.{Simulation}
@@ -8,7 +8,7 @@ use Rattle.report_defs.specs.Report.{Report, report_without_lines, IsAnswerToSim
 use Rattle.report_defs.specs.Promise.{IsPrefix, IsStoppedBeforeTheSink}
 use Rattle.node_run.specs.Import.{IsStop}
 use Rattle.node_run.specs.Output.{IsWrittenAnswer}
-use Rattle.node_run.specs.Simulation.{IsSimulationTold}
+use Rattle.node_run.specs.Simulation.{IsSimulationPrinted}
 use Rattle.node_run.proofs.Statuses.{stop_not_reported, is_early, not_early}
 use Rattle.node_run.proofs.StoreLemmas.{by_function, stop_says}
 
@@ -16,13 +16,13 @@ abbrev Said : Simulation → List ℕ → Report → Type 0
 Said simulation whole said = IsReportOfSimulation simulation said
 
 -- memory ran out
-pub simulation_stopped : (simulation : Simulation) (left : Option (List ℕ)) → IsSimulationTold simulation left [] NoMemory
+pub simulation_stopped : (simulation : Simulation) (left : Option (List ℕ)) → IsSimulationPrinted simulation left [] NoMemory
 simulation_stopped simulation left = (stop_says (Said simulation) [] left NoMemory tt, record { unread = refl; silent = λ early. refl })
 
--- it was told, or a part of it
-pub simulation_told : (simulation : Simulation) (left : Option (List ℕ)) (taken text : List ℕ) (result : Status) → IsAnswerToSimulation simulation text
-    → IsWrittenAnswer text Done result taken → IsSimulationTold simulation left taken result
-simulation_told simulation left taken text result is (inl told) = (
+-- it was printed, or a part of it
+pub simulation_printed : (simulation : Simulation) (left : Option (List ℕ)) (taken text : List ℕ) (result : Status) → IsAnswerToSimulation simulation text
+    → IsWrittenAnswer text Done result taken → IsSimulationPrinted simulation left taken result
+simulation_printed simulation left taken text result is (inl told) = (
   by_function (λ whole. report_without_lines text Done) (Said simulation) [] left taken result (λ whole. (text, is, refl)) (record {
     prefix = λ more at. ([], sym told.0 ∙ sym (append-nil taken));
     whole_text = λ more at reported. told.0;
@@ -30,7 +30,7 @@ simulation_told simulation left taken text result is (inl told) = (
   }),
   record { unread = refl; silent = λ early. absurd (is_early Done (subst IsStoppedBeforeTheSink told.1 early)) },
 )
-simulation_told simulation left taken text result is (inr failed) = (
+simulation_printed simulation left taken text result is (inr failed) = (
   by_function (λ whole. report_without_lines text Done) (Said simulation) [] left taken result (λ whole. (text, is, refl)) (record {
     prefix = λ more at. failed.0.prefix;
     whole_text = λ more at reported. absurd (stop_not_reported result (subst IsStop (sym failed.1) tt) reported);

@@ -68,9 +68,9 @@ standalone_reading command InputFault stop = own_other command InputFault (inl r
 standalone_reading command NoMemory stop = own_other command NoMemory (inr (inr (inl refl)))
 standalone_reading command _ stop = absurd stop
 
-pub standalone_told : (command : Standalone) (file : List ℕ) (said : Report) → IsReportOfFile command file said → IsOneOf (standalone_statuses command) said.status
-standalone_told command file said (inl long) = subst (λ (s : Status). IsOneOf (standalone_statuses command) s) (sym (ap (λ (r : Report). r.status) long.1)) (own_other command ExtraInput (inr (inr (inr (inl refl)))))
-standalone_told command file said (inr within) = own_status command file said within.1
+pub standalone_printed : (command : Standalone) (file : List ℕ) (said : Report) → IsReportOfFile command file said → IsOneOf (standalone_statuses command) said.status
+standalone_printed command file said (inl long) = subst (λ (s : Status). IsOneOf (standalone_statuses command) s) (sym (ap (λ (r : Report). r.status) long.1)) (own_other command ExtraInput (inr (inr (inr (inl refl)))))
+standalone_printed command file said (inr within) = own_status command file said within.1
 
 -- What a report of a file says is no stop.
 told_status : (command : Standalone) (file : List ℕ) (said : Report) → IsReportOfFile command file said

@@ -114,7 +114,7 @@ query_opening = among opening_stops query_statuses refl
 pub question_opening : (status : Status) → IsOneOf opening_stops status → IsOneOf question_statuses status
 question_opening = among opening_stops question_statuses refl
 
--- ---- An answer that was told
+-- ---- An answer that was printed
 
 -- it has its own status, or that of the sink
 pub told_one : (statuses : List Status) (text : List ℕ) (status result : Status) (taken : List ℕ) → IsOneOf statuses status → IsWrittenAnswer text status result taken
@@ -122,8 +122,8 @@ pub told_one : (statuses : List Status) (text : List ℕ) (status result : Statu
 told_one statuses text status result taken one (inl told) = inr (subst (λ (s : Status). IsOneOf statuses s) (sym told.1) one)
 told_one statuses text status result taken one (inr failed) = inl failed.1
 
-pub query_told : (status : Status) → IsOneOf (SinkFault ∷ Done ∷ []) status → IsOneOf query_statuses status
-query_told = among (SinkFault ∷ Done ∷ []) query_statuses refl
+pub query_printed : (status : Status) → IsOneOf (SinkFault ∷ Done ∷ []) status → IsOneOf query_statuses status
+query_printed = among (SinkFault ∷ Done ∷ []) query_statuses refl
 
 pub question_told : (status : Status) → IsOneOf (SinkFault ∷ Done ∷ SomeRefused ∷ []) status → IsOneOf question_statuses status
 question_told = among (SinkFault ∷ Done ∷ SomeRefused ∷ []) question_statuses refl

@@ -22,7 +22,7 @@ use Rattle.report_defs.specs.Promise.{IsPrefix, MatchesReport, KeepsOrder, IsSou
 use Rattle.report_defs.specs.Survival.{Each, IsKeptPrefix, KeepsStore, KeepsDisk}
 use Rattle.node_run.specs.Import.{IsStop, KeepsSome}
 use Rattle.node_run.specs.Output.{MatchesReportOf, IsWrittenAnswer}
-use Rattle.node_run.specs.Store.{Delivers, IsQueryTold, opening_stops}
+use Rattle.node_run.specs.Store.{Delivers, IsQueryPrinted, opening_stops}
 use Rattle.node_run.proofs.LineLemmas.{prefix_of_all, prefix_of_none, take_all}
 use Rattle.node_run.proofs.Statuses.{stop_not_reported, opening_reported, opening_stop, is_early, not_early}
 
@@ -236,7 +236,7 @@ tip_line_is found block number hash line is number_is hash_is line_is =
     line_is ∙ ap (λ n. tip_line_of n hash) number_is ∙ ap (tip_line_of block.header.number) hash_is ∙ sym (ap (λ (b : Option Block). tip_line b) is)
 
 -- no answer was found
-pub query_stopped : (query : Query) (chain : Chain) (left : Option (List ℕ)) (status : Status) → IsStop status → IsQueryTold query chain left [] status
+pub query_stopped : (query : Query) (chain : Chain) (left : Option (List ℕ)) (status : Status) → IsStop status → IsQueryPrinted query chain left [] status
 query_stopped query chain left status stop = (
   record {
     prefix = λ more at. (text_of (report_of_query query chain), refl);
@@ -246,10 +246,10 @@ query_stopped query chain left status stop = (
   record { unread = refl; silent = λ early. refl },
 )
 
--- it was told, or a part of it
-pub query_told : (query : Query) (chain : Chain) (left : Option (List ℕ)) (taken text : List ℕ) (result : Status) → text ≡ answer_to_query query chain
-    → IsWrittenAnswer text Done result taken → IsQueryTold query chain left taken result
-query_told query chain left taken text result is (inl told) = (
+-- it was printed, or a part of it
+pub query_printed : (query : Query) (chain : Chain) (left : Option (List ℕ)) (taken text : List ℕ) (result : Status) → text ≡ answer_to_query query chain
+    → IsWrittenAnswer text Done result taken → IsQueryPrinted query chain left taken result
+query_printed query chain left taken text result is (inl told) = (
   record {
     prefix = λ more at. ([], sym (told.0 ∙ is) ∙ sym (append-nil taken));
     whole_text = λ more at reported. told.0 ∙ is;
@@ -257,7 +257,7 @@ query_told query chain left taken text result is (inl told) = (
   },
   record { unread = refl; silent = λ early. absurd (is_early Done (subst IsStoppedBeforeTheSink told.1 early)) },
 )
-query_told query chain left taken text result is (inr failed) = (
+query_printed query chain left taken text result is (inr failed) = (
   record {
     prefix = λ more at. subst (IsPrefix taken) is failed.0.prefix;
     whole_text = λ more at reported. absurd (stop_not_reported result (subst IsStop (sym failed.1) tt) reported);

@@ -1,4 +1,4 @@
--- What is told of an input that is read whole, at each exit: for `init` and for each question.
+-- What is printed of an input that is read whole, at each exit: for `init` and for each question.
 use Rattle.std.proofs.Common.{◌≡◌, inl, inr, ℕ, ◌≤◌, false, List, [], ◌++◌, length, slice_get, refl, ap, sym, ◌∙◌, subst, arith, append-nil}
 use Rattle.std.specs.Prelude.{Option, Some, None, nat_lt}
 use Rattle.std.specs.List.{concat}
@@ -92,7 +92,7 @@ end_no_stop ends.Cut stop = stop
 end_no_stop ends.BadSize stop = stop
 end_no_stop ends.Extra stop = stop
 
--- ---- A report that was told, or a part of it
+-- ---- A report that was printed, or a part of it
 
 pub told_said : (report : Report) (text : List ℕ) (status result : Status) (taken : List ℕ) → text ≡ text_of report → status ≡ report.status
     → IsWrittenAnswer text status result taken → IsSaid report result taken
@@ -121,7 +121,7 @@ said_silent : (report : Report) (status : Status) (taken : List ℕ) → IsSaid 
 said_silent report status taken (inl said) never early = absurd (never (subst IsEarly said.1 (is_early status early)))
 said_silent report status taken (inr part) never early = part.silent early
 
--- it was told whole where the status is of what was judged
+-- it was printed whole where the status is of what was judged
 pub all_said : (report : Report) (status : Status) (taken : List ℕ) → IsSaid report status taken → IsJudged status → taken ≡ text_of report
 all_said report status taken (inl said) judged = said.0
 all_said report status taken (inr part) judged = absurd (stop_not_judged status (writing_stops status part.stop) judged)

@@ -48,7 +48,7 @@ pub record IsSaidInPart (report : Report) (status : Status) (taken : List ℕ) :
   pub prefix : IsPrefix taken (text_of report)
   pub silent : IsStoppedBeforeTheSink status → taken ≡ []
 
--- a report was told, or a part of it
+-- a report was printed, or a part of it
 abbrev pub IsSaid : Report → Status → List ℕ → Type 0
 IsSaid report status taken = ((taken ≡ text_of report) × (status ≡ report.status)) ⊎ IsSaidInPart report status taken
 

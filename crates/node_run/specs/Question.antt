@@ -1,4 +1,4 @@
--- The parts of a question: what was found, and what was read and told.
+-- The parts of a question: what was found, and what was read and printed.
 use Rattle.std.specs.Prelude.{◌≡◌, ℕ, List, [], ◌∷◌, Option, Some}
 use Rattle.outside.specs.Image.{Image}
 use Rattle.verdict_defs.specs.Chain.{Chain}

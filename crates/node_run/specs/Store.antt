@@ -31,6 +31,6 @@ pub record OnlyReads {S C : Type 0} (content_of : S → C) (faults : S → ℕ) 
 abbrev pub finding_stops : List Status
 finding_stops = NotAStore ∷ NoMemory ∷ []
 
--- what a query answers over a chain was told, or a part of it
-abbrev pub IsQueryTold : Query → Chain → Option (List ℕ) → List ℕ → Status → Type 0
-IsQueryTold query chain left taken status = MatchesReportOf (λ whole. report_of_query query chain) [] left taken status × ReadsNothingInOrder [] taken status
+-- what a query answers over a chain was printed, or a part of it
+abbrev pub IsQueryPrinted : Query → Chain → Option (List ℕ) → List ℕ → Status → Type 0
+IsQueryPrinted query chain left taken status = MatchesReportOf (λ whole. report_of_query query chain) [] left taken status × ReadsNothingInOrder [] taken status

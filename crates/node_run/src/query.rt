@@ -23,7 +23,7 @@ ghost use Rattle.node_core.specs.Node.{IsItsOwn, IsSoundOn, AreOfTip};
 ghost use Rattle.node_core.specs.Queries.{IsHeaderAt};
 ghost use Rattle.node_run.specs.Output.{Took};
 ghost use Rattle.node_run.specs.Queries.{IsCellFound};
-ghost use Rattle.node_run.specs.Store.{Delivers, IsQueryTold, OnlyReads, opening_stops};
+ghost use Rattle.node_run.specs.Store.{Delivers, IsQueryPrinted, OnlyReads, opening_stops};
 
 use crate::dao::dao;
 use crate::lines::{epoch_line, header_line, live_line, none_line, tip_line};
@@ -216,7 +216,7 @@ fn find_and_answer<K: Sink, D: Disk>(
 ) -> Status
     requires own { IsItsOwn node.old (D.reads_as disk.old) (D.images disk.old) }
     ensures told { Took (K.taken out.old) (K.taken out.new) (λ taken. IsSoundOn node.old (D.reads_as disk.old)
-        → (left : Option (List ℕ)) → IsQueryTold query node.old.chain left taken result) }
+        → (left : Option (List ℕ)) → IsQueryPrinted query node.old.chain left taken result) }
     ensures status { IsOneOf query_statuses result }
     ensures disk { OnlyReads D.content_of D.faults disk.old disk.new (result ≡ Status.DiskFault) }
     ensures faults { CountsFault (K.faults out.old) (K.faults out.new) (result ≡ Status.SinkFault) }

@@ -1,11 +1,11 @@
-// Generated chains: one is put through a store in memory, once or again and again, and what is counted of it is told.
+// Generated chains: one is put through a store in memory, once or again and again, and what is counted of it is printed.
 ghost use Rattle.std.specs.Prelude.{◌≡◌, ◌≤◌, Option, List, ℕ, IfOk, string_bytes};
 ghost use Rattle.outside.specs.Causes.{CountsFault};
 ghost use Rattle.report_defs.specs.Report.{IsAnswerToSimulation};
 ghost use Rattle.report_defs.specs.Status.{IsOneOf};
 ghost use Rattle.report_defs.specs.Promise.{simulation_statuses};
 ghost use Rattle.node_run.specs.Output.{Took};
-ghost use Rattle.node_run.specs.Simulation.{IsSimulationTold};
+ghost use Rattle.node_run.specs.Simulation.{IsSimulationPrinted};
 ghost use Rattle.node_run.specs.Words.{IsWithinCount};
 
 use crate::lines::{made_line, soak_line};
@@ -54,7 +54,7 @@ fn soak(alloc: Global, seed: u64, count: u32) -> Result<String, NoMemory>
 /// Puts a generated chain through a store in memory, and tells what is counted.
 pub fn simulate<K: Sink>(alloc: Global, out: &mut K, simulation: Simulation) -> Status
     requires { IsWithinCount simulation }
-    ensures text { Took (K.taken out.old) (K.taken out.new) (λ taken. (left : Option (List ℕ)) → IsSimulationTold simulation left taken result) }
+    ensures text { Took (K.taken out.old) (K.taken out.new) (λ taken. (left : Option (List ℕ)) → IsSimulationPrinted simulation left taken result) }
     ensures status { IsOneOf simulation_statuses result }
     ensures faults { CountsFault (K.faults out.old) (K.faults out.new) (result ≡ Status.SinkFault) }
 {

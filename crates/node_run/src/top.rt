@@ -58,7 +58,7 @@ pub fn run<S: Source, K: Sink, D: Disk, L: Ledger>(
     ensures out_faults { CountsFault (K.faults out.old) (K.faults out.new) (result ≡ Status.SinkFault) }
     ensures disk_faults { CountsFault (D.faults disk.old) (D.faults disk.new) (result ≡ Status.DiskFault) }
 
-    // The disk tells what it reads as after the call exactly where it told before, so that the next run finds one that tells.
+    // What the disk reads as is known after the call exactly where it was known before, so that the same is said of the next run.
     ensures told { IsKnownAsBefore (D.reads_as disk.old) (D.reads_as disk.new) }
 
     // Where the disk is not called, is as it was, also for an `init` that finds a log, and where it is only read: it has no log, or a query or question finds its log at rest.

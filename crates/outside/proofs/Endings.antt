@@ -58,7 +58,7 @@ fault_undamaged damage same = absurd (cc)
 pub in_log : {T : Type 0} (one other : Damage) → one.area ≡ Log → ◌≡◌ {A = Result T ReadStop} (Err (Damaged one)) (Err (Damaged other)) → other.area ≡ Log
 in_log one other area same = let is : one ≡ other = cc in subst (λ (damage : Damage). damage.area ≡ Log) is area
 
--- ---- What is told
+-- ---- What is known
 
 pub is_told : {T : Type 0} (told : Option T) (it : T) → told ≡ Some it → IsSome told
 is_told None it tells = absurd (cc)

@@ -73,7 +73,7 @@ taken_further a b c before now later n m bytes piece so_far is fits takes unchan
   unchanged = unchanged ∙ so_far.unchanged;
 }
 
--- what was copied to the front, and then what is left, is what was left before
+-- what was copied to the start, and then what is left, is what was left before
 pub given_prefix : (bytes slice copied rest : List ℕ) (given n room : ℕ) → slice ≡ bytes → copied ≡ take n (take (length slice - given) (drop given slice))
     → n ≡ min (length (take (length slice - given) (drop given slice))) room → drop given bytes ≡ take n (copied ++ rest) ++ drop (given + n) bytes
 given_prefix bytes slice copied rest given n room same is fits =

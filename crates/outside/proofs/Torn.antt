@@ -14,7 +14,7 @@ torn_same at size bytes = record { before = refl; after = refl; no_shorter = ome
 pub cut_same : (len : ℕ) (bytes : List ℕ) → Cut len bytes bytes
 cut_same len bytes = record { no_shorter = omega arith; prefix = sym (take_all (length bytes) bytes (omega arith)) }
 
--- a write after the front leaves the front
+-- a write after a prefix leaves the prefix
 torn_prefix : (at size : ℕ) (front old torn : List ℕ) → length front ≡ at → take at old ≡ front → Torn at size old torn → torn ≡ front ++ drop at torn
 torn_prefix at size front old torn len is h = sym (take-append-drop at torn) ∙ ap (λ (l : List ℕ). l ++ drop at torn) (h.before ∙ is)
 

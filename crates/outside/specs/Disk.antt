@@ -70,7 +70,7 @@ AreaKept area old new = content area new ≡ content area old
 abbrev pub OthersRead : Area → Option Image → Option Image → Type 0
 OthersRead area old new = (bytes : List ℕ) × (new ≡ option_map (with_content area bytes) old)
 
--- a disk tells what it reads as exactly where it told before
+-- what a disk reads as is known exactly where it was known before
 abbrev pub IsKnownAsBefore : Option Image → Option Image → Type 0
 IsKnownAsBefore old new = is_some new ≡ is_some old
 

@@ -1,4 +1,4 @@
--- What a read does to the bytes that a source has left, and a write to those that a sink has taken, where they are told
+-- What a read does to the bytes that a source has left, and a write to those that a sink has taken, where they are known
 -- (docs/DECISIONS.md, "The outside").
 use Rattle.std.specs.Prelude.{◌≡◌, List, ℕ}
 use Rattle.std.specs.Io.KnownBytes.{prepend_known, append_known}

@@ -52,7 +52,7 @@ cut_both len i byte old new cut =
       prefix = front ∙ ap (λ (n : ℕ). take n (slice_set old i byte)) (sym size);
     }
 
--- ---- Fronts
+-- ---- Prefixes
 
 take_swap : (m n : ℕ) (l : List ℕ) → take m (take n l) ≡ take n (take m l)
 take_swap m n l = elim (cases_lt m n) [
@@ -80,7 +80,7 @@ torn_prefix at size kept old new torn = record {
   no_longer = omega (arith, torn.no_longer, length-take kept old, length-take kept new);
 }
 
--- a front that is long enough is left by a cut of a longer one
+-- a prefix that is long enough is left by a cut of a longer one
 pub cut_front : (len least kept : ℕ) (bytes : List ℕ) → min least len ≤ kept → Cut len (take (max least kept) bytes) (take kept bytes)
 cut_front len least kept bytes enough =
     let is_min : length (take kept bytes) ≡ min kept (length bytes) = length-take kept bytes in
@@ -90,7 +90,7 @@ cut_front len least kept bytes enough =
           ∙ take-take (min kept (length bytes)) (max least kept) bytes (omega arith) ∙ take_min kept bytes);
     }
 
--- a prefix of a front
+-- a prefix of a prefix
 pub take_take : (m n : ℕ) (l : List ℕ) → take (min n m) l ≡ take m (take n l)
 take_take m n l = elim (cases_lt n m) [
   | inl less ↦ let is : min n m ≡ n = omega (arith, less) in ap (λ (k : ℕ). take k l) is ∙ sym (take_all m (take n l) (omega (arith, less, length-take n l)))

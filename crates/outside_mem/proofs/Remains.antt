@@ -1,4 +1,4 @@
--- What is stored of each area stands for the steps, and a crash may leave each long enough front of it, with other bytes in
+-- What is stored of each area stands for the steps, and a crash may leave each long enough prefix of it, with other bytes in
 -- its writes.
 use Rattle.std.proofs.Common.{◌≡◌, ◌⊎◌, inl, inr, ℕ, ◌+◌, ◌<◌, ◌≤◌, max, List, [], ◌∷◌, ◌++◌, Bool, true, false, length, take, drop, slice_set, refl, sym, ◌∙◌, ap, subst, arith, if◌then◌else◌, length-append, length-drop}
 use Rattle.std.specs.Prelude.{nat_le}

@@ -1,4 +1,4 @@
-//! Forms of `Source`, `Sink` and `Disk` in memory, which fail at the calls that they are told to, and `NoDisk`. `MemDisk` is
+//! Forms of `Source`, `Sink` and `Disk` in memory, which fail at the calls that they are set to, and `NoDisk`. `MemDisk` is
 //! `Crashing`: its calls can be made to fail from one on, and it can be left as a crash leaves it.
 //!
 //! They are for programs of vectors and for chains that are made in memory; what they say shows that what the traits

@@ -1,4 +1,4 @@
-// A disk in memory, which fails at the calls that it is told to, and knows what a crash may leave.
+// A disk in memory, which fails at the calls that it is set to, and knows what a crash may leave.
 ghost use Rattle.std.specs.Prelude.{◌≡◌, ◌↔◌, ◌≤◌, ◌||◌, ◌+◌, [], ◌∷◌, ℕ, List, Some, None, length, take, drop, min, is_ok, IsTrue, IsErr, IfSome, IfOk, OnOk, OnErr, if◌then◌else◌, refl};
 ghost use Rattle.std.specs.Option.{option_map};
 ghost use Rattle.std.proofs.Common.{inl};
@@ -14,7 +14,7 @@ use outside::{Area, Crashing, Disk, Failed};
 use std::alloc::Global;
 use std::marker::Model;
 
-/// Three areas in memory, empty at first. It fails at the calls that it is told to, and tells all that it holds.
+/// Three areas in memory, empty at first. It fails at the calls that it is set to, and all that it holds is known.
 /// It keeps a record of its calls of `write`, `cut` and `sync` since its last crash, so its images at each moment follow.
 #[derive(Drop)]
 pub struct MemDisk {

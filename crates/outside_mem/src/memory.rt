@@ -1,4 +1,4 @@
-// Streams in memory, which fail at the calls that they are told to.
+// Streams in memory, which fail at the calls that they are set to.
 ghost use Rattle.std.specs.Prelude.{◌≡◌, ◌<◌, ◌≤◌, ◌||◌, ◌↔◌, ◌+◌, ◌++◌, [], ℕ, List, Some, length, take, drop, min, is_ok, IsTrue, IsErr, IfOk, OnOk, OnErr, if◌then◌else◌};
 ghost use Rattle.std.specs.Io.KnownBytes.{IsAtEnd};
 ghost use Rattle.outside.specs.Causes.{counted, within_last, HasCause};
@@ -10,7 +10,7 @@ use outside::{Failed, Sink, Source};
 use std::alloc::Global;
 use std::marker::Model;
 
-/// Gives the bytes of a `Vec`, and fails at the calls that it is told to.
+/// Gives the bytes of a `Vec`, and fails at the calls that it is set to.
 #[derive(Drop)]
 pub struct MemSource {
     bytes: Vec<u8>,
@@ -64,7 +64,7 @@ impl Source for MemSource {
     }
 }
 
-/// Keeps what it takes, and fails at the calls that it is told to.
+/// Keeps what it takes, and fails at the calls that it is set to.
 #[derive(Drop)]
 pub struct MemSink {
     taken: Vec<u8>,

@@ -6,7 +6,7 @@ use Rattle.outside.specs.declared.disk.Area.{Area}
 use Rattle.outside.specs.declared.disk.Area.TheVariants.{Log, SnapA, SnapB}
 use Rattle.outside.specs.Disk.{written, Torn, Cut}
 
--- A file: what it reads as, and what it read as when it was last synced, each where that is told.
+-- A file: what it reads as, and what it read as when it was last synced, each where that is known.
 pub record Held : Type 0 where
   pub reads_as : Option (List ℕ)
   pub synced : Option (List ℕ)

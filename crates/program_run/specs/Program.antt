@@ -37,7 +37,7 @@ abbrev pub execution_of : Execution → programs.Execution
 execution_of (Ended outcome cycles) = Ok (outcome, cycles)
 execution_of (BadElf condition) = Err condition
 
--- A file is no program where it meets a condition, and then its number is told.
+-- A file is no program where it meets a condition, and its answer is that condition's number.
 abbrev pub IsJudged : Result Program ℕ → Execution → Type 0
 IsJudged (Ok program) (Ended outcome cycles) = Unit {0}
 IsJudged (Ok program) (BadElf condition) = ⊥

@@ -22,7 +22,7 @@ use std::alloc::Global;
 use std::collections::HashSet;
 use std::marker::Model;
 
-/// The ids that the blocks of a window and their uncles propose. Clauses see them as a list, in no order that is told.
+/// The ids that the blocks of a window and their uncles propose. Clauses see them as a list, in any order.
 #[derive(Drop)]
 pub struct Proposed {
     ids: HashSet<[u8; 10]>,

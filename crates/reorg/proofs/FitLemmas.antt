@@ -1,4 +1,4 @@
--- A kept block as it is told, and events of which none is odd.
+-- A kept block as it is known, and events of which none is odd.
 use Rattle.std.proofs.Common.{◌≡◌, ℕ, Bool, List, Option, Some, None, Result, Err, sym, ◌∙◌, subst}
 use Rattle.std.specs.Prelude.{slice_get, IfSome}
 use Rattle.std.specs.Option.{option_map}

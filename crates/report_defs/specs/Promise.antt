@@ -56,7 +56,7 @@ standalone_statuses Asm = refusing_statuses
 standalone_statuses Dis = answering_statuses
 standalone_statuses Unjson = refusing_statuses
 
--- a simulation is told, or stopped
+-- a simulation is reported, or stopped
 abbrev pub simulation_statuses : List Status
 simulation_statuses = Done ∷ SinkFault ∷ NoMemory ∷ []
 

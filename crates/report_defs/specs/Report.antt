@@ -75,7 +75,7 @@ status_of_end whole Extra = ExtraInput
 abbrev pub report_of_end : ℕ → End → Report
 report_of_end offset end = report_without_lines (closing_of_end offset end) (status_of_end Done end)
 
--- An input that is read whole is judged where it ends as it should, and told as its end where it does not.
+-- An input that is read whole is judged where it ends as it should, and reported by its end where it does not.
 abbrev pub report_at_end : Report → ℕ → End → Report
 report_at_end judged offset AtEnd = judged
 report_at_end judged offset Cut = report_of_end offset Cut
@@ -255,7 +255,7 @@ IsReportOfFile command file said =
 
 -- ---- Generated chains
 
--- What is told of one that is put through a store in memory. It is a relation, as nothing is said of the counts of a `soak` where two hashes are equal.
+-- The report of one that is put through a store in memory. It is a relation, as nothing is said of the counts of a `soak` where two hashes are equal.
 abbrev pub IsAnswerToSimulation : simulations.Simulation → List ℕ → Type 0
 IsAnswerToSimulation (Make seed count) text = text ≡ made_line count (generated_counts seed count)
 IsAnswerToSimulation (Soak seed count) text = (counted : Counts) × AreSoakCounts seed count counted × (text ≡ soak_line count counted)

@@ -18,17 +18,17 @@ pub enum Command {
 /// What is asked of the store alone.
 #[derive(Clone, Copy, Debug, PartialEq, Eq)]
 pub enum Query {
-    /// `tip`: the tip of the kept blocks is told.
+    /// `tip`: prints the tip of the kept blocks.
     Tip,
-    /// `header`: the header of the block at a height of the best branch is told.
+    /// `header`: prints the header of the block at a height of the best branch.
     Header { height: u64 },
-    /// `json`: the block at a height of the best branch is told as JSON.
+    /// `json`: prints the block at a height of the best branch as JSON.
     Json { height: u64 },
-    /// `epoch`: the epoch of the tip is told.
+    /// `epoch`: prints the epoch of the tip.
     Epoch,
-    /// `cell`: the live cell with an out-point is told.
+    /// `cell`: prints the live cell with an out-point.
     Cell { tx_hash: [u8; 32], index: u64 },
-    /// `dao`: what a live cell of the Nervos DAO counts is told.
+    /// `dao`: prints what a live cell of the Nervos DAO counts.
     Dao { tx_hash: [u8; 32], index: u64 },
 }
 

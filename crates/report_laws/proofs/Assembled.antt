@@ -51,7 +51,7 @@ founded chain joined = record {
   genesis = subst (λ (first : Option Block). IfSome first (λ block. block.header.number ≡ 0)) (sym joined.first) (first-number joined.genesis joined.good);
 }
 
--- ---- A report that is told whole
+-- ---- A report that is printed whole
 
 abbrev Judged : Status → Type 0
 Judged status = IsOneOf (Done ∷ SomeRefused ∷ []) status

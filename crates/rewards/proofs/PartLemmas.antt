@@ -17,7 +17,7 @@ use Rattle.rewards.proofs.StartLemmas.{proposes-among, not-at}
 
 -- ---- One height
 
--- what a height gives is told by the starts
+-- what a height gives follows from the starts
 proposed-part : (spec : Specification) (branch : List Block) (proposer height : ℕ) (start_of : List ℕ → Option ℕ) → AreStarts spec branch proposer start_of
     → proposer + spec.w_close ≤ height → height ≤ proposer + spec.w_far
     → sum_by (λ (paid : Paid). proposer_share paid.fee) (filter (λ (paid : Paid). is_started (start_of paid.id) height) (paid_at spec branch height))

@@ -8,7 +8,7 @@ use Rattle.chain_tree.specs.Blocks.{IndexesBlocks}
 use Rattle.chain_tree.specs.Told.{Stored, blocks_of}
 use Rattle.rewards.specs.Own.{HaveOwnFees}
 
--- They are told, entries index them, and their exts have their own fees.
+-- They are known, entries index them, and their exts have their own fees.
 pub record AreKnownBlocks (spec : Specification) (told : Option (List Stored)) (entries : List Entry) (stored : List Stored) : Type 0 where
   pub is : told ≡ Some stored
   pub indexes : IndexesBlocks (blocks_of stored) entries

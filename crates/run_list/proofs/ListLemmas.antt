@@ -16,7 +16,7 @@ use Rattle.run_list.specs.declared.list.Call.{Call}
 use Rattle.run_list.specs.declared.list.Stop.{Stop}
 use Rattle.run_list.specs.Runs.{IsRunWith, IsCallOf, AreCallsOf}
 
--- a disk that tells afterwards where it told before
+-- what a disk reads as is known afterwards where it was known before
 tells_on : (old new : Option Image) → IsKnownAsBefore old new → IsSome old → IsSome new
 tells_on old new same told = same ∙ told
 
@@ -95,7 +95,7 @@ module _ {S K D : Type 0} (left : S → Option (List ℕ)) (input_faults : S →
   abbrev AreCalls : List (Call S K) → List (Call S K) → D → D → List Run → Type 0
   AreCalls = AreCallsOf left input_faults taken_by out_faults reads_as images moment left_since disk_faults armed_for
 
-  -- the disk tells after a call where it told before it
+  -- what the disk reads as is known after a call where it was known before it
   told_with : (stop : Option Stop) (before after : Call S K) (old new : D) (run : Run) → IsWith stop before after old new run → IsKnownAsBefore (reads_as old) (reads_as new)
   told_with None before after old new run is = is.told
   told_with (Some stop) before after old new run (armed, arms, exit, is, crashed) = crashed.told ∙ (is.told ∙ ap is_some arms.as_before.reads)
@@ -128,7 +128,7 @@ module _ {S K D : Type 0} (left : S → Option (List ℕ)) (input_faults : S →
   are_promised (before ∷ befores) [] old new runs never = absurd never
   are_promised (before ∷ befores) (after ∷ afters) old new [] never = absurd never
 
-  -- the disk tells after them where it told before
+  -- what the disk reads as is known after them where it was known before
   tell_on : (befores afters : List (Call S K)) (old new : D) (runs : List Run) → AreCalls befores afters old new runs → IsKnownAsBefore (reads_as old) (reads_as new)
   tell_on [] [] old new [] same = ap (λ (d : D). is_some (reads_as d)) same
   tell_on (before ∷ befores) (after ∷ afters) old new (run ∷ runs) (between, is, rest) = tell_on befores afters between new runs rest ∙ told_with before.stop before after old between run is

@@ -42,7 +42,7 @@ pub fn run_all<S: Source, K: Sink, D: Crashing, L: Ledger>(
         × AreCallsOf S.left S.faults K.taken K.faults D.reads_as D.images D.moment D.left_since D.faults D.armed calls.old calls.new disk.old disk.new runs
         × ArePromised (D.reads_as disk.old) (D.images disk.old) (D.images disk.new) runs }
 
-    // The disk tells what it reads as after the last run exactly where it told before the first.
+    // What the disk reads as is known after the last run exactly where it was known before the first.
     ensures told { IsKnownAsBefore (D.reads_as disk.old) (D.reads_as disk.new) }
 {
     for at in 0..calls.len() {

@@ -40,7 +40,7 @@ leading-digits (c ∷ cs) rest n all small =
     leading-more n (cs ++ rest) c (digit-is c all.0) low
     ∙ ap (λ m. leading m (cs ++ rest)) same ∙ leading-digits cs rest (n * 10 + digit_value c) all.1 small
 
--- no digit stands in front
+-- no digit stands first
 abbrev StartsOther : List ℕ → Type 0
 StartsOther [] = Unit {0}
 StartsOther (c ∷ cs) = is_digit c ≡ false

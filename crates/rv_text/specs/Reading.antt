@@ -1,5 +1,5 @@
 -- What the parts of the reader give. It takes numbers where it finds digits; that the line is the instruction's text is
--- told at the end, by comparing the two.
+-- known at the end, by comparing the two.
 use Rattle.std.specs.Prelude.{ℕ, ℤ, pos, ◌-ℤ◌, ◌+◌, ◌-◌, ◌*◌, ◌%◌, ◌==◌, nat_lt, nat_le, ◌&&◌, Bool, List, [], ◌∷◌, Option, Some, None, if◌then◌else◌}
 use Rattle.std.specs.List.{list_any}
 use Rattle.std.specs.Str.{bytes_eq}

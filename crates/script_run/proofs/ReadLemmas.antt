@@ -1,4 +1,4 @@
--- Kept blocks that were read, and what is told of it where a function ends.
+-- Kept blocks that were read, and what a function says of it where it ends.
 use Rattle.std.proofs.Common.{◌≡◌, ℕ, Option, Some, None, Result, Ok, Err, refl, ap, ◌∙◌, subst, arith}
 use Rattle.outside.specs.Causes.{CountsFault}
 use Rattle.outside.specs.declared.disk.Area.TheVariants.{Log}
@@ -81,7 +81,7 @@ want-no-damage stop damage wanted is = absurd (cc)
 pub none-counted : (count : ℕ) (Fault : Type 0) → (Fault → ⊥) → CountsFault count count Fault
 none-counted count Fault none = record { later = omega arith; rose = λ fault. absurd (none fault); unchanged = λ _. refl }
 
--- the same fault, told otherwise
+-- the same fault, in other words
 pub counted-as : (before now : ℕ) (Fault Other : Type 0) → (Other → Fault) → (Fault → Other) → CountsFault before now Fault → CountsFault before now Other
 counted-as before now Fault Other is so counts = record {
   later = counts.later;

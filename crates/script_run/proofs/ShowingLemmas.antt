@@ -14,7 +14,7 @@ use Rattle.chain_tree.specs.Told.{Stored}
 use Rattle.tx_defs.specs.Site.{all_there}
 use Rattle.sys_defs.specs.World.{Items}
 use Rattle.script_defs.specs.Scene.{Scene, ShownCell}
-use Rattle.script_run.specs.Lookups.{ShowsHeaders, items_of, items_told, kept_header}
+use Rattle.script_run.specs.Lookups.{ShowsHeaders, items_of, known_items, kept_header}
 use Rattle.script_run.specs.Showing.{cell_shown, cells_shown, has_hashes, header_of, headers_shown, is_whole, same_hash, scene_shown, scene_with}
 use Rattle.script_run.specs.Shown.{GroupValue, IsShownAs, Shows}
 use Rattle.script_run.proofs.PlaceLemmas.{some-is, zip-lengths, zip-map}
@@ -150,7 +150,7 @@ shown-over epoch_length stored it scene shown = by-whole epoch_length stored it 
 
 pub if-told : (epoch_length : ℕ) (it : ResolvedTxValue) (group : GroupValue) (told : Option (List Stored)) (P : Items → Type 0)
     → ((stored : List Stored) (scene : Scene) → told ≡ Some stored → scene_shown epoch_length stored it ≡ Some scene → P (items_of scene group))
-    → IfSome (items_told epoch_length it group told) P
+    → IfSome (known_items epoch_length it group told) P
 if-told epoch_length it group None P each = tt
 if-told epoch_length it group (Some stored) P each =
     elim (scene_shown epoch_length stored it) as (λ shown. scene_shown epoch_length stored it ≡ shown → IfSome (option_map (λ scene. items_of scene group) shown) P) [
@@ -158,14 +158,14 @@ if-told epoch_length it group (Some stored) P each =
       | Some scene ↦ λ some. each stored scene refl some
     ] refl
 
--- kept blocks that are told and show a scene
+-- kept blocks that are known and show a scene
 pub record IsTold (epoch_length : ℕ) (it : ResolvedTxValue) (told : Option (List Stored)) : Type 0 where
   pub stored : List Stored
   pub scene : Scene
   pub told_are : told ≡ Some stored
   pub shown : scene_shown epoch_length stored it ≡ Some scene
 
-pub is-told : (epoch_length : ℕ) (it : ResolvedTxValue) (group : GroupValue) (told : Option (List Stored)) → IsSome (items_told epoch_length it group told) → IsTold epoch_length it told
+pub is-told : (epoch_length : ℕ) (it : ResolvedTxValue) (group : GroupValue) (told : Option (List Stored)) → IsSome (known_items epoch_length it group told) → IsTold epoch_length it told
 is-told epoch_length it group None some = absurd (false≢true some)
 is-told epoch_length it group (Some stored) some =
     elim (scene_shown epoch_length stored it) as (λ shown. scene_shown epoch_length stored it ≡ shown → IsSome (option_map (λ scene. items_of scene group) shown) → IsTold epoch_length it (Some stored)) [
@@ -174,6 +174,6 @@ is-told epoch_length it group (Some stored) some =
     ] refl some
 
 pub told-is : (epoch_length : ℕ) (it : ResolvedTxValue) (group : GroupValue) (told : Option (List Stored)) (stored : List Stored) (scene : Scene) → told ≡ Some stored
-    → scene_shown epoch_length stored it ≡ Some scene → items_told epoch_length it group told ≡ Some (items_of scene group)
+    → scene_shown epoch_length stored it ≡ Some scene → known_items epoch_length it group told ≡ Some (items_of scene group)
 told-is epoch_length it group told stored scene told_are shown =
-    ap (items_told epoch_length it group) told_are ∙ ap (option_map (λ s. items_of s group)) shown
+    ap (known_items epoch_length it group) told_are ∙ ap (option_map (λ s. items_of s group)) shown

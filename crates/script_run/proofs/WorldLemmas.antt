@@ -10,7 +10,7 @@ use Rattle.script_defs.specs.Scene.{Scene}
 use Rattle.script_run.specs.declared.bytes.HeaderPart.{HeaderPart}
 use Rattle.script_run.specs.declared.bytes.Lookup.{Lookup}
 use Rattle.script_run.specs.declared.bytes.Lookup.TheVariants.{InBlock, Broken}
-use Rattle.script_run.specs.Lookups.{IsFound, ShowsHeaders, items_of, items_told, kept_header}
+use Rattle.script_run.specs.Lookups.{IsFound, ShowsHeaders, items_of, known_items, kept_header}
 use Rattle.script_run.specs.Showing.{scene_shown}
 use Rattle.script_run.specs.Shown.{GroupValue, Shows}
 use Rattle.script_run.proofs.ShowingLemmas.{if-told, is-told, shown-over}
@@ -29,7 +29,7 @@ found-over epoch_length it group call look other look_up is stored scene shown =
 pub by-look : (epoch_length : ℕ) (it : ResolvedTxValue) (group : GroupValue) (told : Option (List Stored)) (call : Call) (look other : Lookup) → Sought epoch_length it group call look → look ≡ other
     → (P : Items → Type 0)
     → ((stored : List Stored) (scene : Scene) → told ≡ Some stored → IsFound (kept_header stored) epoch_length (items_of scene group call) other → P (items_of scene group))
-    → IfSome (items_told epoch_length it group told) P
+    → IfSome (known_items epoch_length it group told) P
 by-look epoch_length it group told call look other look_up is P each =
     if-told epoch_length it group told P (λ stored scene told_are shown. each stored scene told_are (found-over epoch_length it group call look other look_up is stored scene shown))
 
@@ -46,7 +46,7 @@ some-kept (Some made) P some = (made, refl, some)
 pub kept : (stored : List Stored) (place : ℕ) (P : Header → Type 0) → IsSomeAnd (kept_header stored place) P → Kept stored place P
 kept stored place P some = let t = some-kept (slice_get stored place) P some in record { made = t.0; there = t.1; holds = t.2 }
 
--- kept blocks that are told have the block whose header was looked for
+-- kept blocks that are known have the block whose header was looked for
 pub record BlockTold (epoch_length : ℕ) (it : ResolvedTxValue) (told : Option (List Stored)) (place : ℕ) : Type 0 where
   pub stored : List Stored
   pub told_are : told ≡ Some stored
@@ -54,14 +54,14 @@ pub record BlockTold (epoch_length : ℕ) (it : ResolvedTxValue) (told : Option 
   pub there : slice_get stored place ≡ Some made
 
 pub block-told : (epoch_length : ℕ) (it : ResolvedTxValue) (group : GroupValue) (told : Option (List Stored)) (call : Call) (look : Lookup) (place : ℕ) (part : HeaderPart)
-    → Sought epoch_length it group call look → look ≡ InBlock place part → IsSome (items_told epoch_length it group told) → BlockTold epoch_length it told place
+    → Sought epoch_length it group call look → look ≡ InBlock place part → IsSome (known_items epoch_length it group told) → BlockTold epoch_length it told place
 block-told epoch_length it group told call look place part look_up is some =
     let t = is-told epoch_length it group told some in
     let k = kept t.stored place _ (found-over epoch_length it group call look (InBlock place part) look_up is t.stored t.scene t.shown) in
     record { stored = t.stored; told_are = t.told_are; made = k.made; there = k.there }
 
 pub not-broken : (epoch_length : ℕ) (it : ResolvedTxValue) (group : GroupValue) (told : Option (List Stored)) (call : Call) (look : Lookup)
-    → Sought epoch_length it group call look → look ≡ Broken → IsSome (items_told epoch_length it group told) → ⊥
+    → Sought epoch_length it group call look → look ≡ Broken → IsSome (known_items epoch_length it group told) → ⊥
 not-broken epoch_length it group told call look look_up is some =
     let t = is-told epoch_length it group told some in
     found-over epoch_length it group call look Broken look_up is t.stored t.scene t.shown

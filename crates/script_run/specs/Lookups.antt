@@ -120,7 +120,7 @@ load_meaning scene it call load.Nothing = world.Unknown
 abbrev pub kept_header : List Stored → ℕ → Option Header
 kept_header stored place = option_map (λ it. it.block.header) (slice_get stored place)
 
--- What surrounds the script of a group, where the kept blocks are told and show a scene.
-abbrev pub items_told : ℕ → ResolvedTxValue → GroupValue → Option (List Stored) → Option Items
-items_told epoch_length it group told =
+-- What surrounds the script of a group, where the kept blocks are known and show a scene.
+abbrev pub known_items : ℕ → ResolvedTxValue → GroupValue → Option (List Stored) → Option Items
+known_items epoch_length it group told =
     option_and_then (λ stored. option_map (λ scene. items_of scene group) (scene_shown epoch_length stored it)) told

@@ -54,7 +54,7 @@ scene_with epoch_length tx (Some inputs) (Some deps) None = None
 scene_with epoch_length tx (Some inputs) (Some deps) (Some headers) =
     Some (record { transaction = tx; inputs = inputs; deps = deps; headers = headers; epoch_length = epoch_length })
 
--- What is shown over kept blocks that are told, where the transaction is whole.
+-- What is shown over kept blocks that are known, where the transaction is whole.
 unfoldable pub scene_shown : ℕ → List Stored → ResolvedTxValue → Option Scene
 scene_shown epoch_length stored it =
     if is_whole it

@@ -31,7 +31,7 @@ pub record Shows (it : ResolvedTxValue) (scene : Scene) : Type 0 where
   pub deps : AllZip IsShownAs it.deps scene.deps
   pub headers : length scene.headers ≡ length it.headers
 
--- ---- What is tried of it, whatever is told of kept blocks
+-- ---- What is tried of it, whatever is known of kept blocks
 
 -- a copy is an output, and its row has the hash of a type script just where that has one
 abbrev pub IsTyped : ResolvedValue → Type 0

@@ -222,7 +222,7 @@ pub fn run_groups<B: Blocks>(
     // Over any source of blocks: each input has its copy, or nothing is answered of the scripts.
     ensures inputs { read_stop_of result ≡ None → HasItsInputs tx.now }
 
-    // Over kept blocks that are told, where it shows a scene.
+    // Over kept blocks that are known, where it shows a scene.
     ensures exact { (stored : List Stored) (scene : Scene) → B.told blocks.old ≡ Some stored → scene_shown spec.now.epoch_length stored tx.now ≡ Some scene
         → IsOutcome (defs.outcome_of scene budget) result }
     ensures undamaged { (stored : List Stored) (scene : Scene) → B.told blocks.old ≡ Some stored → scene_shown spec.now.epoch_length stored tx.now ≡ Some scene

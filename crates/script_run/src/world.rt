@@ -44,9 +44,9 @@ impl<'a, 'w, 'b, B: Blocks> World for GroupWorld<'a, 'w, 'b, B> {
     ghost use Rattle.std.specs.Prelude.{ℕ, List, Option};
     ghost use Rattle.std.specs.Option.{option_map};
     ghost use Rattle.chain_tree.specs.Told.{Stored};
-    ghost use Rattle.script_run.specs.Lookups.{bytes_of, found_in, items_told};
+    ghost use Rattle.script_run.specs.Lookups.{bytes_of, found_in, known_items};
 
-    ghost told = { λ world. items_told world.tx.now.epoch_length world.tx.now.it world.group.now (B.told world.blocks.now) };
+    ghost told = { λ world. known_items world.tx.now.epoch_length world.tx.now.it world.group.now (B.told world.blocks.now) };
 
     ghost here = { λ world. option_map bytes_of world.hand };
 

@@ -65,7 +65,7 @@ pub damaged-head : (area : Area) (bytes : List ℕ) (stop : ReadStop) → stop �
     → AnswersHead area bytes (Err stop)
 damaged-head area bytes stop is opened short = subst (λ (s : ReadStop). AnswersHead area bytes (Err s)) (sym is) (opened, short, refl)
 
--- what is told of all bytes that begin so, of those of the area
+-- what holds of all bytes that begin so, of those of the area
 pub as-read : (P : List ℕ → Type 0) (area : Area) (reads : Option Image) (first : List ℕ) (len size : ℕ) → len ≡ size
     → IfSome reads (λ image. first ≡ take len (drop 0 (content area image))) → ((bytes : List ℕ) → first ≡ take size bytes → P bytes)
     → IfSome reads (λ image. P (content area image))

@@ -76,7 +76,7 @@ joined_after chain item joined = by_joins (joins (verdict chain.spec chain.block
 
 -- ---- The genesis of a log
 
--- what stands after blocks has them in front
+-- what stands after blocks has them as its prefix
 pub over-front : (kept : List Block) (records : List Record) (all : List Block) → blocks_over kept records ≡ Some all
     → (more : List Block) × (all ≡ kept ++ more)
 over-front kept [] all over = ([], let same : kept ≡ all = (cc) in sym same ∙ sym (append-nil kept))

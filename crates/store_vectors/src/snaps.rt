@@ -76,7 +76,7 @@ fn is_done(done: Result<(), Failed>, wanted: &str) -> bool {
     }
 }
 
-/// The number, `none`, or why it is not told.
+/// The number, `none`, or why it is not answered.
 fn agrees_on_number(disk: &mut MemDisk, area: Area, row: &mut Row) -> Option<bool> {
     match number(disk, area) {
         Ok(Some(number)) => Some(row.short()? == number),

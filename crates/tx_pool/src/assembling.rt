@@ -211,7 +211,7 @@ pub fn assemble<C: Cells, B: Blocks>(
     requires witness { length (encoded schema.cellbase_witness witness.now) ≤ most_bytes }
     ensures read { HasRead B.told B.count B.loans_of B.faults B.damages blocks.old blocks.new (stop_of result) }
 
-    // Over kept blocks that are told with their own fees, of which the parent is the tip, with the cells of its branch.
+    // Over kept blocks that are known with their own fees, of which the parent is the tip, with the cells of its branch.
     ensures assembled { (stored : List Stored) → B.told blocks.old ≡ Some stored → StandsForAll stored (seen C.rows context.now)
         → tip_place (blocks_of stored) ≡ Some context.now.parent
         → IfOk result (IsAssembled (pool.assembled (chain_on context.now.spec.now (blocks_of stored)) witness.now (map (λ item. item.items) items.now))) }

@@ -201,7 +201,7 @@ copies-cells stored at seen site founds rows copies is are_seen are each =
 
 -- ---- The current block
 
--- it is the one at its place, where something is told
+-- it is the one at its place, where something is known
 pub hand-block : (told now : Option (List Stored)) (hand : Option ℕ) (place : ℕ) (view : Block) → now ≡ told → hand ≡ Some place
     → IfSome now (λ stored. IfSome hand (λ e. IfSome (slice_get stored e) (λ it. view ≡ it.block))) → IsBlockAt told place view
 hand-block told now hand place view same in_hand of_hand =

@@ -42,7 +42,7 @@ IsMade blocks judged o cell =
     ((b : Block) × (block_at blocks cell.height ≡ Some b) × IsOutputOf b o cell)
     ⊎ ((b : Block) × (judged ≡ Some b) × (cell.height ≡ length blocks) × IsOutputOf b o cell)
 
--- Over kept blocks that are told and the rows of cells this is the site of a transaction.
+-- Over kept blocks that are known and the rows of cells this is the site of a transaction.
 pub record IsSiteOf (stored : List Stored) (at : AtValue) (rows : OutPoint → Option Row) (site : Site) : Type 0 where
   -- the tree indexes the blocks
   pub indexed : IndexesBlocks (blocks_of stored) at.entries

@@ -21,11 +21,11 @@ row_in copy = (copy.out_point, copy.row)
 abbrev pub HoldsOutput : ResolvedValue → Type 0
 HoldsOutput copy = IsSome (decoded cell_output copy.output)
 
--- a block is the one at a place among those that are told
+-- a block is the one at a place among those that are known
 abbrev pub IsBlockAt : Option (List Stored) → ℕ → Block → Type 0
 IsBlockAt told place block = IfSome told (λ stored. IfSome (slice_get stored place) (λ it. it.block ≡ block))
 
--- A copy is that of the output which its row names, whatever row that is: of the block at the row's place among those that are told, or of the
+-- A copy is that of the output which its row names, whatever row that is: of the block at the row's place among those that are known, or of the
 -- block that is judged. No block stands after these.
 pub record CopiesItsRow (told : Option (List Stored)) (at : AtValue) (copy : ResolvedValue) : Type 0 where
   pub block : copy.row.block ≤ length at.entries
@@ -33,7 +33,7 @@ pub record CopiesItsRow (told : Option (List Stored)) (at : AtValue) (copy : Res
       → CopiesOutput (output_in made.block copy.row.transaction copy.out_point.index) copy
   pub judged : copy.row.block ≡ length at.entries → IsSomeAnd at.block (λ b. CopiesOutput (output_in b copy.row.transaction copy.out_point.index) copy)
 
--- A copy of an output is that of a row: it has the row, and over what is told the bytes of the cell that a transaction sees by it.
+-- A copy of an output is that of a row: it has the row, and over known blocks the bytes of the cell that a transaction sees by it.
 pub record IsCopyOfRow (told : Option (List Stored)) (at : AtValue) (named : OutPoint × Row) (copy : ResolvedValue) : Type 0 where
   pub row : row_in copy ≡ named
   pub output : HoldsOutput copy

@@ -60,7 +60,7 @@ pub record FollowsRows {T : Type 0} (proposed : Bool) (rows : OutPoint → Optio
 abbrev pub IsTried : Bool → ℕ → Type 0
 IsTried proposed rule = (rule ≡ 18) ⊎ (((rule ≡ 19) × (proposed ≡ false)) ⊎ ((20 ≤ rule) × (rule ≤ 27)))
 
--- The rules on it up to J27, in their order, where it is told whether its id is proposed.
+-- The rules on it up to J27, in their order, where it is known whether its id is proposed.
 abbrev pub rules_to_27 : Bool → Site → Transaction → List (ℕ × Bool)
 rules_to_27 proposed site t = form_rules t ++ (19, proposed) ∷ cell_rules site t
 

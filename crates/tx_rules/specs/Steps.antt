@@ -57,7 +57,7 @@ abbrev pub AnswersBy : {T : Type 0} → List (ℕ × Bool) → Result T TxStop �
 AnswersBy rules (Ok v) = first_failing rules ≡ None
 AnswersBy rules (Err stop) = StopsAt rules stop
 
--- why a step stops, whatever is told: at a rule that is tried, and what is damaged stands in LOG
+-- why a step stops, whatever is known: at a rule that is tried, and what is damaged stands in LOG
 abbrev pub IsStop : Bool → TxStop → Type 0
 IsStop proposed (Broken rule) = IsTried proposed (rule_number rule)
 IsStop proposed (Read DiskFault) = Unit {0}

@@ -317,7 +317,7 @@ fn copy_cells<B: Blocks>(
     }
 }
 
-/// Tries the rules on one transaction, which comes with its hash, in their order. It is told whether the transaction's id is
+/// Tries the rules on one transaction, which comes with its hash, in their order. An argument says whether the transaction's id is
 /// proposed (J19): that it is, where nothing is asked of a proposal.
 pub fn resolve<'a, C: Cells, B: Blocks>(
     alloc: Global,
@@ -340,7 +340,7 @@ pub fn resolve<'a, C: Cells, B: Blocks>(
     // It has below 2^32 inputs, each of which counts and holds below 2^64 shannons.
     ensures fits { IfOk result (λ ok. nat_abs ok.interest < 2 ^ 96) }
 
-    // Over kept blocks that are told, at the site of the transaction: the first rule that is broken, or none.
+    // Over kept blocks that are known, at the site of the transaction: the first rule that is broken, or none.
     ensures broken { (stored : List Stored) (site : Site) → B.told blocks.old ≡ Some stored → IsSiteOf stored at.now (C.rows cells.now) site
         → (rule : Rule) → result ≡ Err (TxStop.Broken rule) → first_failing (rules_to_27 proposed site tx.now) ≡ Some (rule_number rule) }
     ensures unbroken { (stored : List Stored) (site : Site) → B.told blocks.old ≡ Some stored → IsSiteOf stored at.now (C.rows cells.now) site

@@ -33,7 +33,7 @@ any-seen places hash number entries = any-map (is_named_on places hash number) s
 
 -- ---- A step
 
--- an element of the front is one of the list
+-- an element of a prefix is one of the list
 record IsInFront {X : Type 0} (n : ℕ) (xs : List X) (i : ℕ) (x : X) : Type 0 where
   there : slice_get xs i ≡ Some x
   front : take i (take n xs) ≡ take i xs

@@ -147,7 +147,7 @@ IsKept-over chain (item ∷ items) is_kept = IsKept-over (chain_after chain item
 pub keeping-keeps : KeepingKeeps
 keeping-keeps = (IsKept-one, IsKept-after)
 
--- What was kept stays in front, after an item
+-- What was kept stays as a prefix, after an item
 kept_after-front : (spec : Specification) (kept : List Block) (item : List ℕ) → (more : List Block) × (kept_after spec kept item ≡ kept ++ more)
 kept_after-front spec kept item = by_joins (joins (verdict spec kept item)) refl
   where

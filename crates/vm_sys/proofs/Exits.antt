@@ -336,7 +336,7 @@ content-touches m old new at count adds place few = λ page allocated. elim (add
   | inr under ↦ inr (under.0, (let below = under.1 in omega (arith, below, few)), subst (λ (n : ℕ). (n + under.0) / page_size ≡ page) place under.2)
 ]
 
--- ---- over what is told
+-- ---- over what is known of the world
 
 pub if-told : (told : Option Items) (items : Items) (P : Items → Type 0) → told ≡ Some items → IfSome told P → P items
 if-told told items P is holds = subst (λ t. IfSome t P) is holds

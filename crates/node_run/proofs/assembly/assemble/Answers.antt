@@ -52,7 +52,7 @@ returns-in-Err-clause-sound g c = λ sound is.
     let none = c.status_of_reading.ensures.none (same_stop _ _ is) in
     c.in-Err.ensures.undamaged sound none.0 (ap Err none.1)
 
--- ---- It was told
+-- ---- It was printed
 
 pub returns-in-Ok-answer_of-clause-disk : goal.returns-in-Ok-answer_of-clause-disk
 returns-in-Ok-answer_of-clause-disk g c = looks_found c.in-Ok.ensures.left (no_answer _ _)

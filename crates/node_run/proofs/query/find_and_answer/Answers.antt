@@ -6,7 +6,7 @@ use Rattle.report_defs.specs.declared.status.Status.TheVariants.{Done, SinkFault
 use Rattle.node_run.proofs.Exits.{same_stop}
 use Rattle.node_run.proofs.LookLemmas.{looks_as, looks_well}
 use Rattle.node_run.proofs.Tables.{lacks}
-use Rattle.node_run.proofs.StoreLemmas.{query_stopped, query_told}
+use Rattle.node_run.proofs.StoreLemmas.{query_stopped, query_printed}
 use Rattle.node_run.proofs.Statuses as statuses
 use Rattle.node_run.proofs.Statuses.{opening_stop, opening_no_sink, query_opening, told_one}
 use Rattle.node_run.proofs.query.find_and_answer.Goals as goal
@@ -34,13 +34,13 @@ pub returns-clause-told : goal.returns-clause-told
 returns-clause-told g c = let told = c.write_bytes.ensures.told in (
   told.0,
   told.1,
-  λ sound left. query_told c.args.query c.args.node.now.chain left told.0 c.deref.result.now c.write_bytes.result (c.deref.ensures.value ∙ c.in-Ok.ensures.text sound) told.2,
+  λ sound left. query_printed c.args.query c.args.node.now.chain left told.0 c.deref.result.now c.write_bytes.result (c.deref.ensures.value ∙ c.in-Ok.ensures.text sound) told.2,
 )
 
 pub returns-clause-status : goal.returns-clause-status
 returns-clause-status g c =
     let told = c.write_bytes.ensures.told in
-    statuses.query_told c.write_bytes.result (told_one (Done ∷ []) c.deref.result.now Done c.write_bytes.result told.0 (inl refl) told.2)
+    statuses.query_printed c.write_bytes.result (told_one (Done ∷ []) c.deref.result.now Done c.write_bytes.result told.0 (inl refl) told.2)
 
 pub returns-clause-disk : goal.returns-clause-disk
 returns-clause-disk g c = looks_well c.in-Ok.ensures.disk (no_answer _ _) (λ e.

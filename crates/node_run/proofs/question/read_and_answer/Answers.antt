@@ -124,7 +124,7 @@ pub returns-clause-out_faults : goal.returns-clause-out_faults
 returns-clause-out_faults g c =
     no_fault _ _ refl (lacks opening_stops SinkFault refl c.in-Err-answer_to.status (c.in-Err-answer_to.ensures.stop c.in-Err-answer_to.status refl))
 
--- it was told
+-- it was printed
 pub returns-in-Ok-clause-answered : goal.returns-in-Ok-clause-answered
 returns-in-Ok-clause-answered g c =
     let read = c.in-Ok-Items.ensures.read in

@@ -6,7 +6,7 @@ use Rattle.report_defs.specs.declared.status.Status.TheVariants.{Done, SinkFault
 use Rattle.report_defs.specs.Promise.{simulation_statuses}
 use Rattle.node_run.proofs.Tables.{among}
 use Rattle.node_run.proofs.Statuses.{told_one}
-use Rattle.node_run.proofs.SimulationLemmas.{simulation_stopped, simulation_told}
+use Rattle.node_run.proofs.SimulationLemmas.{simulation_stopped, simulation_printed}
 use Rattle.node_run.proofs.simulation.simulate.Goals as goal
 
 pub returns-in-Err-clause-text : goal.returns-in-Err-clause-text
@@ -22,7 +22,7 @@ pub returns-clause-text : goal.returns-clause-text
 returns-clause-text g c = let told = c.write_answer.ensures.told in (
   told.0,
   told.1,
-  λ left. simulation_told c.args.simulation left told.0 (string_bytes c.in-Ok.text) c.write_answer.result c.in-Ok.ensures told.2,
+  λ left. simulation_printed c.args.simulation left told.0 (string_bytes c.in-Ok.text) c.write_answer.result c.in-Ok.ensures told.2,
 )
 
 pub returns-clause-status : goal.returns-clause-status

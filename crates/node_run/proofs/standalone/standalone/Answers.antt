@@ -6,7 +6,7 @@ use Rattle.report_defs.specs.Report.{report_without_lines, file_limit, IsReportO
 use Rattle.report_defs.specs.Promise.{IsPrefix}
 use Rattle.node_run.specs.Standalone.{IsFile}
 use Rattle.node_run.proofs.Statuses.{reading_stops}
-use Rattle.node_run.proofs.StandaloneLemmas.{given_most, stopped_at_once, stopped_in_text, answered, standalone_reading, standalone_told, own_other}
+use Rattle.node_run.proofs.StandaloneLemmas.{given_most, stopped_at_once, stopped_in_text, answered, standalone_reading, standalone_printed, own_other}
 use Rattle.std.specs.Prelude.{Err}
 use Rattle.item_reader.specs.Items.{IsReadingStop}
 use Rattle.node_run.proofs.Exits.{same_stop}
@@ -94,7 +94,7 @@ returns-clause-status g c = own_other c.args.command c.in-Err-write_text.status 
 pub returns-in-Ok-write_text-clause-status : goal.returns-in-Ok-write_text-clause-status
 returns-in-Ok-write_text-clause-status g c =
     let answer = c.in-Ok-answer_to.answer in
-    standalone_told c.args.command c.deref.result.now (report_without_lines answer.bytes.items answer.status) c.in-Ok-answer_to.ensures
+    standalone_printed c.args.command c.deref.result.now (report_without_lines answer.bytes.items answer.status) c.in-Ok-answer_to.ensures
 
 pub returns-clause-out_faults : goal.returns-clause-out_faults
 returns-clause-out_faults g c = counts-as c.in-Err-write_text.ensures.faults (λ e. ap Err e) (same_stop _ _)

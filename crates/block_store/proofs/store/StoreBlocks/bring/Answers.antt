@@ -4,7 +4,7 @@ use Rattle.outside.specs.declared.disk.Damage.{Damage}
 use Rattle.outside.specs.declared.disk.ReadStop.TheVariants.{Damaged}
 use Rattle.chain_tree.specs.Entries.{entry_at}
 use Rattle.chain_tree.specs.Reading.{Findings, found_next}
-use Rattle.block_store.specs.Stored.{stored_at, told_by}
+use Rattle.block_store.specs.Stored.{stored_at, known_by}
 use Rattle.block_store.proofs.StoredLemmas.{kept-counted, told-there, of_damage, in_log, failed, stopped, stopped-back, stop-is}
 use Rattle.block_store.proofs.store.StoreBlocks.bring.Goals as goal
 
@@ -23,7 +23,7 @@ returns-in-Err-clause-read g c =
     let its = c.in-Err.ensures in
     let most = c.note.ensures.most ∙ its.most in
     record {
-      told = ap (λ (reads : Option Image). told_by reads it.tree.now.entries) its.same;
+      told = ap (λ (reads : Option Image). known_by reads it.tree.now.entries) its.same;
       count = refl;
       loans = λ i. record { disk = it.disk.ghost_name; cache = it.cache.ghost_name; content = its.content i; entries = it.tree.now.entries; most = most i };
       damage = λ damage is. in_log (entry_at it.tree.now.entries c.args.e) damage (its.place damage (stopped-back Unit _ _ is));

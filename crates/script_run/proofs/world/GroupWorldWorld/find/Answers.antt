@@ -3,7 +3,7 @@ use Rattle.std.specs.Prelude.{Err}
 use Rattle.outside.specs.declared.disk.ReadStop.TheVariants.{NoMemory}
 use Rattle.sys_defs.specs.World.{Here, NoIndex, Missing, Unknown}
 use Rattle.script_run.specs.declared.bytes.Lookup.TheVariants as look
-use Rattle.script_run.specs.Lookups.{bytes_of, found_in, header_part, items_told}
+use Rattle.script_run.specs.Lookups.{bytes_of, found_in, header_part, known_items}
 use Rattle.chain_tree.specs.Reading.{stop_of}
 use Rattle.script_run.specs.Shown.{ShownTxValue}
 use Rattle.script_run.proofs.ReadLemmas.{counted-as, counted-stop, damage-no-fault, damage-no-want, damage-of-log, no-error, none-counted, not-there, some-stop}
@@ -19,7 +19,7 @@ returns-in-Here g c =
       here = λ _. refl;
       found = by-look world.tx.now.epoch_length world.tx.now.it world.group.now (g.B.Blocks.told world.blocks.now) c.args.call c.look_up.result (look.Here c.in-Here.bytes) c.look_up.ensures c.in-Here.is
           (λ items. items c.args.call ≡ Here (bytes_of c.in-Here.bytes)) (λ stored scene told is. is);
-      known = not-wanted (items_told world.tx.now.epoch_length world.tx.now.it world.group.now (g.B.Blocks.told world.blocks.now)) c.args.call _ (no-error _ _);
+      known = not-wanted (known_items world.tx.now.epoch_length world.tx.now.it world.group.now (g.B.Blocks.told world.blocks.now)) c.args.call _ (no-error _ _);
       cause = none-counted _ _ (no-error _ _);
       answered = λ none. refl;
       undamaged = λ _ damage is. no-error _ _ is;
@@ -35,7 +35,7 @@ returns-in-NoIndex g c =
       here = λ is. absurd (cc);
       found = by-look world.tx.now.epoch_length world.tx.now.it world.group.now (g.B.Blocks.told world.blocks.now) c.args.call c.look_up.result look.NoIndex c.look_up.ensures c.in-NoIndex.is
           (λ items. items c.args.call ≡ NoIndex) (λ stored scene told is. is);
-      known = not-wanted (items_told world.tx.now.epoch_length world.tx.now.it world.group.now (g.B.Blocks.told world.blocks.now)) c.args.call _ (no-error _ _);
+      known = not-wanted (known_items world.tx.now.epoch_length world.tx.now.it world.group.now (g.B.Blocks.told world.blocks.now)) c.args.call _ (no-error _ _);
       cause = none-counted _ _ (no-error _ _);
       answered = λ none. refl;
       undamaged = λ _ damage is. no-error _ _ is;
@@ -51,7 +51,7 @@ returns-in-Missing g c =
       here = λ is. absurd (cc);
       found = by-look world.tx.now.epoch_length world.tx.now.it world.group.now (g.B.Blocks.told world.blocks.now) c.args.call c.look_up.result look.Missing c.look_up.ensures c.in-Missing.is
           (λ items. items c.args.call ≡ Missing) (λ stored scene told is. is);
-      known = not-wanted (items_told world.tx.now.epoch_length world.tx.now.it world.group.now (g.B.Blocks.told world.blocks.now)) c.args.call _ (no-error _ _);
+      known = not-wanted (known_items world.tx.now.epoch_length world.tx.now.it world.group.now (g.B.Blocks.told world.blocks.now)) c.args.call _ (no-error _ _);
       cause = none-counted _ _ (no-error _ _);
       answered = λ none. refl;
       undamaged = λ _ damage is. no-error _ _ is;
@@ -67,7 +67,7 @@ returns-in-Unknown g c =
       here = λ is. absurd (cc);
       found = by-look world.tx.now.epoch_length world.tx.now.it world.group.now (g.B.Blocks.told world.blocks.now) c.args.call c.look_up.result look.Unknown c.look_up.ensures c.in-Unknown.is
           (λ items. items c.args.call ≡ Unknown) (λ stored scene told is. is);
-      known = not-wanted (items_told world.tx.now.epoch_length world.tx.now.it world.group.now (g.B.Blocks.told world.blocks.now)) c.args.call _ (no-error _ _);
+      known = not-wanted (known_items world.tx.now.epoch_length world.tx.now.it world.group.now (g.B.Blocks.told world.blocks.now)) c.args.call _ (no-error _ _);
       cause = none-counted _ _ (no-error _ _);
       answered = λ none. refl;
       undamaged = λ _ damage is. no-error _ _ is;
@@ -82,7 +82,7 @@ returns-in-Broken g c =
       loans = refl;
       here = tt;
       found = tt;
-      known = not-wanted (items_told world.tx.now.epoch_length world.tx.now.it world.group.now (g.B.Blocks.told world.blocks.now)) c.args.call _ (damage-no-want c.damaged.result _ c.damaged.ensures);
+      known = not-wanted (known_items world.tx.now.epoch_length world.tx.now.it world.group.now (g.B.Blocks.told world.blocks.now)) c.args.call _ (damage-no-want c.damaged.result _ c.damaged.ensures);
       cause = none-counted _ _ (damage-no-fault c.damaged.result _ c.damaged.ensures);
       answered = λ none. refl;
       undamaged = λ some damage is.
@@ -97,7 +97,7 @@ returns-in-Ok g c =
     let part = c.in-InBlock.part in
     let read = c.in-Ok.ensures.read in
     record {
-      told = ap (items_told world.tx.now.epoch_length world.tx.now.it world.group.now) read.told;
+      told = ap (known_items world.tx.now.epoch_length world.tx.now.it world.group.now) read.told;
       loans = λ t. (world.blocks.ghost_name, read.loans t, read.told t, read.count t);
       here = λ _. refl;
       found = by-look world.tx.now.epoch_length world.tx.now.it world.group.now (g.B.Blocks.told world.blocks.now) c.args.call c.look_up.result (look.InBlock place part) c.look_up.ensures c.in-InBlock.is
@@ -105,7 +105,7 @@ returns-in-Ok g c =
           (λ stored scene told is.
           let k = kept stored place _ is in
           k.holds ∙ ap Here (ap (λ (t : ShownTxValue). header_part t.epoch_length part k.made.block.header) (sym c.tx.view_is) ∙ sym (c.in-Ok.ensures.part stored k.made told k.there)));
-      known = not-wanted (items_told world.tx.now.epoch_length world.tx.now.it world.group.now (g.B.Blocks.told world.blocks.now)) c.args.call _ (no-error _ _);
+      known = not-wanted (known_items world.tx.now.epoch_length world.tx.now.it world.group.now (g.B.Blocks.told world.blocks.now)) c.args.call _ (no-error _ _);
       cause = counted-as _ _ _ _ (λ is. absurd (no-error _ _ is)) (λ is. absurd (not-there _ _ refl is)) read.cause;
       answered = λ none. ap found_in (read.found (λ damage is last. not-there _ _ refl is));
       undamaged = λ _ damage is. no-error _ _ is;
@@ -119,7 +119,7 @@ returns-in-Err g c =
     let part = c.in-InBlock.part in
     let read = c.in-Err.ensures.read in
     record {
-      told = ap (items_told world.tx.now.epoch_length world.tx.now.it world.group.now) read.told;
+      told = ap (known_items world.tx.now.epoch_length world.tx.now.it world.group.now) read.told;
       loans = λ t. (world.blocks.ghost_name, read.loans t, read.told t, read.count t);
       here = tt;
       found = tt;
