@@ -15,6 +15,7 @@ pub mod StepLemmas
 pub mod OwnLemmas
 pub mod KeepingLemmas
 pub mod StayingLemmas
+pub mod BelowLemmas
 pub mod QueryLemmas
 pub mod RecordedLemmas
 pub mod SnapshotLemmas

@@ -31,7 +31,7 @@ use Rattle.log_file.specs.Opening.{IsOpened, NameBodies, kept_records}
 use Rattle.log_file.proofs.Settling.{others_kept, others_on}
 use Rattle.block_store.specs.Held.{CacheValue, Holds, AgreesWith}
 use Rattle.block_store.specs.Stored.{CanBeKept}
-use Rattle.node_core.specs.Node.{KeptValue, NodeValue, kept_of, node_of, stored_of, CountFees, IsWithin, IsReadBy, IsOf, IsItsOwn, IsSoundNode, IsOnlyImage, IsOn, IsLeftByOpening, AreOfTip}
+use Rattle.node_core.specs.Node.{KeptValue, NodeValue, kept_of, node_of, stored_of, CountFees, IsWithin, IsBounded, IsReadBy, IsOf, IsItsOwn, IsSoundNode, IsOnlyImage, IsOn, IsLeftByOpening, AreOfTip, AreOfKept}
 use Rattle.node_core.specs.Gathering.{IsBodyOfUnfit}
 use Rattle.node_core.specs.Opening.{NameItsBodies, IsOfCells, IsNoneFrom, IsNoStoreAt, SaysTheSame, LeavesStore, IsReadFrom}
 use Rattle.store_defs.specs.SnapshotLaws.{HasSoundAreas}
@@ -73,14 +73,14 @@ store_keeps image log is = store_of_bytes image.log log is
 abbrev Opened : Specification → List Stored → List Entry → Image → Type 0
 Opened spec stored entries now = (log : LogContent) × IsOpened now.log log spec stored entries
 
--- what a node asks of its chain and its place
-pub is_within : (kept : KeptValue) (spec : Specification) (stored : List Stored) (entries : List Entry) (place : ℕ) → kept ≡ kept_of spec stored entries
-    → length stored ≤ kept_limit → place ≤ 2 ^ 33 * (length stored + 1)
-    → (length kept.chain.blocks ≤ kept_limit) × IsWithin (length kept.chain.blocks) place
-is_within kept spec stored entries place of few within =
+-- what a node asks of its chain, its place and its live cells
+pub is_bounded : (kept : KeptValue) (spec : Specification) (stored : List Stored) (entries : List Entry) (place : ℕ) (cells : StateValue)
+    → kept ≡ kept_of spec stored entries → length stored ≤ kept_limit → place ≤ 2 ^ 33 * (length stored + 1) → AreOfKept kept.chain.blocks (rows cells)
+    → IsBounded kept place cells
+is_bounded kept spec stored entries place cells of few within below =
     let many : length stored ≡ length kept.chain.blocks =
     sym (ap (λ (k : KeptValue). length k.chain.blocks) of ∙ length-map stored (λ (it : Stored). it.block)) in
-    (omega (arith, few, many), subst (λ (n : ℕ). IsWithin n place) many within)
+    record { few = omega (arith, few, many); within = subst (λ (n : ℕ). IsWithin n place) many within; below = below }
 
 -- before a block is read nothing is held
 nothing-held : (e : ℕ) (it : Stored) → Holds [] e it → ⊥

@@ -1,6 +1,6 @@
 -- What queries ask of a node: the block at a height of the best branch, and the live cell with an out-point there.
 use Rattle.std.proofs.Common.{◌≡◌, ℕ, ◌+◌, ◌<◌, List, [], ◌∷◌, length, Option, Some, None, refl, sym, ap, ◌∙◌, subst, arith}
-use Rattle.std.specs.Prelude.{slice_get, slice_index, IfSome, IsSomeAnd}
+use Rattle.std.specs.Prelude.{slice_get, slice_index, IfSome}
 use Rattle.std.proofs.lemmas.List.{length-map}
 use Rattle.std.specs.Option.{option_map, option_and_then}
 use Rattle.std.proofs.lemmas.Option.{slice_get_within, slice_get_past, slice_get-map, same_Some}
@@ -11,18 +11,18 @@ use Rattle.chain_defs.specs.Tip.{tip_place, best_branch}
 use Rattle.chain_tree.specs.declared.entry.Entry.{Entry}
 use Rattle.chain_defs.proofs.KeptLaws.{slice_get-below}
 use Rattle.chain_defs.proofs.TipLaws.{tip_place-there, tip_place-below}
-use Rattle.chain_tree.specs.Entries.{entry_at, IsTree}
+use Rattle.chain_tree.specs.Entries.{entry_at}
 use Rattle.chain_tree.specs.Blocks.{IndexesBlocks}
 use Rattle.chain_tree.specs.Told.{Stored, blocks_of}
 use Rattle.chain_tree.proofs.BlockLemmas.{len-same}
 use Rattle.cell_defs.specs.Cell.{Cell}
-use Rattle.cell_defs.specs.Events.{live_cell}
+use Rattle.cell_defs.specs.Events.{live_cell, cell_after, events, last_naming}
 use Rattle.cell_defs.specs.Row.{Row, row_of, row_on, live_row, IsOutputOf}
 use Rattle.cell_laws.proofs.OutputLaws.{cells-are-outputs}
 use Rattle.cell_model.specs.Copies.{NamesOutput}
 use Rattle.cell_model.proofs.CopyLemmas.{in-hand}
 use Rattle.tx_rules.proofs.BranchLemmas.{PlaceOfHeight, place-of-height, branch-long, branch-block, number-on-branch}
-use Rattle.node_core.specs.Node.{AreOfTip}
+use Rattle.node_core.specs.Node.{AreOfTip, AreOfKept}
 use Rattle.node_core.specs.Queries.{LiveValue, IsLiveRow, IsLiveCell}
 
 abbrev branch_at : List Block → Option ℕ → List Block
@@ -69,23 +69,6 @@ block-told stored kept place b told hand seen below tells taken of_hand =
     let same : b ≡ here.0.block = in-hand b told hand stored place here.0 tells taken here.1 of_hand in
     ap (λ (blocks : List Block). block_at blocks place) (sym seen) ∙ slice_get-map (λ (it : Stored). it.block) stored place
     ∙ ap (option_map (λ (it : Stored). it.block)) here.1 ∙ ap (λ (x : Block). Some x) (sym same)
-
--- A tree has a tip.
-pub record HasTip (kept : List Block) (entries : List Entry) : Type 0 where
-  pub tip : ℕ
-  pub is : tip_place kept ≡ Some tip
-  pub below : tip < length entries
-
-some-first : (entries : List Entry) (P : Entry → Type 0) → IsSomeAnd (entry_at entries 0) P → 0 < length entries
-some-first [] P some = absurd some
-some-first (entry ∷ entries) P some = omega arith
-
-pub has-tip : (kept : List Block) (entries : List Entry) → IndexesBlocks kept entries → IsTree entries → HasTip kept entries
-has-tip kept entries indexed tree =
-    let long : length entries ≡ length kept = len-same kept entries indexed in
-    let some : 0 < length entries = some-first entries (λ entry. entry.number ≡ 0) tree.genesis in
-    let tip = tip_place-there kept (omega (arith, some, long)) in
-    record { tip = tip.0; is = tip.1; below = omega (arith, long, tip_place-below kept tip.0 tip.1) }
 
 -- ---- Cells
 
@@ -148,7 +131,7 @@ module _ (stored : List Stored) (found : OutPoint → Option Row) (tip : ℕ)
   by-cell cell at = live tip is o ∙ ap (option_map (row_on (blocks_of stored) tip)) at
 
   -- where there is no row, no cell is live
-  pub no-cell : found o ≡ None → live_cell (best_branch (blocks_of stored)) o ≡ None
+  no-cell : found o ≡ None → live_cell (best_branch (blocks_of stored)) o ≡ None
   no-cell none = ap (λ (blocks : List Block). live_cell blocks o) (best-is (blocks_of stored) tip is)
       ∙ by_live (live_cell (branch (blocks_of stored) tip) o) refl
     where
@@ -157,7 +140,7 @@ module _ (stored : List Stored) (found : OutPoint → Option Row) (tip : ℕ)
       by_live (Some cell) at = let row = by-cell (Some cell) at in absurd (cc)
 
   -- and where there is one, it is the row of a cell that is live
-  pub row-cell : (row : Row) → found o ≡ Some row → (cell : Cell) × IsLiveRow (blocks_of stored) o cell row
+  row-cell : (row : Row) → found o ≡ Some row → (cell : Cell) × IsLiveRow (blocks_of stored) o cell row
   row-cell row some = by_live (live_cell (branch (blocks_of stored) tip) o) refl
     where
       by_live : (live : Option Cell) → live_cell (branch (blocks_of stored) tip) o ≡ live → (cell : Cell) × IsLiveRow (blocks_of stored) o cell row
@@ -171,6 +154,27 @@ module _ (stored : List Stored) (found : OutPoint → Option Row) (tip : ℕ)
           its_row = same_Some row (row_on (blocks_of stored) tip cell) (sym some ∙ by-cell (Some cell) at);
         },
       )
+
+none-made : (o : OutPoint) → live_cell [] o ≡ None
+unfolding cell_after events last_naming
+none-made o = refl
+
+-- Where the rows are those of the tip's branch, no cell is live with an out-point that has no row,
+pub no-live : (stored : List Stored) (found : OutPoint → Option Row) → AreOfTip (blocks_of stored) found → (o : OutPoint) → found o ≡ None
+    → live_cell (best_branch (blocks_of stored)) o ≡ None
+no-live stored found live o none = by_tip (tip_place (blocks_of stored)) refl
+  where
+    by_tip : (tip : Option ℕ) → tip_place (blocks_of stored) ≡ tip → live_cell (best_branch (blocks_of stored)) o ≡ None
+    by_tip None is = ap (λ (at : Option ℕ). live_cell (branch_at (blocks_of stored) at) o) is ∙ none-made o
+    by_tip (Some tip) is = no-cell stored found tip live is o none
+
+-- and a row of a kept block is that of a cell that is live.
+pub some-live : (stored : List Stored) (found : OutPoint → Option Row) → AreOfTip (blocks_of stored) found → AreOfKept (blocks_of stored) found
+    → (o : OutPoint) (row : Row) → found o ≡ Some row → (cell : Cell) × IsLiveRow (blocks_of stored) o cell row
+some-live stored found live kept o row some =
+    let below = kept o row some in
+    let tip = tip_place-there (blocks_of stored) (omega (arith, below)) in
+    row-cell stored found tip.0 live tip.1 o row some
 
 -- a cell that is found is live
 pub not-live : (kept : List Block) (o : OutPoint) (told : LiveValue) → IsLiveCell kept o (Some told) → IsLiveCell kept o None → ⊥

@@ -34,7 +34,7 @@ use Rattle.genesis_defs.specs.Genesis.{broken_genesis_rule}
 use Rattle.log_defs.specs.Log.{Record, log_of}
 use Rattle.log_defs.specs.Rest.{IsSettled, IsAppended, HasLog}
 use Rattle.fit_laws.specs.Laws.{AreCanonical}
-use Rattle.reorg.specs.Moves.{AreOf}
+use Rattle.reorg.specs.Moves.{AreOf, AreBelow}
 use Rattle.store_defs.specs.Store.{StandsFor, AreJoined, HasNoSnapshots, new_image}
 
 -- the ext beside each kept block
@@ -133,6 +133,10 @@ AreOfFound kept found rows = (place : ℕ) → found ≡ Some place → AreOf ke
 abbrev pub AreOfTip : List Block → (OutPoint → Option Row) → Type 0
 AreOfTip kept rows = AreOfFound kept (tip_place kept) rows
 
+-- each row is of a kept block
+abbrev pub AreOfKept : List Block → (OutPoint → Option Row) → Type 0
+AreOfKept kept rows = AreBelow (length kept) rows
+
 -- A node is sound: what it keeps has joined, each block with its own ext, and its live cells are those of the tip.
 pub record IsSoundNode (node : NodeValue) : Type 0 where
   pub joined : AreJoined node.chain node.exts
@@ -195,6 +199,13 @@ pub record AreKept (stored : List Stored) (entries : List Entry) (index : Uncles
 -- A log is no longer than the records of so many blocks may make it.
 abbrev pub IsWithin : ℕ → ℕ → Type 0
 IsWithin count place = place ≤ 2 ^ 33 * (count + 1)
+
+-- What holds of each node, whatever its disk is: no more blocks are kept than may be, its log is no longer than their records may make it, and each row
+-- of its live cells is of one of them.
+pub record IsBounded (kept : KeptValue) (place : ℕ) (cells : StateValue) : Type 0 where
+  pub few : length kept.chain.blocks ≤ kept_limit
+  pub within : IsWithin (length kept.chain.blocks) place
+  pub below : AreOfKept kept.chain.blocks (rows cells)
 
 -- a specification and a genesis that keep their rules, as handed in
 pub record NewStoreValue : Type 0 where

@@ -27,7 +27,7 @@ ghost use Rattle.reorg.specs.Damages.{IsAtRecord};
 ghost use Rattle.reorg.specs.Moves.{AreOf};
 ghost use Rattle.chain_tree.specs.Reading.{HasRead, stop_of};
 ghost use Rattle.block_judge.specs.Stops.{read_stop_of};
-ghost use Rattle.node_core.specs.Node.{HoldsJoined, AreOfFound, AreOfTip};
+ghost use Rattle.node_core.specs.Node.{HoldsJoined, AreOfFound, AreOfTip, AreOfKept};
 ghost use Rattle.node_core.specs.Judging.{IsEntryOn, IsOnParent, HasPassed, IsDecidedBlock, IsDecided, IsReadyBlock, IsReadyItem, WantsMemory, MayWantMemory, becomes_tip, place_for};
 
 use crate::entry::{entry_on, hash_of, parent_hash};
@@ -89,6 +89,7 @@ impl Kept {
         ensures read { HasRead B.told B.count B.loans_of B.faults B.damages blocks.old blocks.new (stop_of result) }
         ensures cells { HoldsJoined self.now (B.told blocks.old) → AreOf self.now.chain.blocks from (rows state)
             → IfOk result (λ there. AreOf self.now.chain.blocks to (rows there)) }
+        ensures below { AreOfKept self.now.chain.blocks (rows state) → IfOk result (λ there. AreOfKept self.now.chain.blocks (rows there)) }
         ensures undamaged { HoldsJoined self.now (B.told blocks.old) → AreOf self.now.chain.blocks from (rows state)
             → (damage : Damage) → result ≡ Err (Damaged damage) → ⊥ }
         ensures at_record { IsSome (B.told blocks.old) → (damage : Damage) → result ≡ Err (Damaged damage)
@@ -191,6 +192,7 @@ impl Kept {
         ensures ready { IfOk result (λ it. IsReadyBlock self.now.chain block.now it.1) }
         ensures cells { HoldsJoined self.now (B.told blocks.old) → AreOfTip self.now.chain.blocks (rows state)
             → IfOk result (λ it. AreOfFound self.now.chain.blocks (place_for self.now.chain.blocks it.1) (rows it.0)) }
+        ensures below { AreOfKept self.now.chain.blocks (rows state) → IfOk result (λ it. AreOfKept self.now.chain.blocks (rows it.0)) }
         ensures decided { HoldsJoined self.now (B.told blocks.old) → AreOfTip self.now.chain.blocks (rows state)
             → IfOk result (λ it. IsDecidedBlock self.now.chain block.now it.1) }
         ensures undamaged { HoldsJoined self.now (B.told blocks.old) → AreOfTip self.now.chain.blocks (rows state)
@@ -248,6 +250,7 @@ impl Kept {
         ensures ready { IfOk result (λ it. IsReadyBlock self.now.chain block.now it.1) }
         ensures cells { HoldsJoined self.now (B.told blocks.old) → AreOfTip self.now.chain.blocks (rows state)
             → IfOk result (λ it. AreOfFound self.now.chain.blocks (place_for self.now.chain.blocks it.1) (rows it.0)) }
+        ensures below { AreOfKept self.now.chain.blocks (rows state) → IfOk result (λ it. AreOfKept self.now.chain.blocks (rows it.0)) }
         ensures decided { HoldsJoined self.now (B.told blocks.old) → AreOfTip self.now.chain.blocks (rows state)
             → IfOk result (λ it. IsDecidedBlock self.now.chain block.now it.1) }
         ensures undamaged { HoldsJoined self.now (B.told blocks.old) → AreOfTip self.now.chain.blocks (rows state)
@@ -284,6 +287,7 @@ impl Kept {
         ensures ready { IfOk result (λ it. IsReadyItem self.now.chain item.now it.1) }
         ensures cells { HoldsJoined self.now (B.told blocks.old) → AreOfTip self.now.chain.blocks (rows state)
             → IfOk result (λ it. AreOfFound self.now.chain.blocks (place_for self.now.chain.blocks it.1) (rows it.0)) }
+        ensures below { AreOfKept self.now.chain.blocks (rows state) → IfOk result (λ it. AreOfKept self.now.chain.blocks (rows it.0)) }
         ensures decided { HoldsJoined self.now (B.told blocks.old) → AreOfTip self.now.chain.blocks (rows state)
             → IfOk result (λ it. IsDecided self.now.chain item.now it.1) }
         ensures undamaged { HoldsJoined self.now (B.told blocks.old) → AreOfTip self.now.chain.blocks (rows state)

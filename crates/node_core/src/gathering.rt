@@ -7,7 +7,7 @@ ghost use Rattle.log_file.specs.Grammar.{AreBlocks};
 ghost use Rattle.log_file.specs.Stops.{IsDamage};
 ghost use Rattle.outside.specs.declared.disk.Area.TheVariants.{Log};
 ghost use Rattle.reorg.specs.Moves.{AreOf};
-ghost use Rattle.node_core.specs.Node.{kept_of, CountFees};
+ghost use Rattle.node_core.specs.Node.{kept_of, AreOfKept, CountFees};
 ghost use Rattle.node_core.specs.Gathering.{counts_fees, fits_at, or_unfit, IsBodyOfUnfit, AreLeftBy};
 
 use crate::kept::Kept;
@@ -126,6 +126,7 @@ impl Gathering {
         requires { AreBlocks self.stored tree.entries }
         ensures kept { IfOk result (λ it. it.0 ≡ kept_of spec self.stored tree.entries) }
         ensures cells { IfOk result (λ it. AreOf it.0.chain.blocks 0 (rows it.1)) }
+        ensures below { IfOk result (λ it. AreOfKept it.0.chain.blocks (rows it.1)) }
         ensures wrong { OnOk result (AreRated tree.entries × CountFees self.stored) }
         ensures right { AreRated tree.entries → CountFees self.stored → IsOk result }
         ensures stop { IfErr result (IsDamage (λ damage. (damage.area ≡ Log) × IsBodyOfUnfit self.stored tree.entries damage.at)) }

@@ -12,6 +12,7 @@ ghost use Rattle.cell_defs.specs.Events.{events_of_block, live_cell};
 ghost use Rattle.chain_defs.specs.Branch.{branch};
 ghost use Rattle.cell_defs.specs.Fit.{are_live, AllFit};
 ghost use Rattle.cell_state.specs.State.{rows, Grows};
+ghost use Rattle.reorg.specs.Moves.{AreBelow};
 ghost use Rattle.cell_model.specs.ListBlocks.{IsCanonical, IsExtFor};
 ghost use Rattle.chain_tree.specs.Blocks.{Describes, IndexesBlocks};
 ghost use Rattle.outside.specs.declared.disk.Area.TheVariants.{Log};
@@ -20,7 +21,7 @@ ghost use Rattle.outside.specs.declared.disk.ReadStop.TheVariants.{DiskFault, Da
 ghost use Rattle.verdict_defs.specs.Laws.{MayJoin};
 ghost use Rattle.fit_laws.specs.Laws.{AreCanonical};
 ghost use Rattle.store_defs.specs.Store.{IsJoined};
-ghost use Rattle.node_core.specs.Node.{kept_with, AreOfFound, AreOfTip};
+ghost use Rattle.node_core.specs.Node.{kept_with, AreOfFound, AreOfTip, AreOfKept};
 ghost use Rattle.node_core.specs.Judging.{IsReady, is_above, place_for};
 ghost use Rattle.node_core.specs.declared.deciding.Decision.TheVariants.{Joins};
 
@@ -75,6 +76,7 @@ fn grown<L: Ledger>(
 ) -> Result<State, ReadStop>
     requires { hashes.now ≡ map transaction_hash block.now.transactions }
     ensures of_branch { IfOk result (λ state. Grows block.now place cells state) }
+    ensures below { (end : ℕ) → place < end → AreBelow end (rows cells) → IfOk result (λ state. AreBelow end (rows state)) }
     ensures undamaged { (height : ℕ) → 0 < height → AllFit (events_of_block height block.now) (are_live (rows cells))
         → (damage : a_damage) → result ≡ Err (Damaged damage) → ⊥ }
     ensures damage { (damage : a_damage) → result ≡ Err (Damaged damage) → damage.area ≡ Log }
@@ -115,6 +117,7 @@ impl Kept {
         requires hashes { joining.hashes.items ≡ map transaction_hash block.now.transactions }
         ensures live { (kept : List Block) → IndexesBlocks kept tree.now.entries → IsReady kept block.now joining
             → AreOfFound kept (place_for kept (Joins joining)) (rows state) → IfOk result (λ next. AreOfTip (kept ++ block.now ∷ []) (rows next)) }
+        ensures below { (end : ℕ) → length tree.now.entries < end → AreBelow end (rows state) → IfOk result (λ next. AreBelow end (rows next)) }
         ensures undamaged { (kept : List Block) (height : ℕ) → IndexesBlocks kept tree.now.entries → IsReady kept block.now joining
             → AreOfFound kept (place_for kept (Joins joining)) (rows state)
             → 0 < height → AllFit (events_of_block height block.now) (are_live (live_cell (branch kept joining.entry.parent)))
@@ -148,6 +151,7 @@ impl Kept {
             → IfOk result (λ it. it.0 ≡ kept_with self b ext.now (record joining.entry { at = rec.at; len = rec.len })) }
         ensures live { AreOfFound self.chain.blocks (place_for self.chain.blocks (Joins joining)) (rows state)
             → IfOk result (λ it. AreOfTip it.0.chain.blocks (rows it.1)) }
+        ensures below { AreOfKept self.chain.blocks (rows state) → IfOk result (λ it. AreOfKept it.0.chain.blocks (rows it.1)) }
         ensures undamaged { (b : Block) → decoded schema.block item.now ≡ Some b → IsJoined self.chain → MayJoin self.chain.spec self.chain.blocks b
             → AreOfFound self.chain.blocks (place_for self.chain.blocks (Joins joining)) (rows state)
             → (damage : a_damage) → result ≡ Err (Damaged damage) → ⊥ }

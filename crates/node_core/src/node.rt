@@ -41,7 +41,7 @@ ghost use Rattle.block_store.specs.Held.{held_at};
 ghost use Rattle.log_file.specs.Pieces.{after_gate, block_record};
 ghost use Rattle.log_file.specs.declared.stop.LogStop.TheVariants as log_stops;
 ghost use Rattle.log_file.specs.Stops.{OfDamage, IsInLog};
-ghost use Rattle.node_core.specs.Node.{node_of, IsItsOwn, IsSoundNode, IsSoundOn, IsOnlyImage, IsOn, LeavesAll, IsLeftByImport, IsSettledAfter, IsWithin, AreOfFound, AreOfTip};
+ghost use Rattle.node_core.specs.Node.{node_of, IsItsOwn, IsSoundNode, IsSoundOn, IsOnlyImage, IsOn, LeavesAll, IsLeftByImport, IsSettledAfter, IsWithin, AreOfFound, AreOfTip, AreOfKept};
 ghost use Rattle.node_core.specs.Opening.{LeavesStore, IsReadFrom, NameItsBodies, IsNoneFrom, IsNoStoreAt};
 ghost use Rattle.outside.specs.declared.disk.WriteStop.TheVariants as write_stops;
 ghost use Rattle.node_core.specs.Snapshot.{snapshot_at, OthersReadBut, HasSnapshot, LacksSnapshot};
@@ -111,7 +111,8 @@ fn fill(alloc: Global, body: &mut Body, item: &[u8], ext: &Ext) -> Result<Vec<u8
 }
 
 /// What is kept of a store, and the live cells of the tip. The bytes of its blocks lie on the disk. Clauses see the chain, the
-/// exts, the entries, where the records of its log end, the live cells, what is held in memory, and how often damage was found.
+/// exts, the entries, where the records of its log end, the live cells, what is held in memory, and how often damage was found
+/// and where last.
 #[derive(Drop)]
 pub struct Node {
     kept: Kept,
@@ -123,15 +124,13 @@ pub struct Node {
 }
 
 impl Model for Node {
-    ghost use Rattle.std.specs.Prelude.{◌≤◌, length};
-    ghost use Rattle.chain_defs.specs.Kept.{kept_limit};
-    ghost use Rattle.node_core.specs.Node.{NodeValue, node_of, IsWithin};
+    ghost use Rattle.node_core.specs.Node.{NodeValue, node_of, IsBounded};
 
     ghost Value = { NodeValue };
 
     ghost view = { λ node. node_of node.kept node.log.place node.state node.cache };
 
-    ghost invariant = { λ node. (length node.kept.chain.blocks ≤ kept_limit) × IsWithin (length node.kept.chain.blocks) node.log.place };
+    ghost invariant = { λ node. IsBounded node.kept node.log.place node.state };
 }
 
 /// Why a log is not opened where the live cells did not reach the tip.
@@ -225,6 +224,7 @@ fn join<D: Disk, L: Ledger>(
     requires size { length item.now < 2 ^ 31 }
     requires own { IsItsOwn (node_of kept log.place state cache) (D.reads_as disk.old) (D.images disk.old) }
     requires within { IsWithin (length kept.chain.blocks) log.place }
+    requires below { AreOfKept kept.chain.blocks (rows state) }
     requires ready { IsReadyItem kept.chain item.now (Joins joining) }
     ensures own { IfOk result (λ node. IsItsOwn node (D.reads_as disk.new) (D.images disk.new)) }
     ensures kept { IsDecided kept.chain item.now (Joins joining) → IfOk result (λ node. node.chain ≡ chain_after kept.chain item.now) }
@@ -599,7 +599,8 @@ impl Node {
 
     /// The live cell with an out-point.
     pub fn live(&self, o: &OutPoint) -> Option<Live>
-        ensures { AreOfTip self.now.chain.blocks (rows self.now.cells) → IsLiveCell self.now.chain.blocks o.now result }
+        ensures live { AreOfTip self.now.chain.blocks (rows self.now.cells) → IsLiveCell self.now.chain.blocks o.now result }
+        ensures row { option_map (λ live. live.row) result ≡ rows self.now.cells o.now }
     {
         self.kept.live(&self.state, o)
     }
@@ -658,9 +659,10 @@ impl Node {
         self.kept.tree()
     }
 
-    /// The live cells of the tip, where the node is sound.
+    /// The live cells of the tip, where the node is sound. Each row is of a kept block, whatever the disk is.
     pub fn state(&self) -> &State
-        ensures { result.now ≡ self.now.cells }
+        ensures cells { result.now ≡ self.now.cells }
+        ensures below { AreOfKept self.now.chain.blocks (rows result.now) }
     {
         &self.state
     }

@@ -26,7 +26,7 @@ ghost use Rattle.pool_defs.specs.Laws.{breakable};
 ghost use Rattle.pool_defs.specs.Size.{most_items, most_bytes};
 ghost use Rattle.tx_pool.specs.Assembling.{IsAssembled};
 ghost use Rattle.store_defs.specs.Store.{AreJoined};
-ghost use Rattle.node_core.specs.Node.{IsReadBy, HasOnlyRead, AreOfFound, AreOfTip};
+ghost use Rattle.node_core.specs.Node.{IsReadBy, HasOnlyRead, AreOfFound, AreOfTip, AreOfKept};
 ghost use Rattle.node_core.specs.Steps.{moves_for};
 ghost use Rattle.node_core.specs.Judging.{IsReadyItem, IsDecided, MayWantMemory, place_for};
 ghost use Rattle.node_core.specs.Queries.{IsHeaderAt, IsBlockAt, IsLiveCell, IsFetched};
@@ -61,6 +61,7 @@ pub(crate) fn moved<D: Disk, L: Ledger>(
     ensures looked { HasOnlyRead D.content_of D.reads_as D.faults disk.old disk.new kept.now cache.old cache.new (stop_of result) }
     ensures cells { IsSome (D.reads_as disk.old) → AreJoined kept.now.chain kept.now.exts → AreOf kept.now.chain.blocks from (rows state)
         → IfOk result (λ there. AreOf kept.now.chain.blocks to (rows there)) }
+    ensures below { AreOfKept kept.now.chain.blocks (rows state) → IfOk result (λ there. AreOfKept kept.now.chain.blocks (rows there)) }
     ensures undamaged { IsSome (D.reads_as disk.old) → AreJoined kept.now.chain kept.now.exts → AreOf kept.now.chain.blocks from (rows state)
         → (damage : a_damage) → result ≡ Err (Damaged damage) → ⊥ }
     ensures at_record { IsSome (D.reads_as disk.old) → (damage : a_damage) → result ≡ Err (Damaged damage)
@@ -87,6 +88,7 @@ pub(crate) fn decide<D: Disk, L: Ledger>(
     ensures ready { IfOk result (λ it. IsReadyItem kept.now.chain item.now it.1) }
     ensures cells { IsSome (D.reads_as disk.old) → AreJoined kept.now.chain kept.now.exts → AreOfTip kept.now.chain.blocks (rows state)
         → IfOk result (λ it. AreOfFound kept.now.chain.blocks (place_for kept.now.chain.blocks it.1) (rows it.0)) }
+    ensures below { AreOfKept kept.now.chain.blocks (rows state) → IfOk result (λ it. AreOfKept kept.now.chain.blocks (rows it.0)) }
     ensures decided { IsSome (D.reads_as disk.old) → AreJoined kept.now.chain kept.now.exts → AreOfTip kept.now.chain.blocks (rows state)
         → IfOk result (λ it. IsDecided kept.now.chain item.now it.1) }
     ensures undamaged { IsSome (D.reads_as disk.old) → AreJoined kept.now.chain kept.now.exts → AreOfTip kept.now.chain.blocks (rows state)
@@ -196,6 +198,7 @@ pub(crate) fn fetch<D: Disk>(
     o: OutPoint,
 ) -> Result<Option<Fetched>, ReadStop>
     requires own { IfSome (D.reads_as disk.old) (IsReadBy kept.now cache.old.held) }
+    requires below { AreOfKept kept.now.chain.blocks (rows state.now) }
     ensures looked { HasOnlyRead D.content_of D.reads_as D.faults disk.old disk.new kept.now cache.old cache.new (stop_of result) }
     ensures fetched { IsSome (D.reads_as disk.old) → AreOfTip kept.now.chain.blocks (rows state.now) → IfOk result (IsFetched kept.now.chain.blocks o) }
     ensures none { AreOfTip kept.now.chain.blocks (rows state.now) → IsLiveCell kept.now.chain.blocks o None → (result ≡ Ok None) × (disk.new ≡ disk.old) }

@@ -13,7 +13,7 @@ ghost use Rattle.outside.specs.declared.disk.Damage.{Damage as a_damage};
 ghost use Rattle.outside.specs.declared.disk.ReadStop.TheVariants.{DiskFault, Damaged};
 ghost use Rattle.cell_state.specs.State.{rows};
 ghost use Rattle.chain_tree.specs.Reading.{HasRead, stop_of};
-ghost use Rattle.node_core.specs.Node.{stored_of, AreOfTip};
+ghost use Rattle.node_core.specs.Node.{stored_of, AreOfTip, AreOfKept};
 ghost use Rattle.node_core.specs.Queries.{IsHeaderAt, IsBlockAt, IsLiveCell, IsFetched};
 
 use crate::kept::Kept;
@@ -179,17 +179,13 @@ impl Kept {
 
     /// The live cell with an out-point, by the live cells of the tip.
     pub(crate) fn live(&self, state: &State, o: &OutPoint) -> Option<Live>
+        requires below { AreOfKept self.now.chain.blocks (rows state.now) }
         ensures live { AreOfTip self.now.chain.blocks (rows state.now) → IsLiveCell self.now.chain.blocks o.now result }
-        ensures within { IfSome result (λ live. live.row.block < length self.now.chain.blocks) }
+        ensures row { option_map (λ live. live.row) result ≡ rows state.now o.now }
     {
-        let kept = self.tree.len();
         let Some(meta) = state.get(o) else {
             return None;
         };
-        // (the block of each row is kept)
-        if meta.block >= kept {
-            return None;
-        }
         let height = self.tree.entry(meta.block).number;
         Some(Live { meta, height })
     }
@@ -202,6 +198,7 @@ impl Kept {
         state: &State,
         o: OutPoint,
     ) -> Result<Option<Fetched>, ReadStop>
+        requires below { AreOfKept self.now.chain.blocks (rows state.now) }
         requires counts { B.count blocks.old ≡ length self.now.chain.blocks }
         ensures read { HasRead B.told B.count B.loans_of B.faults B.damages blocks.old blocks.new (stop_of result) }
         ensures fetched { B.told blocks.old ≡ Some (stored_of self.now) → AreOfTip self.now.chain.blocks (rows state.now)

@@ -16,7 +16,7 @@ ghost use Rattle.snapshot_defs.specs.Snapshot as snapshots;
 ghost use Rattle.snapshots.specs.Writing.{HasAnyArea, HoldsNew};
 ghost use Rattle.store_defs.specs.Store.{StandsFor, AreJoined};
 ghost use Rattle.store_defs.specs.SnapshotLaws.{HasSoundAreas};
-ghost use Rattle.node_core.specs.Node.{IsReadBy, AreOfTip, IsOnlyImage};
+ghost use Rattle.node_core.specs.Node.{IsReadBy, AreOfTip, AreOfKept, IsOnlyImage};
 ghost use Rattle.chain_tree.specs.declared.entry.Entry.{Entry};
 ghost use Rattle.node_core.specs.Opening.{IsOfSnapshot, IsOfCells};
 ghost use Rattle.node_core.specs.Snapshot.{snapshot_at, IsTaken, OnlySnapshotReads, HasSnapshot, area_with, newest};
@@ -161,6 +161,7 @@ fn load_from<D: Disk, L: Ledger>(
     steps: &mut Steps<L>,
 ) -> Result<(u32, State), ReadStop>
     ensures within { IfOk result (λ it. it.0 < length kept.now.chain.blocks) }
+    ensures below { IfOk result (λ it. AreOfKept kept.now.chain.blocks (rows it.1)) }
     ensures cells { (now : Image) → D.reads_as disk.old ≡ Some now → newest now ≡ Some area → HasSoundAreas kept.now.chain.blocks now
         → IfOk result (λ it. AreOf kept.now.chain.blocks it.0 (rows it.1)) }
     ensures undamaged { (now : Image) → D.reads_as disk.old ≡ Some now → newest now ≡ Some area → HasSoundAreas kept.now.chain.blocks now → AreJoined kept.now.chain kept.now.exts
@@ -194,6 +195,7 @@ fn load<D: Disk, L: Ledger>(
 ) -> Result<(u32, State), ReadStop>
     requires some { 0 < length kept.now.chain.blocks }
     ensures within { IfOk result (λ it. it.0 < length kept.now.chain.blocks) }
+    ensures below { AreOfKept kept.now.chain.blocks (rows genesis) → IfOk result (λ it. AreOfKept kept.now.chain.blocks (rows it.1)) }
     ensures cells { (now : Image) → D.reads_as disk.old ≡ Some now → HasSoundAreas kept.now.chain.blocks now → AreOf kept.now.chain.blocks 0 (rows genesis)
         → IfOk result (λ it. AreOf kept.now.chain.blocks it.0 (rows it.1)) }
     ensures undamaged { (now : Image) → D.reads_as disk.old ≡ Some now → HasSoundAreas kept.now.chain.blocks now → AreJoined kept.now.chain kept.now.exts
@@ -234,6 +236,7 @@ pub(crate) fn to_tip<D: Disk, L: Ledger>(
     requires own { IfSome (D.reads_as disk.old) (IsReadBy kept.now cache.old.held) }
     ensures cells { (now : Image) → D.reads_as disk.old ≡ Some now → HasSoundAreas kept.now.chain.blocks now → AreJoined kept.now.chain kept.now.exts
         → AreOf kept.now.chain.blocks 0 (rows genesis) → IfOk result (λ there. AreOfTip kept.now.chain.blocks (rows there)) }
+    ensures below { AreOfKept kept.now.chain.blocks (rows genesis) → IfOk result (λ there. AreOfKept kept.now.chain.blocks (rows there)) }
     ensures undamaged { (now : Image) → D.reads_as disk.old ≡ Some now → HasSoundAreas kept.now.chain.blocks now → AreJoined kept.now.chain kept.now.exts
         → AreOf kept.now.chain.blocks 0 (rows genesis) → (damage : a_damage) → result ≡ Err (read_stops.Damaged damage) → ⊥ }
     ensures damage { (now : Image) → D.reads_as disk.old ≡ Some now

@@ -11,7 +11,7 @@ returns c =
     let kept = c.args.node.now.chain.blocks in
     let there = c.tip-tip.ensures in
     let size : c.len.result ≡ length c.in_ok-cells.cells.items = omega (arith, c.len.ensures, c.in_ok-cells.cells.ok) in
-    let live = subst (λ (s : StateValue). AreOfTip kept (rows s)) (sym c.state.ensures) c.requires.live in
+    let live = subst (λ (s : StateValue). AreOfTip kept (rows s)) (sym c.state.ensures.cells) c.requires.live in
     let cells = size ∙ cells-are kept there.0 (rows c.state.result.now) c.in_ok-cells.cells.items there.1 live c.in_ok-cells.ensures in
     let height = height-is kept there.0 c.tip-tip.result.now.number there.1 there.2.number in
     ap (λ (n : ℕ). record { joined = c.args.joined; height = n; cells = c.len.result }) height

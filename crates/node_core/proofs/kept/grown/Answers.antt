@@ -3,7 +3,9 @@ use Rattle.cell_defs.specs.Events.{events_of_block}
 use Rattle.cell_state.specs.State.{rows}
 use Rattle.cell_defs.specs.Fit.{are_live}
 use Rattle.cell_laws.proofs.FitLemmas.{found-same}
+use Rattle.cell_defs.specs.Row.{row_after}
 use Rattle.reorg.proofs.FitLemmas.{none-odd}
+use Rattle.reorg.proofs.BelowLemmas.{below-same, after-below}
 use Rattle.outside.proofs.Endings.{no_answer, no_memory, no_damage, memory_undamaged}
 use Rattle.node_core.proofs.kept.grown.Goals as goal
 
@@ -45,3 +47,14 @@ returns-in-Ok-apply-clause-reads g c = λ e. no_answer _ _ e
 
 pub returns-in-Ok-apply-clause-of_branch : goal.returns-in-Ok-apply-clause-of_branch
 returns-in-Ok-apply-clause-of_branch g c = λ kept parent is there at are. c.in-Ok-apply.ensures.of_branch kept parent is there at (λ o. c.in-Ok.ensures.rows o ∙ are o)
+
+pub returns-in-Err-clause-below : goal.returns-in-Err-clause-below
+returns-in-Err-clause-below g c = λ _ _ _. tt
+
+pub returns-in-Err-apply-clause-below : goal.returns-in-Err-apply-clause-below
+returns-in-Err-apply-clause-below g c = λ _ _ _. tt
+
+pub returns-in-Ok-apply-clause-below : goal.returns-in-Ok-apply-clause-below
+returns-in-Ok-apply-clause-below g c = λ end less are.
+    below-same _ (row_after c.args.place (events_of_block 1 c.args.block.now) (rows c.reserve.new.self)) end (λ o. c.in-Ok-apply.ensures.rows 1 o (omega arith))
+    (after-below c.args.place (events_of_block 1 c.args.block.now) (rows c.reserve.new.self) end less (below-same _ _ end c.in-Ok.ensures.rows are))

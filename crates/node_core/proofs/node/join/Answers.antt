@@ -55,11 +55,12 @@ append-requires-clause-filled g c =
     piece_long (block_record c.args.item.now (ext_bytes c.args.joining.ext)) c.fill.new.body c.in-Ok.ensures.filled
 
 pub invariant_of-result : goal.invariant_of-result
-invariant_of-result g c = (
-  few_after c.args.kept c.in-Ok-join.joined.0 c.args.kept.chain c.args.item.now c.deref-3.result.now _ c.args.joining refl c.in-Ok-join.ensures.kept c.requires.ready,
-  within_after c.args.kept c.in-Ok-join.joined.0 c.args.kept.chain c.args.item.now c.deref-3.result.now _ c.args.joining refl c.in-Ok-join.ensures.kept c.requires.ready c.args.log.place c.in-Ok-append.log.place (length c.fill.new.body) c.requires.within
-      c.in-Ok-append.ensures.place c.in-Ok.ensures.short,
-)
+invariant_of-result g c = record {
+  few = few_after c.args.kept c.in-Ok-join.joined.0 c.args.kept.chain c.args.item.now c.deref-3.result.now _ c.args.joining refl c.in-Ok-join.ensures.kept c.requires.ready;
+  within = within_after c.args.kept c.in-Ok-join.joined.0 c.args.kept.chain c.args.item.now c.deref-3.result.now _ c.args.joining refl c.in-Ok-join.ensures.kept c.requires.ready c.args.log.place c.in-Ok-append.log.place (length c.fill.new.body) c.requires.within
+      c.in-Ok-append.ensures.place c.in-Ok.ensures.short;
+  below = c.in-Ok-join.ensures.below c.requires.below;
+}
 
 pub returns-in-Err-clause-own : goal.returns-in-Err-clause-own
 returns-in-Err-clause-own g c = tt

@@ -5,7 +5,7 @@ use Rattle.log_file.proofs.Exits.{fault_counts, stop_counts, counts_on, memory_n
 use Rattle.chain_tree.specs.declared.entry.Entry.{Entry}
 use Rattle.node_core.specs.Node.{KeptValue}
 use Rattle.node_core.specs.Opening.{NameItsBodies}
-use Rattle.node_core.proofs.OpenLemmas.{leaves_synced, leaves_read, is_within, opened_read, not_sound, none_from, names_its_bodies, unfit_from, not_joined, one_after, opened_only, if_some_also, same_stop, ok_err, not_ok, counts_none}
+use Rattle.node_core.proofs.OpenLemmas.{leaves_synced, leaves_read, is_bounded, opened_read, not_sound, none_from, names_its_bodies, unfit_from, not_joined, one_after, opened_only, if_some_also, same_stop, ok_err, not_ok, counts_none}
 use Rattle.node_core.proofs.node.read_store.Goals as goal
 
 pub open-requires : goal.open-requires
@@ -66,8 +66,8 @@ returns-in-Err-new-clause-cause g c =
 
 pub invariant_of-result : goal.invariant_of-result
 invariant_of-result g c =
-    is_within c.in-Ok-into_kept.kept.0 c.in-Ok-open.opened.spec c.open.new.visitor.stored c.in-Ok-open.opened.tree.entries c.in-Ok-open.opened.log.place
-    c.in-Ok-into_kept.ensures.kept c.in-Ok-open.ensures.blocks.few c.in-Ok-open.ensures.place
+    is_bounded c.in-Ok-into_kept.kept.0 c.in-Ok-open.opened.spec c.open.new.visitor.stored c.in-Ok-open.opened.tree.entries c.in-Ok-open.opened.log.place
+    c.in-Ok-into_kept.kept.1 c.in-Ok-into_kept.ensures.kept c.in-Ok-open.ensures.blocks.few c.in-Ok-open.ensures.place c.in-Ok-into_kept.ensures.below
 
 pub returns-in-Ok-new-clause-left : goal.returns-in-Ok-new-clause-left
 returns-in-Ok-new-clause-left g c =

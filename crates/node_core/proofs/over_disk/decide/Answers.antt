@@ -41,6 +41,9 @@ returns-clause-cells g c told joined =
     c.decide.ensures.cells (tells-joined c.args.kept.now c.new-store.result.tree.now.entries c.args.cache.now.held (g.D.Disk.reads_as c.new-store.result.disk.now)
     (g.D.Disk.reads_as c.args.disk.now) same (ap g.D.Disk.reads_as c.new-store.ensures.disk) c.requires.own told joined)
 
+pub returns-clause-below : goal.returns-clause-below
+returns-clause-below g c = c.decide.ensures.below
+
 pub returns-clause-decided : goal.returns-clause-decided
 returns-clause-decided g c told joined =
     let same = ap (λ (t : TreeValue). t.entries) c.new-store.ensures.tree ∙ ap (λ (v : KeptValue). v.entries) c.kept.view_is in

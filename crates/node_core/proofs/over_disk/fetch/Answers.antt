@@ -14,6 +14,7 @@ new-store-requires g c =
 
 pub fetch-requires : goal.fetch-requires
 fetch-requires g c = record {
+  below = c.requires.below;
   counts = counts-blocks (blocks_of c.kept.inside.blocks.stored) c.args.kept.now.chain.blocks c.kept.inside.tree.entries _
       (ap (λ (v : KeptValue). v.chain.blocks) c.kept.view_is) c.kept.invariant.indexed (ap (λ (t : TreeValue). t.entries) c.new-store.ensures.tree);
 }

@@ -31,3 +31,9 @@ pub returns-in-Some-clause-damage : goal.returns-in-Some-clause-damage
 returns-in-Some-clause-damage g c = λ now told damage e.
     c.load_from.ensures.damage now ((g.met.D.Disk.content_rests c.args.disk.now c.newest_in.new.disk c.newest_in.ensures.content).reads ∙ told)
     (newest-at (g.D.Disk.reads_as c.args.disk.now) now c.in-Ok.found c.in-Some.area told c.in-Ok.ensures.newest c.in-Some.is) damage e
+
+pub returns-in-None-clause-below : goal.returns-in-None-clause-below
+returns-in-None-clause-below g c = λ are. are
+
+pub returns-in-Some-clause-below : goal.returns-in-Some-clause-below
+returns-in-Some-clause-below g c = λ _. c.load_from.ensures.below

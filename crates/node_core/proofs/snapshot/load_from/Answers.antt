@@ -1,11 +1,16 @@
 use Rattle.std.proofs.Common.{Err, ap, ◌∙◌}
 use Rattle.log_file.proofs.Exits.{same_stop}
+use Rattle.node_core.proofs.BelowLemmas.{below-loaded}
 use Rattle.node_core.proofs.LoadingLemmas.{loaded-within, loaded-cells, loaded-led, loaded-none, never-damaged, snapshot-damaged}
 use Rattle.node_core.proofs.snapshot.load_from.Goals as goal
 
 pub returns-in-Ok-Some-clause-within : goal.returns-in-Ok-Some-clause-within
 returns-in-Ok-Some-clause-within g c =
     loaded-within c.args.kept.now.chain.blocks c.args.area c.tree.result.now.entries (g.D.Disk.reads_as c.args.disk.now) c.args.steps.now c.read.new.steps c.in-Ok-Some.field-0 c.in-Ok-Some.loaded c.in-Ok-Some.field-0-is c.tree.ensures.indexed c.in-Ok-Some.ensures.within
+
+pub returns-in-Ok-Some-clause-below : goal.returns-in-Ok-Some-clause-below
+returns-in-Ok-Some-clause-below g c =
+    below-loaded c.args.kept.now.chain.blocks c.tree.result.now.entries c.in-Ok-Some.field-0 c.in-Ok-Some.loaded c.in-Ok-Some.field-0-is c.tree.ensures.indexed c.in-Ok-Some.ensures.within
 
 pub returns-in-Ok-Some-clause-cells : goal.returns-in-Ok-Some-clause-cells
 returns-in-Ok-Some-clause-cells g c =

@@ -33,3 +33,6 @@ returns-in-Err-moved-clause-damage g c = λ now told damage e.
       c.moved.ensures.looked.damage damage (ap stop_of is),
       c.moved.ensures.at_record (subst IsSome (sym ((g.met.D.Disk.content_rests c.args.disk.now c.load.new.disk c.load.ensures.content).reads ∙ told)) refl) damage is,
     )
+
+pub returns-in-Ok-moved-clause-below : goal.returns-in-Ok-moved-clause-below
+returns-in-Ok-moved-clause-below g c = λ are. c.in-Ok-moved.ensures.below (c.in-Ok.ensures.below are)

@@ -1,6 +1,9 @@
 use Rattle.std.proofs.Common.{ℕ, Option, refl, ap, subst}
 use Rattle.node_core.specs.Node.{RecordedValue}
+use Rattle.cell_state.specs.State.{rows}
+use Rattle.chain_tree.specs.Told.{blocks_of}
 use Rattle.node_core.specs.Gathering.{IsUnfit}
+use Rattle.node_core.proofs.BelowLemmas.{below-genesis}
 use Rattle.node_core.proofs.GatherLemmas.{unfit-within, body-of-unfit, blocks-seen, counted-seen, rated-fit, counted-fit, never-fits, are-kept-gathered, some-entries, some-cells, cells-left}
 use Rattle.node_core.proofs.gathering.Gathering.into_kept.Goals as goal
 
@@ -40,6 +43,14 @@ returns-clause-cells c =
     let are = blocks-seen c.self.inside.blocks.stored c.args.self.stored c.args.tree.entries (ap (λ (v : RecordedValue). v.stored) c.self.view_is) c.requires in
     cells-left c.self.inside.blocks.stored c.args.tree.entries c.self.inside.count c.self.inside.uncles c.self.inside.genesis c.self.inside.unfit c.in-Some-genesis.cells c.self.invariant are.indexed
     (some-entries c.tip.result c.args.tree.entries c.tip.ensures.within) c.in-Some-genesis.is
+
+pub returns-clause-below : goal.returns-clause-below
+returns-clause-below c =
+    let are = blocks-seen c.self.inside.blocks.stored c.args.self.stored c.args.tree.entries (ap (λ (v : RecordedValue). v.stored) c.self.view_is) c.requires in
+    let some = some-entries c.tip.result c.args.tree.entries c.tip.ensures.within in
+    below-genesis (blocks_of c.self.inside.blocks.stored) c.args.tree.entries (rows c.in-Some-genesis.cells) are.indexed some
+    (cells-left c.self.inside.blocks.stored c.args.tree.entries c.self.inside.count c.self.inside.uncles c.self.inside.genesis c.self.inside.unfit c.in-Some-genesis.cells c.self.invariant are.indexed
+    some c.in-Some-genesis.is)
 
 pub returns-clause-wrong : goal.returns-clause-wrong
 returns-clause-wrong c =

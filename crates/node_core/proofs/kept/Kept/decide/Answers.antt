@@ -20,6 +20,9 @@ returns-in-None-clause-ready g c = refl
 pub returns-in-None-clause-cells : goal.returns-in-None-clause-cells
 returns-in-None-clause-cells g c = λ _ live. live
 
+pub returns-in-None-clause-below : goal.returns-in-None-clause-below
+returns-in-None-clause-below g c = λ are. are
+
 pub returns-in-None-clause-decided : goal.returns-in-None-clause-decided
 returns-in-None-clause-decided g c tells live = verdict-no-block c.args.self.now.chain c.args.item.now (sym c.in-None.ensures.value)
 
@@ -46,6 +49,9 @@ returns-in-Some-clause-ready g c =
 
 pub returns-in-Some-clause-cells : goal.returns-in-Some-clause-cells
 returns-in-Some-clause-cells g c = c.decide_block.ensures.cells
+
+pub returns-in-Some-clause-below : goal.returns-in-Some-clause-below
+returns-in-Some-clause-below g c = c.decide_block.ensures.below
 
 pub returns-in-Some-clause-decided : goal.returns-in-Some-clause-decided
 returns-in-Some-clause-decided g c tells live =

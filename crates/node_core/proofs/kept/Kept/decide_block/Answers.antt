@@ -35,6 +35,9 @@ returns-then-is_some-clause-ready g c = refl
 pub returns-then-is_some-clause-cells : goal.returns-then-is_some-clause-cells
 returns-then-is_some-clause-cells g c = λ _ live. live
 
+pub returns-then-is_some-clause-below : goal.returns-then-is_some-clause-below
+returns-then-is_some-clause-below g c = λ are. are
+
 pub returns-then-is_some-clause-undamaged : goal.returns-then-is_some-clause-undamaged
 returns-then-is_some-clause-undamaged g c = λ _ _ _ e. no_answer _ _ e
 
@@ -58,6 +61,9 @@ returns-in_default-clause-ready g c = refl
 pub returns-in_default-clause-cells : goal.returns-in_default-clause-cells
 returns-in_default-clause-cells g c = λ _ live. live
 
+pub returns-in_default-clause-below : goal.returns-in_default-clause-below
+returns-in_default-clause-below g c = λ are. are
+
 pub returns-in_default-clause-undamaged : goal.returns-in_default-clause-undamaged
 returns-in_default-clause-undamaged g c = λ _ _ _ e. no_answer _ _ e
 
@@ -80,6 +86,9 @@ returns-clause-ready g c = c.decide_on.ensures.ready
 
 pub returns-clause-cells : goal.returns-clause-cells
 returns-clause-cells g c = c.decide_on.ensures.cells
+
+pub returns-clause-below : goal.returns-clause-below
+returns-clause-below g c = c.decide_on.ensures.below
 
 pub returns-clause-decided : goal.returns-clause-decided
 returns-clause-decided g c = c.decide_on.ensures.decided

@@ -172,3 +172,26 @@ returns-in-Ok-moved-2-clause-sight g c = λ none.
 pub returns-in-Err-moved-clause-sight : goal.returns-in-Err-moved-clause-sight
 returns-in-Err-moved-clause-sight g c = λ none.
     absurd (takes-some c.args.self.now.chain c.args.block.now c.args.entry.parent c.in-Ok.ensures.passed.sight none)
+
+-- ---- Each row is of a kept block
+
+pub returns-in-Err-Broken-clause-below : goal.returns-in-Err-Broken-clause-below
+returns-in-Err-Broken-clause-below g c = λ are. are
+
+pub returns-in-Err-Read-clause-below : goal.returns-in-Err-Read-clause-below
+returns-in-Err-Read-clause-below g c = λ _. tt
+
+pub returns-in-Err-clause-below : goal.returns-in-Err-clause-below
+returns-in-Err-clause-below g c = λ _. tt
+
+pub returns-in-Err-judge_on-clause-below : goal.returns-in-Err-judge_on-clause-below
+returns-in-Err-judge_on-clause-below g c = λ _. tt
+
+pub returns-then-is_tip_next-clause-below : goal.returns-then-is_tip_next-clause-below
+returns-then-is_tip_next-clause-below g c = c.in-Ok-moved.ensures.below
+
+pub returns-in-Ok-moved-2-clause-below : goal.returns-in-Ok-moved-2-clause-below
+returns-in-Ok-moved-2-clause-below g c = λ are. c.in-Ok-moved-2.ensures.below (c.in-Ok-moved.ensures.below are)
+
+pub returns-in-Err-moved-clause-below : goal.returns-in-Err-moved-clause-below
+returns-in-Err-moved-clause-below g c = λ _. tt

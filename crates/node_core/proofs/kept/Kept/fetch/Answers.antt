@@ -12,7 +12,7 @@ use Rattle.node_core.proofs.kept.Kept.fetch.Goals as goal
 
 pub fetch-requires : goal.fetch-requires
 fetch-requires g c = record {
-  within = omega (arith, c.in-Some.ensures.within, ap (λ (live : LiveValue). live.row.block) c.live-2.view_is, c.requires.counts);
+  within = omega (arith, c.requires.below c.args.o c.in-Some.live.row (sym c.in-Some.ensures.row), ap (λ (live : LiveValue). live.row.block) c.live-2.view_is, c.requires.counts);
 }
 
 pub returns-in_default : goal.returns-in_default

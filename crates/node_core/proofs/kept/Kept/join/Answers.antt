@@ -6,6 +6,7 @@ use Rattle.cell_state.specs.State.{rows}
 use Rattle.node_core.specs.Node.{KeptValue, AreOfFound, AreOfTip}
 use Rattle.node_core.specs.Judging.{IsReady, place_for}
 use Rattle.node_core.specs.declared.deciding.Decision.TheVariants.{Joins}
+use Rattle.node_core.proofs.BelowLemmas.{below-joined}
 use Rattle.node_core.proofs.DecidingLemmas.{few-entries}
 use Rattle.node_core.proofs.JoiningLemmas.{follows-parent, hash-new, FitsOn, fits-on, ready-for, describes-named, kept-push, blocks-push, are-kept-push}
 use Rattle.outside.proofs.Endings.{handed, no_answer, no_memory, memory_undamaged}
@@ -177,3 +178,19 @@ returns-in-Err-clause-live g c = λ _. tt
 
 pub returns-in-Err-put-clause-live : goal.returns-in-Err-put-clause-live
 returns-in-Err-put-clause-live g c = λ _. tt
+
+pub returns-in_default-clause-below : goal.returns-in_default-clause-below
+returns-in_default-clause-below g c = λ _. tt
+
+pub returns-in-Err-clause-below : goal.returns-in-Err-clause-below
+returns-in-Err-clause-below g c = λ _. tt
+
+pub returns-in-Err-put-clause-below : goal.returns-in-Err-put-clause-below
+returns-in-Err-put-clause-below g c = λ _. tt
+
+pub returns-in-Ok-put-clause-below : goal.returns-in-Ok-put-clause-below
+returns-in-Ok-put-clause-below g c =
+    below-joined (blocks_of c.self.inside.blocks.stored) c.args.self.chain.blocks (blocks_of c.put.new.blocks.stored) c.in-Some.block c.self.inside.tree.entries
+    (rows c.args.state) (rows c.in-Ok.state) (ap (λ (v : KeptValue). v.chain.blocks) c.self.view_is)
+    (blocks-push c.self.inside.blocks.stored c.put.new.blocks.stored c.in-Some.block c.args.ext.now c.in-Ok-put.ensures.blocks)
+    c.self.invariant.indexed c.in-Ok.ensures.below

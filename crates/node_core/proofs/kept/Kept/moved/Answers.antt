@@ -1,4 +1,4 @@
-use Rattle.std.proofs.Common.{◌≡◌, ◌≤◌, ◌+◌, List, sym, ap, subst}
+use Rattle.std.proofs.Common.{◌≡◌, ◌≤◌, ◌+◌, List, length, sym, ap, subst}
 use Rattle.std.specs.Prelude.{IfOk, OnOk}
 use Rattle.chain_tree.specs.Told.{blocks_of}
 use Rattle.codec_defs.specs.Schema.{Block}
@@ -71,3 +71,6 @@ pub returns-clause-at_record : goal.returns-clause-at_record
 returns-clause-at_record g c = λ told damage e.
     let found = c.go_to.ensures.at_record (blocks_of c.self.inside.blocks.stored) c.self.invariant.indexed told damage e in
     (found.0, subst (λ (entries : List Entry). IsAtRecord entries found.0 damage) (ap (λ (v : KeptValue). v.entries) c.self.view_is) found.1.1)
+
+pub returns-clause-below : goal.returns-clause-below
+returns-clause-below g c = c.go_to.ensures.below (length c.args.self.now.chain.blocks) c.requires.from c.requires.to

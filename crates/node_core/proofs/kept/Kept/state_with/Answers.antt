@@ -31,3 +31,9 @@ pub returns-then-not-is_above_tip-clause-live : goal.returns-then-not-is_above_t
 returns-then-not-is_above_tip-clause-live g c kept indexed ready live =
     let low = sym (c.is_above_tip.ensures kept indexed) ∙ c.if-not-is_above_tip.true in
     rows-stay kept c.args.block.now c.args.joining _ ready low (staying-cells kept c.args.joining _ low live)
+
+pub returns-then-not-is_above_tip-clause-below : goal.returns-then-not-is_above_tip-clause-below
+returns-then-not-is_above_tip-clause-below g c = λ _ _ are. are
+
+pub returns-clause-below : goal.returns-clause-below
+returns-clause-below g c = λ end less. c.grown.ensures.below end (omega (arith, less, c.len.ensures.len))

@@ -10,6 +10,7 @@ pub fetch-requires : goal.fetch-requires
 fetch-requires g c = record {
   own = read-here c.self.inside.kept c.self.inside.log.place c.self.inside.state c.self.inside.cache c.args.self.now (g.D.Disk.reads_as c.args.disk.now)
       (g.D.Disk.images c.args.disk.now) c.self.view_is c.requires.own;
+  below = c.self.invariant.below;
 }
 
 pub returns-clause-left : goal.returns-clause-left

@@ -30,7 +30,11 @@ decide-decided-requires g c = record {
 }
 
 pub invariant_of-node : goal.invariant_of-node
-invariant_of-node g c = (c.self.invariant.0, c.self.invariant.1)
+invariant_of-node g c = record {
+  few = c.self.invariant.few;
+  within = c.self.invariant.within;
+  below = c.in-Ok.ensures.below c.self.invariant.below;
+}
 
 pub join-requires : goal.join-requires
 join-requires g c = record {
@@ -40,7 +44,8 @@ join-requires g c = record {
       c.args.disk.now c.decide-decided.new.disk c.decide-decided.ensures.looked.content
       c.self.inside.kept c.self.inside.log.place c.self.inside.state c.in-Ok.decided.0 c.self.inside.cache c.decide-decided.new.cache
       (subst (λ (v : NodeValue). IsItsOwn v (g.D.Disk.reads_as c.args.disk.now) (g.D.Disk.images c.args.disk.now)) (sym c.self.view_is) c.requires.own) c.in-Ok.ensures.looked.agrees;
-  within = c.self.invariant.1;
+  within = c.self.invariant.within;
+  below = c.in-Ok.ensures.below c.self.invariant.below;
   ready = ready_on c.self.inside.kept.chain c.self.inside.kept.chain c.args.item.now c.in-Ok.decided.1 (Joins c.in-Joins.joining) refl c.in-Joins.is c.in-Ok.ensures.ready;
 }
 

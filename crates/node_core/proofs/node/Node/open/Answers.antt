@@ -49,7 +49,11 @@ to_tip-requires g c = record {
 }
 
 pub invariant_of-result : goal.invariant_of-result
-invariant_of-result g c = c.node.invariant
+invariant_of-result g c = record {
+  few = c.node.invariant.few;
+  within = c.node.invariant.within;
+  below = c.in-Ok-to_tip.ensures.below c.node.invariant.below;
+}
 
 pub returns-in-Ok-to_tip-clause-kept : goal.returns-in-Ok-to_tip-clause-kept
 returns-in-Ok-to_tip-clause-kept g c =
