@@ -477,17 +477,16 @@ def check_readme(_):
          b''.join(it for it in text_of_contract.splitlines(keepends=True) if it.startswith(b'refused'))),
         ('./ckbdev contract check < examples/transfer.bin', 0, (contract.transfer()[1] + '\n').encode()),
         ('./ckbdev contract check < examples/refused.bin', 1, (contract.refused()[1] + '\n').encode()),
-        ('cat examples/witness.bin examples/transfer.bin examples/refused.bin > items', 0, b''),
-        *blocks_of_items(),
     ]
+    of_assembled = [('cat examples/witness.bin examples/transfer.bin examples/refused.bin > items', 0, b''), *blocks_of_items()]
     with new_folder() as away:
         for folder, page in (('chain', readme), ('own', examples), ('contract', readme)):
             must('\nmkdir %s\n' % folder in page, 'no page makes the folder %s' % folder)
             os.mkdir(os.path.join(away, folder))
         for name in ('ckbdev', 'examples'):
             os.symlink(os.path.join(TOP, name), os.path.join(away, name))
-        for page, lines in ((readme, of_chain), (examples, of_own_chain), (readme, of_contract), (readme, of_program),
-                            (examples, of_code)):
+        for page, lines in ((readme, of_chain), (examples, of_own_chain), (readme, of_contract), (examples, of_assembled),
+                            (readme, of_program), (examples, of_code)):
             for line, status, wanted in lines:
                 must('\n%s\n%s' % (line, wanted.decode()) in page, 'no page shows %s with what it prints' % line)
                 must_answer(Ran(['sh', '-c', line], cwd=away), status, wanted, line)
