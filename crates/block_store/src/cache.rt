@@ -2,7 +2,6 @@
 ghost use Rattle.std.specs.Prelude.{◌≡◌, ◌≤◌, ◌<◌, List, [], length, Option, Some, is_some, nat_eq, IfOk, IfSome, OnOk, OnErr, IsSome, IsTrue};
 ghost use Rattle.lru.specs.LruCache.{lru_cache, promoted, put_entries};
 ghost use Rattle.cell_defs.specs.Ext.{is_ext};
-ghost use Rattle.outside.specs.Causes.{counted};
 ghost use Rattle.outside.specs.Image.{Image};
 ghost use Rattle.outside.specs.declared.disk.Damage.{Damage};
 ghost use Rattle.outside.specs.declared.disk.ReadStop.TheVariants.{Damaged};
@@ -11,6 +10,7 @@ ghost use Rattle.chain_tree.specs.declared.entry.Entry.{Entry};
 ghost use Rattle.block_store.specs.Held.{held_at, Holds, NothingNew, OnlyAdds, IsKept};
 
 use crate::body::KeptBody;
+use chain_tree::noted;
 use lru::LruCache;
 use outside::{Damage, NoMemory, ReadStop};
 use std::alloc::Global;
@@ -36,18 +36,6 @@ impl Model for Cache {
     ghost view = { λ cache. record { held = cache.bodies.entries; most = cache.bodies.cap; damages = record { count = cache.found; last = cache.last } } };
 
     ghost invariant = { λ cache. HaveForm cache.bodies.entries };
-}
-
-/// How often damage was found and where last, after a stop. It counts as far as a count goes.
-fn noted(found: u64, last: Option<Damage>, stop: ReadStop) -> (u64, Option<Damage>)
-    ensures next { (damage : Damage) → stop ≡ Damaged damage → result ≡ (counted found, Some damage) }
-    ensures same { ((damage : Damage) → stop ≡ Damaged damage → ⊥) → result ≡ (found, last) }
-{
-    match stop {
-        ReadStop::Damaged(damage) => (found.saturating_add(1), Some(damage)),
-        ReadStop::DiskFault => (found, last),
-        ReadStop::NoMemory => (found, last),
-    }
 }
 
 impl Cache {

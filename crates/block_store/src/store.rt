@@ -6,7 +6,7 @@ ghost use Rattle.outside.specs.declared.disk.Damage.{Damage};
 ghost use Rattle.outside.specs.declared.disk.ReadStop.TheVariants.{Damaged};
 ghost use Rattle.chain_tree.specs.declared.entry.Entry.{Entry};
 ghost use Rattle.chain_tree.specs.Entries.{entry_at};
-ghost use Rattle.chain_tree.specs.Reading.{HasRead, stop_of, found_next};
+ghost use Rattle.chain_tree.specs.Reading.{HasRead, stop_of};
 ghost use Rattle.block_store.specs.Stored.{stored_at, known_by};
 ghost use Rattle.block_store.specs.Held.{Lent, held_at, IsKept, IsInHand};
 
@@ -90,7 +90,6 @@ impl<'d, D: Disk> Blocks for Store<'d, D> {
             (λ it. D.faults it.disk.now) (λ it. it.cache.now.damages) self.old self.new (stop_of result) }
         ensures taken { OnOk result (self.new.hand ≡ Some e) }
         ensures dropped { OnErr result (self.new.hand ≡ None) }
-        ensures counted { (damage : Damage) → result ≡ Err (Damaged damage) → self.new.cache.now.damages ≡ found_next damage self.old.cache.now.damages }
         ensures undamaged { IsSome (known_by (D.reads_as self.old.disk.now) self.old.tree.now.entries)
             → (damage : Damage) → result ≡ Err (Damaged damage) → ⊥ }
         ensures place { (damage : Damage) → result ≡ Err (Damaged damage)
@@ -132,5 +131,9 @@ impl<'d, D: Disk> Blocks for Store<'d, D> {
             Some(e) => self.cache.body(e).ids(),
             None => unreachable!(),
         }
+    }
+
+    fn report(&mut self, stop: ReadStop) {
+        self.cache.note(stop);
     }
 }

@@ -111,10 +111,9 @@ pub as_many : (blocks exts : List (Vec ℕ Global)) (stored : List Stored) → A
 as_many blocks exts stored kept is =
     ap length (sym is) ∙ length-stored_from (contents blocks) (contents exts) kept.lengths ∙ length-map blocks (λ (v : Vec ℕ Global). v.items)
 
-pub place-within : (blocks exts : List (Vec ℕ Global)) (it : ListBlocksValue) (hand : Option ℕ) (place : ℕ) → AreKept (contents blocks) (contents exts)
-    → record { stored = stored_from (contents blocks) (contents exts); hand = hand } ≡ it → place < length it.stored → place < length blocks
-place-within blocks exts it hand place kept is within =
-    omega (arith, within, as_many blocks exts it.stored kept (ap (λ (v : ListBlocksValue). v.stored) is))
+pub place-within : (blocks exts : List (Vec ℕ Global)) (stored : List Stored) (place : ℕ) → AreKept (contents blocks) (contents exts)
+    → stored_from (contents blocks) (contents exts) ≡ stored → place < length stored → place < length blocks
+place-within blocks exts stored place kept is within = omega (arith, within, as_many blocks exts stored kept is)
 
 pub as_many_exts : (blocks exts : List (Vec ℕ Global)) → AreKept (contents blocks) (contents exts) → length exts ≡ length blocks
 as_many_exts blocks exts kept =

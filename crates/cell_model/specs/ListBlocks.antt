@@ -8,12 +8,14 @@ use Rattle.codec_defs.specs.Shape.{decoded}
 use Rattle.codec_defs.specs.Schema.{Block, block}
 use Rattle.chain_defs.specs.Hashes.{proposal_id}
 use Rattle.chain_tree.specs.Told.{Stored}
+use Rattle.chain_tree.specs.Reading.{Findings}
 use Rattle.cell_defs.specs.Ext.{is_ext, count_at}
 
--- the blocks with their exts, and the place of the one that was brought last
+-- the blocks with their exts, the place of the one that was brought last, and the damage that readers found
 pub record ListBlocksValue : Type 0 where
   pub stored : List Stored
   pub hand : Option ℕ
+  pub damages : Findings
 
 abbrev pub place_among : ℕ → Option ℕ → Option ℕ
 place_among len None = None

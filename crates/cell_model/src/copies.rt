@@ -6,7 +6,7 @@ ghost use Rattle.codec_defs.specs.Schema.{cell_output};
 ghost use Rattle.cell_defs.specs.Cell.{Cell, data_of};
 ghost use Rattle.outside.specs.declared.disk.Area.TheVariants.{Log};
 ghost use Rattle.outside.specs.declared.disk.Damage.{Damage};
-ghost use Rattle.outside.specs.declared.disk.ReadStop.TheVariants.{Damaged};
+ghost use Rattle.outside.specs.declared.disk.ReadStop.TheVariants.{DiskFault, Damaged};
 ghost use Rattle.chain_tree.specs.Told.{Stored};
 ghost use Rattle.chain_tree.specs.Reading.{HasRead, stop_of};
 ghost use Rattle.cell_model.specs.Copies.{IsCopyOf, CopiesOutput, NamesOutput, output_in};
@@ -72,23 +72,44 @@ pub fn copy_of(
     })
 }
 
-/// A block in LOG that is not what the row says.
-fn damaged() -> ReadStop
-    ensures { result ≡ Damaged (record { area = Log; at = 0 }) }
+/// A copy of the output that a row names in its block, which begins at a place of LOG.
+fn copy_in(
+    alloc: Global,
+    block: &BlockView<'_>,
+    o: OutPoint,
+    meta: CellMeta,
+    at: u64,
+) -> Result<Resolved, ReadStop>
+    ensures out_point { IfOk result (λ copy. copy.out_point ≡ o) }
+    ensures row { IfOk result (λ copy. copy.row ≡ meta) }
+    ensures output { IfOk result (λ copy. IsSome (decoded cell_output copy.output)) }
+    ensures copied { (cell : Cell) → output_in block.now meta.transaction o.index ≡ Some (cell.output, cell.content) → IfOk result (IsCopyOf cell) }
+    ensures exact { IfOk result (CopiesOutput (output_in block.now meta.transaction o.index)) }
+    ensures undamaged { (cell : Cell) → output_in block.now meta.transaction o.index ≡ Some (cell.output, cell.content)
+        → (damage : Damage) → result ≡ Err (Damaged damage) → ⊥ }
+    ensures place { (damage : Damage) → result ≡ Err (Damaged damage) → damage ≡ record { area = Log; at = at } }
+    ensures unread { result ≡ Err DiskFault → ⊥ }
 {
-    ReadStop::Damaged(Damage {
-        area: Area::Log,
-        at: 0,
-    })
+    let Some((output, content)) = output_at(block, &o, &meta) else {
+        return Err(ReadStop::Damaged(Damage {
+            area: Area::Log,
+            at,
+        }));
+    };
+    match copy_of(alloc, o, meta, &output, content) {
+        Ok(copy) => Ok(copy),
+        Err(NoMemory) => Err(ReadStop::NoMemory),
+    }
 }
 
-/// Copies the bytes of an old cell. Where the row names no output, which never comes over blocks that tell it, it is
-/// damaged at place 0 of LOG.
+/// Copies the bytes of an old cell, whose block begins at a place of LOG. Where the row names no output, which never comes
+/// over blocks that tell it, there is damage at that place.
 pub fn fetch<B: Blocks>(
     alloc: Global,
     blocks: &mut B,
     o: OutPoint,
     meta: CellMeta,
+    at: u64,
 ) -> Result<Resolved, ReadStop>
     requires within { meta.block < B.count blocks.old }
     ensures read { HasRead B.told B.count B.loans_of B.faults B.damages blocks.old blocks.new (stop_of result) }
@@ -100,17 +121,18 @@ pub fn fetch<B: Blocks>(
         → (damage : Damage) → result ≡ Err (Damaged damage) → ⊥ }
     ensures exact { (stored : List Stored) (made : Stored) → B.told blocks.old ≡ Some stored → slice_get stored meta.block ≡ Some made
         → IfOk result (CopiesOutput (output_in made.block meta.transaction o.index)) }
+    ensures place { IsSome (B.told blocks.old) → (damage : Damage) → result ≡ Err (Damaged damage) → damage ≡ record { area = Log; at = at } }
 {
     match blocks.bring(meta.block) {
         Ok(()) => {}
         Err(stop) => return Err(stop),
     }
     let block = blocks.block();
-    let Some((output, content)) = output_at(&block, &o, &meta) else {
-        return Err(damaged());
-    };
-    match copy_of(alloc, o, meta, &output, content) {
+    match copy_in(alloc, &block, o, meta, at) {
         Ok(copy) => Ok(copy),
-        Err(NoMemory) => Err(ReadStop::NoMemory),
+        Err(stop) => {
+            blocks.report(stop);
+            Err(stop)
+        }
     }
 }

@@ -4,23 +4,27 @@ ghost use Rattle.std.specs.List.{All};
 ghost use Rattle.codec_defs.specs.Shape.{decoded};
 ghost use Rattle.codec_defs.specs.Schema as schema;
 ghost use Rattle.chain_tree.specs.Told.{blocks_of};
+ghost use Rattle.chain_tree.specs.Reading.{nothing_found};
 ghost use Rattle.cell_model.specs.ListBlocks.{current_place, contents, id_lists, ids_of, all_ids, IsCanonical, IsExtFor, AreKept};
 
 use crate::hashes::{proposal_id, tx_hash};
-use chain_tree::Blocks;
+use chain_tree::{Blocks, noted};
 use mol_schema::BlockView;
-use outside::{NoMemory, ReadStop};
+use outside::{Damage, NoMemory, ReadStop};
 use std::alloc::Global;
 use std::marker::Model;
 
 /// Kept blocks with their exts, in two lists of bytes, and beside each its proposal ids. Clauses see the list of the
-/// blocks, and which is the current one. It tells them, and never fails.
+/// blocks, which is the current one, and the damage that readers found. It tells them, and never fails.
 #[derive(Drop)]
 pub struct ListBlocks {
     blocks: Vec<Vec<u8>>,
     exts: Vec<Vec<u8>>,
     ids: Vec<Vec<[u8; 10]>>,
     hand: Option<u32>,
+    /// How often a reader found damage, and which last.
+    found: u64,
+    last: Option<Damage>,
 }
 
 impl Model for ListBlocks {
@@ -29,7 +33,11 @@ impl Model for ListBlocks {
 
     ghost Value = { ListBlocksValue };
 
-    ghost view = { λ it. record { stored = stored_from (contents it.blocks.items) (contents it.exts.items); hand = it.hand } };
+    ghost view = { λ it. record {
+      stored = stored_from (contents it.blocks.items) (contents it.exts.items);
+      hand = it.hand;
+      damages = record { count = it.found; last = it.last };
+    } };
 
     ghost invariant = { λ it. AreKept (contents it.blocks.items) (contents it.exts.items)
         × IfSome it.hand (λ place. place < length it.blocks.items)
@@ -71,6 +79,7 @@ impl ListBlocks {
         ensures blocks { IfOk result (λ it. map (decoded schema.block) (contents blocks.items) ≡ map Some (blocks_of it.stored)) }
         ensures exts { IfOk result (λ it. map (λ entry. entry.ext) it.stored ≡ contents exts.items) }
         ensures hand { IfOk result (λ it. it.hand ≡ None) }
+        ensures undamaged { IfOk result (λ it. it.damages ≡ nothing_found) }
     {
         let ids = proposal_ids_of_all(alloc, &blocks)?;
         Ok(ListBlocks {
@@ -78,6 +87,8 @@ impl ListBlocks {
             exts,
             ids,
             hand: None,
+            found: 0,
+            last: None,
         })
     }
 
@@ -109,7 +120,6 @@ impl ListBlocks {
 
 impl Blocks for ListBlocks {
     ghost use Rattle.std.proofs.Common.{refl, lit≤};
-    ghost use Rattle.chain_tree.specs.Reading.{nothing_found};
     ghost use Rattle.cell_model.specs.ListBlocks.{current_place, hand_is_within};
 
     ghost told = { λ it. Some it.stored };
@@ -120,7 +130,7 @@ impl Blocks for ListBlocks {
 
     ghost faults = { λ _. 0 };
 
-    ghost damages = { λ _. nothing_found };
+    ghost damages = { λ it. it.damages };
 
     ghost Loans = { Unit {0} };
 
@@ -160,5 +170,11 @@ impl Blocks for ListBlocks {
             Some(e) => &self.ids[e as usize],
             None => unreachable!(),
         }
+    }
+
+    fn report(&mut self, stop: ReadStop) {
+        let (found, last) = noted(self.found, self.last, stop);
+        self.found = found;
+        self.last = last;
     }
 }

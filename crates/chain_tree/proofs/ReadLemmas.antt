@@ -1,12 +1,11 @@
 -- Calls over a source of kept blocks: one after another, and how one ends that was read to a good end before.
-use Rattle.std.proofs.Common.{◌≡◌, ℕ, List, Option, Some, None, Result, Ok, Err, refl, sym, ap, ◌∙◌, subst}
-use Rattle.outside.specs.declared.disk.Area.TheVariants.{Log}
+use Rattle.std.proofs.Common.{◌≡◌, ℕ, List, Option, Some, None, Result, Err, refl, sym, ap, ◌∙◌, subst}
 use Rattle.outside.specs.declared.disk.Damage.{Damage}
 use Rattle.outside.specs.declared.disk.ReadStop.{ReadStop}
 use Rattle.outside.specs.declared.disk.ReadStop.TheVariants.{DiskFault, NoMemory, Damaged}
 use Rattle.outside.proofs.Endings.{no_fault, after_still}
 use Rattle.chain_tree.specs.Told.{Stored}
-use Rattle.chain_tree.specs.Reading.{Findings, HasRead, stop_of}
+use Rattle.chain_tree.specs.Reading.{Findings, AnswersFound, Finds, HasRead, stop_of}
 
 pub no_stop : (stop : ReadStop) → None ≡ Some stop → ⊥
 no_stop stop same = absurd (cc)
@@ -17,15 +16,27 @@ no_memory_fault same = absurd (cc)
 pub no_memory_damage : (damage : Damage) → Some NoMemory ≡ Some (Damaged damage) → ⊥
 no_memory_damage damage same = absurd (cc)
 
-no_damage_fault : (damage : Damage) → Some (Damaged damage) ≡ Some DiskFault → ⊥
-no_damage_fault damage same = absurd (cc)
+pub same_stop : {T : Type 0} (one other : ReadStop) → ◌≡◌ {A = Result T ReadStop} (Err one) (Err other) → one ≡ other
+same_stop one other same = cc
 
-in_log : (one other : Damage) → one.area ≡ Log → Some (Damaged one) ≡ Some (Damaged other) → other.area ≡ Log
-in_log one other area same = let is : one ≡ other = cc in subst (λ (damage : Damage). damage.area ≡ Log) is area
+-- ---- What was found
 
-pub stopped : {T : Type 0} (result : Result T ReadStop) (stop : ReadStop) → stop_of result ≡ Some stop → result ≡ Err stop
-stopped (Ok value) stop same = absurd (no_stop stop same)
-stopped (Err other) stop same = let is : other ≡ stop = cc in ap Err is
+-- nothing, where nothing was read
+pub finds_none : (found : Findings) {stop : Option ReadStop} → ((damage : Damage) → stop ≡ Some (Damaged damage) → ⊥) → Finds found found stop
+finds_none found undamaged = record { named = λ damage is. absurd (undamaged damage is); none = λ other. refl }
+
+-- after what found nothing
+pub finds_after : {first then last : Findings} {stop : Option ReadStop} → then ≡ first → Finds then last stop → Finds first last stop
+finds_after {last = last} {stop = stop} same finds = subst (λ (found : Findings). Finds found last stop) same finds
+
+pub finds_till : {first then last : Findings} {stop : Option ReadStop} → Finds first then None → Finds then last stop → Finds first last stop
+finds_till before after = finds_after (before.none (λ damage is. no_stop (Damaged damage) is)) after
+
+-- what was found is answered
+pub finds_answers : {before after : Findings} {stop : Option ReadStop} → Finds before after stop → AnswersFound before after stop
+finds_answers finds other = finds.none (λ damage is. other damage is (ap (λ (found : Findings). found.last) (finds.named damage is)))
+
+-- ---- What a call leaves and finds
 
 module _ {S L : Type 0} {tells : S → Option (List Stored)} {counts : S → ℕ} {loans_of : S → L} {faults : S → ℕ} {damages : S → Findings} where
   -- before any reading
@@ -36,7 +47,7 @@ module _ {S L : Type 0} {tells : S → Option (List Stored)} {counts : S → ℕ
     loans = refl;
     damage = λ damage is. absurd (no_stop (Damaged damage) is);
     cause = no_fault _ _ refl (no_stop DiskFault);
-    found = λ other. refl;
+    found = finds_none _ (λ damage is. no_stop (Damaged damage) is);
   }
 
   -- reading after reading
@@ -48,7 +59,7 @@ module _ {S L : Type 0} {tells : S → Option (List Stored)} {counts : S → ℕ
     loans = after.loans ∙ before.loans;
     damage = after.damage;
     cause = after_still (before.cause.unchanged (no_stop DiskFault)) after.cause;
-    found = λ other. after.found other ∙ before.found (λ damage is last. no_stop (Damaged damage) is);
+    found = finds_till before.found after.found;
   }
 
   -- of a source that is the one which was left
@@ -56,23 +67,17 @@ module _ {S L : Type 0} {tells : S → Option (List Stored)} {counts : S → ℕ
       → HasRead tells counts loans_of faults damages old other stop
   read_is {old = old} {stop = stop} same read = subst (λ (blocks : S). HasRead tells counts loans_of faults damages old blocks stop) (sym same) read
 
-  -- an end after it that is no fault
-  pub read_till : {old new : S} (stop : Option ReadStop) → ((damage : Damage) → stop ≡ Some (Damaged damage) → damage.area ≡ Log) → (stop ≡ Some DiskFault → ⊥)
+  -- an end after it that is no fault and no damage
+  pub read_till : {old new : S} (stop : Option ReadStop) → ((damage : Damage) → stop ≡ Some (Damaged damage) → ⊥) → (stop ≡ Some DiskFault → ⊥)
       → HasRead tells counts loans_of faults damages old new None → HasRead tells counts loans_of faults damages old new stop
-  read_till stop of_log no_fault_is read = record {
+  read_till stop undamaged no_fault_is read = record {
     told = read.told;
     count = read.count;
     loans = read.loans;
-    damage = of_log;
+    damage = λ damage is. absurd (undamaged damage is);
     cause = no_fault _ _ (read.cause.unchanged (no_stop DiskFault)) no_fault_is;
-    found = λ other. read.found (λ damage is last. no_stop (Damaged damage) is);
+    found = finds_till read.found (finds_none _ undamaged);
   }
-
-  -- an end after it that is a call's which reads none
-  pub read_then : {T : Type 0} {old new : S} (result : Result T ReadStop) → ((damage : Damage) → result ≡ Err (Damaged damage) → damage.area ≡ Log)
-      → (result ≡ Err DiskFault → ⊥) → HasRead tells counts loans_of faults damages old new None → HasRead tells counts loans_of faults damages old new (stop_of result)
-  read_then result of_log no_fault_is read =
-      read_till (stop_of result) (λ damage is. of_log damage (stopped result (Damaged damage) is)) (λ is. no_fault_is (stopped result DiskFault is)) read
 
   -- a call whose stop is another's
   pub read_so : {old new : S} {stop other : Option ReadStop} → stop ≡ other → HasRead tells counts loans_of faults damages old new stop
@@ -85,9 +90,4 @@ module _ {S L : Type 0} {tells : S → Option (List Stored)} {counts : S → ℕ
 
   -- out of memory after it
   pub read_short : {old new : S} → HasRead tells counts loans_of faults damages old new None → HasRead tells counts loans_of faults damages old new (Some NoMemory)
-  read_short read = read_till (Some NoMemory) (λ damage is. absurd (no_memory_damage damage is)) no_memory_fault read
-
-  -- what was read is not what was kept
-  pub read_wrong : {old new : S} {stop : ReadStop} (damage : Damage) → stop ≡ Damaged damage → damage.area ≡ Log
-      → HasRead tells counts loans_of faults damages old new None → HasRead tells counts loans_of faults damages old new (Some stop)
-  read_wrong damage is area read = read_so (ap Some (sym is)) (read_till (Some (Damaged damage)) (λ other same. in_log damage other area same) (no_damage_fault damage) read)
+  read_short read = read_till (Some NoMemory) no_memory_damage no_memory_fault read

@@ -5,3 +5,4 @@ pub mod Indexed
 pub mod Timestamps
 pub mod Told
 pub mod Reading
+pub mod Damages

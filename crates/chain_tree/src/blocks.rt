@@ -2,10 +2,11 @@
 ghost use Rattle.std.specs.Prelude.{◌≡◌, ◌-◌, ◌^◌, ◌<◌, ◌≤◌, Option, Some, None, Err, List, ℕ, length, map, drop, slice_get, OnOk, OnErr, IfSome, IsSome, IsTrue};
 ghost use Rattle.chain_defs.specs.Hashes.{proposal_id};
 ghost use Rattle.cell_defs.specs.Ext.{is_ext};
+ghost use Rattle.outside.specs.declared.disk.Area.TheVariants.{Log};
 ghost use Rattle.outside.specs.declared.disk.Damage.{Damage};
-ghost use Rattle.outside.specs.declared.disk.ReadStop.TheVariants.{Damaged};
+ghost use Rattle.outside.specs.declared.disk.ReadStop.TheVariants.{DiskFault, Damaged};
 ghost use Rattle.chain_tree.specs.Told.{Stored};
-ghost use Rattle.chain_tree.specs.Reading.{Findings, HasRead, stop_of, found_next};
+ghost use Rattle.chain_tree.specs.Reading.{Findings, HasRead, stop_of};
 
 use mol_schema::BlockView;
 use outside::ReadStop;
@@ -25,7 +26,7 @@ pub trait Blocks {
     /// How often it has failed.
     ghost faults: { Self → ℕ };
 
-    /// The damage that it has found.
+    /// The damage that was found of what it has, by it or by who reads it: how often, and which last.
     ghost damages: { Self → Findings };
 
     /// What it has borrowed, for one that borrows: no call changes it.
@@ -39,7 +40,6 @@ pub trait Blocks {
         ensures read { HasRead told count loans_of faults damages self.old self.new (stop_of result) }
         ensures taken { OnOk result (in_hand self.new ≡ Some e) }
         ensures dropped { OnErr result (in_hand self.new ≡ None) }
-        ensures counted { (damage : Damage) → result ≡ Err (Damaged damage) → damages self.new ≡ found_next damage (damages self.old) }
         ensures undamaged { IsSome (told self.old) → (damage : Damage) → result ≡ Err (Damaged damage) → ⊥ };
 
     /// The block of the current entry, the genesis included, as a view: a source checks the bytes of a block once, when
@@ -60,6 +60,14 @@ pub trait Blocks {
     fn ids(&self) -> &[[u8; 10]]
         requires { IsSome (in_hand self.now) }
         ensures { IfSome (told self.now) (λ stored. IfSome (in_hand self.now) (λ e. IfSome (slice_get stored e) (λ it. result.now ≡ map proposal_id (drop 1 it.block.transactions)))) };
+
+    /// Takes why a reader stopped, where no call here did. Damage is then what was found last, since what a reader finds wrong
+    /// in what it was given is damage like any other.
+    fn report(&mut self, stop: ReadStop)
+        requires area { (damage : Damage) → stop ≡ Damaged damage → damage.area ≡ Log }
+        requires no_fault { stop ≡ DiskFault → ⊥ }
+        ensures read { HasRead told count loans_of faults damages self.old self.new (Some stop) }
+        ensures in_hand { in_hand self.new ≡ in_hand self.old };
 
     /// It tells as many as it has.
     ghost told_all: { (blocks : Self) → IfSome (told blocks) (λ stored. length stored ≡ count blocks) };

@@ -13,10 +13,12 @@ mod ancestors;
 mod blocks;
 mod digest;
 mod entry;
+mod findings;
 mod median;
 mod tree;
 
 pub use blocks::Blocks;
 pub use digest::{ByDigest, DigestHasher};
 pub use entry::Entry;
+pub use findings::{damaged_at, noted};
 pub use tree::Tree;

@@ -12,6 +12,7 @@ use Rattle.codec_defs.proofs.RowLaws.{block-check}
 use Rattle.time_defs.specs.Specification.{Specification}
 use Rattle.chain_tree.specs.declared.entry.Entry.{Entry}
 use Rattle.chain_tree.specs.Told.{Stored, blocks_of}
+use Rattle.chain_tree.proofs.ReadLemmas.{finds_after}
 use Rattle.cell_model.specs.ListBlocks.{stored_from}
 use Rattle.cell_model.proofs.ListLemmas.{stored_from-push, decoding-is}
 use Rattle.cell_state.specs.State.{StateValue}
@@ -104,5 +105,5 @@ module _ {S C : Type 0} (content_of : S → C) (reads_as : S → Option Image) (
             (subst (λ (node : NodeValue). IsItsOwn node (reads_as old) (images old)) (sym whole) own) looked.agrees;
         damage = looked.damage;
         cause = looked.cause;
-        found = λ other. looked.found other ∙ ap (λ (node : NodeValue). node.damages) whole;
+        found = finds_after (ap (λ (node : NodeValue). node.damages) whole) looked.found;
       }

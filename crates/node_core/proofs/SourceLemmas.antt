@@ -11,7 +11,7 @@ use Rattle.time_defs.specs.Specification.{Specification}
 use Rattle.codec_defs.specs.Schema.{Block}
 use Rattle.chain_tree.specs.declared.entry.Entry.{Entry}
 use Rattle.chain_tree.specs.Told.{Stored}
-use Rattle.chain_tree.specs.Reading.{AnswersFound}
+use Rattle.chain_tree.specs.Reading.{Finds}
 use Rattle.chain_tree.specs.Blocks.{IndexesBlocks}
 use Rattle.chain_tree.proofs.BlockLemmas.{len-same}
 use Rattle.store_defs.specs.Store.{AreJoined}
@@ -94,7 +94,7 @@ pub has-looked : {S C : Type 0} {content_of : S → C} {reads_as : S → Option 
     (kept : KeptValue) (entries : List Entry) (cache later : CacheValue) → entries ≡ kept.entries → content_of new ≡ content_of old
     → reads_as new ≡ reads_as old → IfSome (reads_as old) (IsReadBy kept cache.held) → IfSome (reads_as new) (IsKept entries later.held) → later.most ≡ cache.most
     → ((damage : Damage) → stop ≡ Some (Damaged damage) → damage.area ≡ Log) → CountsFault (faults old) (faults new) (stop ≡ Some DiskFault)
-    → AnswersFound cache.damages later.damages stop
+    → Finds cache.damages later.damages stop
     → HasOnlyRead content_of reads_as faults old new kept cache later stop
 has-looked {reads_as = reads_as} {new = new} kept entries cache later same content reads own is_kept most damage cause found = record {
   content = content;

@@ -15,7 +15,7 @@ use Rattle.chain_defs.specs.Tip.{tip_place}
 use Rattle.chain_tree.specs.declared.entry.Entry.{Entry}
 use Rattle.chain_tree.specs.Blocks.{IndexesBlocks, AreRated}
 use Rattle.chain_tree.specs.Told.{Stored, blocks_of}
-use Rattle.chain_tree.specs.Reading.{Findings, AnswersFound}
+use Rattle.chain_tree.specs.Reading.{Findings, Finds}
 use Rattle.cell_defs.specs.Ext.{count_at}
 use Rattle.cell_defs.specs.Row.{Row}
 use Rattle.cell_state.specs.State.{StateValue, rows}
@@ -162,7 +162,7 @@ pub record IsOn (node : NodeValue) (reads : Option Image) (images : Image → Ty
 
 -- What a call leaves that only reads kept blocks on a disk: the disk as it was, in memory what is the disk's, and as much at most as before, damage in
 -- LOG alone, and faults counted.
--- Damage that is found is answered with its place.
+-- The damage that is answered is the one that was found then, with its place.
 pub record HasOnlyRead {S C : Type 0} (content_of : S → C) (reads_as : S → Option Image) (faults : S → ℕ) (old new : S) (kept : KeptValue)
     (before after : CacheValue) (stop : Option ReadStop) : Type 0 where
   pub content : content_of new ≡ content_of old
@@ -170,7 +170,7 @@ pub record HasOnlyRead {S C : Type 0} (content_of : S → C) (reads_as : S → O
   pub most : after.most ≡ before.most
   pub damage : (damage : Damage) → stop ≡ Some (Damaged damage) → damage.area ≡ Log
   pub cause : CountsFault (faults old) (faults new) (stop ≡ Some DiskFault)
-  pub found : AnswersFound before.damages after.damages stop
+  pub found : Finds before.damages after.damages stop
 
 -- the same of a node and its own disk: the node differs in what it holds in memory and in the damage that was found alone
 pub record LeavesAll {S C : Type 0} (content_of : S → C) (reads_as : S → Option Image) (images : S → Image → Type 0) (faults : S → ℕ) (old new : S)
@@ -180,7 +180,7 @@ pub record LeavesAll {S C : Type 0} (content_of : S → C) (reads_as : S → Opt
   pub own : IsItsOwn after (reads_as new) (images new)
   pub damage : (damage : Damage) → stop ≡ Some (Damaged damage) → damage.area ≡ Log
   pub cause : CountsFault (faults old) (faults new) (stop ≡ Some DiskFault)
-  pub found : AnswersFound before.damages after.damages stop
+  pub found : Finds before.damages after.damages stop
 
 -- The ext of each block after the genesis counts a fee for each transaction of the block after the first.
 abbrev pub CountFees : List Stored → Type 0

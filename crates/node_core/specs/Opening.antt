@@ -12,7 +12,7 @@ use Rattle.log_defs.specs.Log.{LogContent, log_of, records_of, end_of_log, IsNoL
 use Rattle.log_defs.specs.Rest.{IsSettled}
 use Rattle.log_file.specs.Opening.{IsOpened}
 use Rattle.snapshots.specs.Reading.{IsDamaged, damage_in}
-use Rattle.reorg.specs.Damages.{IsAtRecord}
+use Rattle.chain_tree.specs.Damages.{IsOfBlock}
 use Rattle.verdict_defs.specs.Chain.{Chain}
 use Rattle.store_defs.specs.Store.{Keeps, store_of, IsSound, AreJoined}
 use Rattle.node_core.specs.Node.{NodeValue, IsOf, IsLeftByOpening}
@@ -39,10 +39,6 @@ IsOfArea area entries now damage = IsDamaged entries (content area now) × (dama
 
 abbrev pub IsOfSnapshot : List Entry → Image → Damage → Type 0
 IsOfSnapshot entries now damage = IsOfArea SnapA entries now damage ⊎ IsOfArea SnapB entries now damage
-
--- damage in LOG at the body of one of these blocks
-abbrev pub IsOfBlock : List Entry → Damage → Type 0
-IsOfBlock entries damage = (damage.area ≡ Log) × ((place : ℕ) × IsAtRecord entries place damage)
 
 -- The live cells do not reach the tip: a snapshot is damaged, or a block on their way.
 abbrev pub IsOfCells : List Entry → Image → Damage → Type 0

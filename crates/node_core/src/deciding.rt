@@ -23,7 +23,7 @@ ghost use Rattle.pool_defs.specs.Size.{most_items, most_bytes};
 ghost use Rattle.tx_pool.specs.Assembling.{IsAssembled};
 ghost use Rattle.node_core.specs.Steps.{moves_on, moves_of_block, moves_for};
 ghost use Rattle.cell_state.specs.State.{rows};
-ghost use Rattle.reorg.specs.Damages.{IsAtRecord};
+ghost use Rattle.chain_tree.specs.Damages.{IsAtRecord};
 ghost use Rattle.reorg.specs.Moves.{AreOf};
 ghost use Rattle.chain_tree.specs.Reading.{HasRead, stop_of};
 ghost use Rattle.block_judge.specs.Stops.{read_stop_of};

@@ -11,7 +11,7 @@ ghost use Rattle.codec_defs.specs.Shape.{encoded};
 ghost use Rattle.chain_defs.specs.Tip.{best_branch};
 ghost use Rattle.chain_tree.specs.Reading.{stop_of};
 ghost use Rattle.cell_state.specs.State.{rows};
-ghost use Rattle.reorg.specs.Damages.{IsAtRecord};
+ghost use Rattle.chain_tree.specs.Damages.{IsAtRecord};
 ghost use Rattle.reorg.specs.Moves.{AreOf};
 ghost use Rattle.rule_names.specs.Number.{rule_number};
 ghost use Rattle.rule_names.specs.declared.rule.Rule.{Rule};

@@ -212,7 +212,8 @@ impl Kept {
             return Ok(None);
         };
         let Live { meta, height } = live;
-        let copy = match fetch(alloc, blocks, o, meta) {
+        let at = self.tree.entry(meta.block).at;
+        let copy = match fetch(alloc, blocks, o, meta, at) {
             Ok(copy) => copy,
             Err(stop) => return Err(stop),
         };

@@ -9,7 +9,7 @@ ghost use Rattle.vm_defs.specs.Alone as alone;
 ghost use Rattle.vm_defs.specs.Program as programs;
 ghost use Rattle.vm_defs.specs.Program.{execution};
 ghost use Rattle.vm_mem.specs.Pages.{IsAllocated};
-ghost use Rattle.vm_sys.specs.Finding.{AnswersFound};
+ghost use Rattle.vm_sys.specs.Finding.{Finds};
 ghost use Rattle.vm_sys.specs.Running.{RunWants};
 ghost use Rattle.sys_defs.specs.World.{Items};
 ghost use Rattle.sys_defs.specs.Answer.{syscall};
@@ -126,7 +126,7 @@ pub fn execute_in<W: World>(
     ensures loading { result ≡ Err Stopped.Loading → world.new ≡ world.old }
     ensures running { (items : Items) → W.told world.old ≡ Some items → result ≡ Err (Stopped.Running read_stop.NoMemory) → ProgramWants items budget (segments file.now) (load_elf file.now) }
     ensures cause { CountsFault (W.faults world.old) (W.faults world.new) (result ≡ Err (Stopped.Running read_stop.DiskFault)) }
-    ensures answered { AnswersFound (W.damages world.old) (W.damages world.new) (λ damage. result ≡ Err (Stopped.Running (read_stop.Damaged damage))) }
+    ensures answered { Finds (W.damages world.old) (W.damages world.new) (λ damage. result ≡ Err (Stopped.Running (read_stop.Damaged damage))) }
     ensures undamaged { IsSome (W.told world.old) → (damage : Damage) → result ≡ Err (Stopped.Running (read_stop.Damaged damage)) → ⊥ }
     ensures damage { (damage : Damage) → result ≡ Err (Stopped.Running (read_stop.Damaged damage)) → damage.area ≡ Log }
 {
@@ -175,7 +175,7 @@ fn run_started<W: World>(mut machine: Machine, world: &mut W) -> Result<Executio
     ensures loading { result ≡ Err Stopped.Loading → ⊥ }
     ensures running { (items : Items) → W.told world.old ≡ Some items → result ≡ Err (Stopped.Running read_stop.NoMemory) → RunWants items (IsAllocated machine.allocated) machine.machine }
     ensures cause { CountsFault (W.faults world.old) (W.faults world.new) (result ≡ Err (Stopped.Running read_stop.DiskFault)) }
-    ensures answered { AnswersFound (W.damages world.old) (W.damages world.new) (λ damage. result ≡ Err (Stopped.Running (read_stop.Damaged damage))) }
+    ensures answered { Finds (W.damages world.old) (W.damages world.new) (λ damage. result ≡ Err (Stopped.Running (read_stop.Damaged damage))) }
     ensures undamaged { IsSome (W.told world.old) → (damage : Damage) → result ≡ Err (Stopped.Running (read_stop.Damaged damage)) → ⊥ }
     ensures damage { (damage : Damage) → result ≡ Err (Stopped.Running (read_stop.Damaged damage)) → damage.area ≡ Log }
 {

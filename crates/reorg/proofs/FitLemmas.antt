@@ -16,7 +16,7 @@ use Rattle.outside.specs.declared.disk.ReadStop.{ReadStop}
 use Rattle.outside.specs.declared.disk.ReadStop.TheVariants.{Damaged}
 use Rattle.outside.specs.declared.disk.Damage.{Damage}
 use Rattle.chain_tree.specs.declared.entry.Entry.{Entry}
-use Rattle.reorg.specs.Damages.{IsAtRecord}
+use Rattle.chain_tree.specs.Damages.{IsAtRecord}
 
 -- the current block is the one at its place
 pub told-block : (stored : List Stored) (view : Block) (place : ℕ) (b : Block) (told : Option (List Stored)) (hand : Option ℕ) → told ≡ Some stored
@@ -34,8 +34,3 @@ told-block stored view place b told hand tells taken of_hand there =
 -- Where all fit, none is odd.
 pub none-odd : (all : List Event) (live : OutPoint → Bool) (odd : Odd) → AllFit all live → IsFirstOdd all live odd → ⊥
 none-odd all live odd fit so = false≢true (sym so.unfit ∙ fits-between all so.earlier so.event so.later live fit so.parts)
-
--- damage at a record is there as it is handed on
-pub at-record : {T : Type 0} (entries : List Entry) (place : ℕ) (one other : Damage) → IsAtRecord entries place one
-    → ◌≡◌ {A = Result T ReadStop} (Err (Damaged one)) (Err (Damaged other)) → IsAtRecord entries place other
-at-record entries place one other at same = let is : one ≡ other = cc in subst (IsAtRecord entries place) is at

@@ -1,8 +1,7 @@
 // One kept block at a time: the cells of the genesis, and the events of a block after it.
 ghost use Rattle.std.specs.Prelude.{◌≡◌, ◌≤◌, ◌<◌, ◌+◌, ℕ, List, length, Some, None, Err, IfOk, OnOk, IsSome};
 ghost use Rattle.codec_defs.specs.Schema.{OutPoint, Block};
-ghost use Rattle.outside.specs.declared.disk.Area.TheVariants.{Log};
-ghost use Rattle.outside.specs.declared.disk.Damage as disk;
+ghost use Rattle.outside.specs.declared.disk.Damage.{Damage};
 ghost use Rattle.outside.specs.declared.disk.ReadStop.TheVariants.{Damaged};
 ghost use Rattle.chain_defs.specs.Kept.{block_at};
 ghost use Rattle.chain_tree.specs.Blocks.{IndexesBlocks};
@@ -12,27 +11,15 @@ ghost use Rattle.cell_defs.specs.Events.{events_of_block};
 ghost use Rattle.cell_defs.specs.Row.{row_after};
 ghost use Rattle.cell_defs.specs.Fit.{are_live, AllFit};
 ghost use Rattle.cell_state.specs.State.{rows};
-ghost use Rattle.reorg.specs.Damages.{IsAtRecord};
+ghost use Rattle.chain_tree.specs.Damages.{IsAtRecord};
 ghost use Rattle.reorg.specs.Moves.{AreBelow, AreOf};
 
 use cell_state::{State, outputs_in, tx_hashes};
-use chain_tree::{Blocks, Tree};
+use chain_tree::{Blocks, Tree, damaged_at};
 use mol_schema::BlockView;
-use outside::{Area, Damage, ReadStop, Steps};
+use outside::{ReadStop, Steps};
 use std::alloc::Global;
 use std::sync::ledger::Ledger;
-
-/// Damage at the record of a kept block.
-pub(crate) fn damage_at(tree: &Tree, place: u32) -> Damage
-    requires { place < length tree.now.entries }
-    ensures area { result.area ≡ Log }
-    ensures at { IsAtRecord tree.now.entries place result }
-{
-    Damage {
-        area: Area::Log,
-        at: tree.entry(place).at,
-    }
-}
 
 /// The cells that the genesis leaves, from which the branch of any other place can be gone to. Damaged where the source finds
 /// it damaged.
@@ -47,7 +34,7 @@ pub fn genesis_cells<B: Blocks>(
     ensures rows { (stored : List Stored) → B.told blocks.old ≡ Some stored → IndexesBlocks (blocks_of stored) tree.now.entries
         → IfOk result (λ state. AreOf (blocks_of stored) 0 (rows state)) }
     ensures below { IfOk result (λ state. AreBelow 1 (rows state)) }
-    ensures undamaged { (stored : List Stored) → B.told blocks.old ≡ Some stored → (damage : disk.Damage) → result ≡ Err (Damaged damage) → ⊥ }
+    ensures undamaged { (stored : List Stored) → B.told blocks.old ≡ Some stored → (damage : Damage) → result ≡ Err (Damaged damage) → ⊥ }
 {
     match blocks.bring(0) {
         Ok(()) => {}
@@ -83,8 +70,8 @@ pub(crate) fn apply_at<B: Blocks, L: Ledger>(
     ensures fit { (stored : List Stored) (b : Block) → B.told blocks.old ≡ Some stored → block_at (blocks_of stored) place ≡ Some b
         → OnOk result ((height : ℕ) → 0 < height → AllFit (events_of_block height b) (are_live (rows state.old))) }
     ensures undamaged { (stored : List Stored) (b : Block) (height : ℕ) → B.told blocks.old ≡ Some stored → block_at (blocks_of stored) place ≡ Some b
-        → 0 < height → AllFit (events_of_block height b) (are_live (rows state.old)) → (damage : disk.Damage) → result ≡ Err (Damaged damage) → ⊥ }
-    ensures at_record { IsSome (B.told blocks.old) → (damage : disk.Damage) → result ≡ Err (Damaged damage) → IsAtRecord tree.now.entries place damage }
+        → 0 < height → AllFit (events_of_block height b) (are_live (rows state.old)) → (damage : Damage) → result ≡ Err (Damaged damage) → ⊥ }
+    ensures at_record { IsSome (B.told blocks.old) → (damage : Damage) → result ≡ Err (Damaged damage) → IsAtRecord tree.now.entries place damage }
     ensures steps { OnOk result (steps.new ≡ steps.old + 1) }
     ensures most { steps.new ≤ steps.old + 1 }
 {
@@ -103,6 +90,6 @@ pub(crate) fn apply_at<B: Blocks, L: Ledger>(
     };
     match state.apply(&block, &hashes, place, steps) {
         Ok(()) => Ok(()),
-        Err(_) => Err(ReadStop::Damaged(damage_at(tree, place))),
+        Err(_) => Err(damaged_at(tree, blocks, place)),
     }
 }

@@ -9,7 +9,7 @@ ghost use Rattle.chain_tree.specs.Told.{Stored, blocks_of};
 ghost use Rattle.chain_tree.specs.Reading.{HasRead, stop_of};
 ghost use Rattle.cell_defs.specs.Fit.{BranchFits};
 ghost use Rattle.cell_state.specs.State.{rows};
-ghost use Rattle.reorg.specs.Damages.{IsAtRecord};
+ghost use Rattle.chain_tree.specs.Damages.{IsAtRecord};
 ghost use Rattle.reorg.specs.Moves.{CanGoDown, AreBelow, AreOf, IsPathUp, IsOnTheWay, AreOnTheWay};
 
 use crate::applying::apply_at;

@@ -8,13 +8,12 @@ ghost use Rattle.chain_tree.specs.Told.{Stored};
 ghost use Rattle.chain_tree.specs.Reading.{HasRead, stop_of};
 ghost use Rattle.cell_defs.specs.Row.{Row};
 ghost use Rattle.cell_state.specs.State.{rows};
-ghost use Rattle.reorg.specs.Damages.{IsAtRecord};
+ghost use Rattle.chain_tree.specs.Damages.{IsAtRecord};
 ghost use Rattle.reorg.specs.Moves.{AreBelow, CanBeTakenBack, is_below};
 
-use crate::applying::damage_at;
 use cell_model::{CellMeta, Ext, OutPoint};
 use cell_state::{State, tx_hashes};
-use chain_tree::{Blocks, Tree};
+use chain_tree::{Blocks, Tree, damaged_at};
 use outside::{ReadStop, Steps};
 use std::alloc::Global;
 use std::sync::ledger::Ledger;
@@ -64,7 +63,7 @@ pub(crate) fn undo_at<B: Blocks, L: Ledger>(
         Err(_) => return Err(ReadStop::NoMemory),
     };
     if !are_below(&ext.spent, place) {
-        return Err(ReadStop::Damaged(damage_at(tree, place)));
+        return Err(damaged_at(tree, blocks, place));
     }
     match state.reserve(ext.spent.len() as u64) {
         Ok(()) => {}
@@ -77,6 +76,6 @@ pub(crate) fn undo_at<B: Blocks, L: Ledger>(
     };
     match state.undo(&block, &hashes, &ext, steps) {
         Ok(()) => Ok(()),
-        Err(_) => Err(ReadStop::Damaged(damage_at(tree, place))),
+        Err(_) => Err(damaged_at(tree, blocks, place)),
     }
 }

@@ -1,13 +1,14 @@
 // The fees that a kept block commits.
-ghost use Rattle.std.specs.Prelude.{◌≡◌, ◌+◌, ◌^◌, ◌<◌, ◌≤◌, List, length, filter, IsTrue, IsSomeAnd, pos};
+ghost use Rattle.std.specs.Prelude.{◌≡◌, ◌+◌, ◌^◌, ◌<◌, ◌≤◌, List, length, filter, Some, Err, IsTrue, IsSomeAnd, pos};
 ghost use Rattle.std.specs.List.{sum_by};
 ghost use Rattle.std.specs.Str.{bytes_eq};
 ghost use Rattle.std.specs.HashMap as hashed;
 ghost use Rattle.time_defs.specs.Specification.{Specification};
 ghost use Rattle.time_defs.specs.Dao.{as_u64};
-ghost use Rattle.outside.specs.declared.disk.Area.TheVariants.{Log};
+ghost use Rattle.outside.specs.declared.disk.Damage.{Damage};
 ghost use Rattle.outside.specs.declared.disk.ReadStop.TheVariants.{Damaged};
 ghost use Rattle.chain_defs.specs.Branch.{branch};
+ghost use Rattle.chain_tree.specs.Damages.{IsOfBlock};
 ghost use Rattle.chain_tree.specs.Entries.{entry_at};
 ghost use Rattle.chain_tree.specs.Told.{Stored, blocks_of};
 ghost use Rattle.chain_tree.specs.Reading.{HasRead, stop_of};
@@ -22,8 +23,8 @@ use crate::amounts::{committer_share, plus, proposer_share};
 use crate::places::place_at;
 use crate::starts::{Starts, is_started};
 use cell_model::fee_in;
-use chain_tree::{Blocks, Tree};
-use outside::{Area, Damage, ReadStop};
+use chain_tree::{Blocks, Tree, damaged_at};
+use outside::ReadStop;
 
 /// How many fees an ext has.
 fn fee_count(ext: &[u8]) -> u32
@@ -78,18 +79,8 @@ fn proposed(starts: &Starts, height: u64, ids: &[[u8; 10]], ext: &[u8]) -> Optio
     sum
 }
 
-/// What a kept block has whose ext lacks fees.
-fn damaged() -> ReadStop
-    ensures { result ≡ Damaged (record { area = Log; at = 0 }) }
-{
-    ReadStop::Damaged(Damage {
-        area: Area::Log,
-        at: 0,
-    })
-}
-
 /// What the fees that the block at a height commits give to that block. Damaged where the source finds the block
-/// damaged, or its ext lacks fees.
+/// damaged, or its ext lacks fees: at the block's record.
 pub(crate) fn committed_at<B: Blocks>(
     tree: &Tree,
     blocks: &mut B,
@@ -100,6 +91,7 @@ pub(crate) fn committed_at<B: Blocks>(
     requires height { IsSomeAnd (entry_at tree.now.entries parent) (λ entry. height ≤ entry.number) }
     requires counts { B.count blocks.old ≡ length tree.now.entries }
     ensures read { HasRead B.told B.count B.loans_of B.faults B.damages blocks.old blocks.new (stop_of result) }
+    ensures of_block { (stored : List Stored) → B.told blocks.old ≡ Some stored → (damage : Damage) → result ≡ Err (Damaged damage) → IsOfBlock tree.now.entries damage }
     ensures sum { (spec : Specification) (stored : List Stored) → AreKnownBlocks spec (B.told blocks.old) tree.now.entries stored
         → ComesTo (λ found. found ≡ as_u64 (pos (sum_by (λ paid. fees.committer_share paid.fee) (paid_at spec (branch (blocks_of stored) parent) height)))) result }
 {
@@ -111,7 +103,7 @@ pub(crate) fn committed_at<B: Blocks>(
     let ids = blocks.ids();
     let ext = blocks.spent();
     if ids.len() > fee_count(ext) as usize {
-        return Err(damaged());
+        return Err(damaged_at(tree, blocks, place));
     }
     Ok(committed(ids, ext))
 }
@@ -128,6 +120,7 @@ pub(crate) fn proposed_at<B: Blocks>(
     requires height { IsSomeAnd (entry_at tree.now.entries parent) (λ entry. height ≤ entry.number) }
     requires counts { B.count blocks.old ≡ length tree.now.entries }
     ensures read { HasRead B.told B.count B.loans_of B.faults B.damages blocks.old blocks.new (stop_of result) }
+    ensures of_block { (stored : List Stored) → B.told blocks.old ≡ Some stored → (damage : Damage) → result ≡ Err (Damaged damage) → IsOfBlock tree.now.entries damage }
     ensures sum { (spec : Specification) (stored : List Stored) → AreKnownBlocks spec (B.told blocks.old) tree.now.entries stored
         → ComesTo (λ found. found ≡ as_u64 (pos (sum_by (λ paid. fees.proposer_share paid.fee)
         (filter (λ paid. is_started (hashed.get bytes_eq starts.now paid.id) height) (paid_at spec (branch (blocks_of stored) parent) height))))) result }
@@ -140,7 +133,7 @@ pub(crate) fn proposed_at<B: Blocks>(
     let ids = blocks.ids();
     let ext = blocks.spent();
     if ids.len() > fee_count(ext) as usize {
-        return Err(damaged());
+        return Err(damaged_at(tree, blocks, place));
     }
     Ok(proposed(starts, height, ids, ext))
 }

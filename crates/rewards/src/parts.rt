@@ -5,6 +5,7 @@ ghost use Rattle.outside.specs.declared.disk.ReadStop.TheVariants.{Damaged};
 ghost use Rattle.codec_defs.specs.Schema.{Block};
 ghost use Rattle.time_defs.specs.Dao.{as_u64, miner_part};
 ghost use Rattle.chain_defs.specs.Branch.{branch};
+ghost use Rattle.chain_tree.specs.Damages.{IsOfBlock};
 ghost use Rattle.chain_tree.specs.Entries.{entry_at};
 ghost use Rattle.chain_tree.specs.Blocks.{AreRated, IndexesBlocks};
 ghost use Rattle.chain_tree.specs.Told.{Stored, blocks_of};
@@ -37,8 +38,8 @@ fn issued(spec: &Spec, tree: &Tree, parent: u32, height: u64) -> Option<u64>
 }
 
 /// The reward of the block at a height of the branch of a kept block, in shannons. None where it is above the greatest
-/// u64. Damaged where the source finds a block damaged, or an ext has fewer fees than its block has transactions after
-/// the first.
+/// u64. Damaged, at a block's record, where the source finds a block damaged, or an ext has fewer fees than its block has
+/// transactions after the first.
 pub fn reward<B: Blocks>(
     alloc: Global,
     spec: &Spec,
@@ -53,6 +54,7 @@ pub fn reward<B: Blocks>(
     requires rated { AreRated tree.now.entries }
     requires counts { B.count blocks.old ≡ length tree.now.entries }
     ensures read { HasRead B.told B.count B.loans_of B.faults B.damages blocks.old blocks.new (stop_of result) }
+    ensures of_block { (stored : List Stored) → B.told blocks.old ≡ Some stored → (damage : Damage) → result ≡ Err (Damaged damage) → IsOfBlock tree.now.entries damage }
     ensures reward { (stored : List Stored) → B.told blocks.old ≡ Some stored → IndexesBlocks (blocks_of stored) tree.now.entries → HaveOwnFees spec.now stored
         → IfOk result (λ found. found ≡ as_u64 (pos (part spec.now (branch (blocks_of stored) parent) target))) }
     ensures undamaged { (stored : List Stored) → B.told blocks.old ≡ Some stored → IndexesBlocks (blocks_of stored) tree.now.entries → HaveOwnFees spec.now stored

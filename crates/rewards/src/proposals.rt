@@ -1,10 +1,13 @@
 // What the fees that later blocks commit give to the block that proposed their transactions.
-ghost use Rattle.std.specs.Prelude.{◌≡◌, ◌+◌, ◌^◌, ◌<◌, ◌≤◌, List, length, IsSomeAnd, pos};
+ghost use Rattle.std.specs.Prelude.{◌≡◌, ◌+◌, ◌^◌, ◌<◌, ◌≤◌, List, length, Some, Err, IsSomeAnd, pos};
 ghost use Rattle.std.specs.List.{sum_by};
 ghost use Rattle.std.specs.Str.{bytes_eq};
 ghost use Rattle.std.specs.HashMap as hashed;
+ghost use Rattle.outside.specs.declared.disk.Damage.{Damage};
+ghost use Rattle.outside.specs.declared.disk.ReadStop.TheVariants.{Damaged};
 ghost use Rattle.time_defs.specs.Dao.{as_u64};
 ghost use Rattle.chain_defs.specs.Branch.{branch};
+ghost use Rattle.chain_tree.specs.Damages.{IsOfBlock};
 ghost use Rattle.chain_tree.specs.Entries.{entry_at};
 ghost use Rattle.chain_tree.specs.Told.{Stored, blocks_of};
 ghost use Rattle.chain_tree.specs.Reading.{HasRead, stop_of};
@@ -36,6 +39,7 @@ fn proposed_after<B: Blocks>(
     requires far { IsSomeAnd (entry_at tree.now.entries parent) (λ entry. proposer + spec.now.w_far ≤ entry.number) }
     requires counts { B.count blocks.old ≡ length tree.now.entries }
     ensures read { HasRead B.told B.count B.loans_of B.faults B.damages blocks.old blocks.new (stop_of result) }
+    ensures of_block { (stored : List Stored) → B.told blocks.old ≡ Some stored → (damage : Damage) → result ≡ Err (Damaged damage) → IsOfBlock tree.now.entries damage }
     ensures sum { (stored : List Stored) → AreKnownBlocks spec.now (B.told blocks.old) tree.now.entries stored
         → AreStarts spec.now (branch (blocks_of stored) parent) proposer (hashed.get bytes_eq starts.now)
         → ComesTo (λ found. found ≡ as_u64 (pos (sum_by (proposer_part spec.now (branch (blocks_of stored) parent) proposer) (commit_heights spec.now proposer)))) result }
@@ -66,6 +70,7 @@ pub(crate) fn proposed_by<B: Blocks>(
     requires far { IsSomeAnd (entry_at tree.now.entries parent) (λ entry. height + spec.now.w_far ≤ entry.number) }
     requires counts { B.count blocks.old ≡ length tree.now.entries }
     ensures read { HasRead B.told B.count B.loans_of B.faults B.damages blocks.old blocks.new (stop_of result) }
+    ensures of_block { (stored : List Stored) → B.told blocks.old ≡ Some stored → (damage : Damage) → result ≡ Err (Damaged damage) → IsOfBlock tree.now.entries damage }
     ensures sum { (stored : List Stored) → AreKnownBlocks spec.now (B.told blocks.old) tree.now.entries stored
         → ComesTo (λ found. found ≡ as_u64 (pos (sum_by (proposer_part spec.now (branch (blocks_of stored) parent) height) (commit_heights spec.now height)))) result }
 {

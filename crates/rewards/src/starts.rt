@@ -1,9 +1,11 @@
 // From which height on a block is the earliest proposer of what it proposes.
-ghost use Rattle.std.specs.Prelude.{◌≡◌, ◌^◌, ◌<◌, ◌≤◌, cond, List, ℕ, length, Some, None, IfOk, IsSomeAnd};
+ghost use Rattle.std.specs.Prelude.{◌≡◌, ◌^◌, ◌<◌, ◌≤◌, cond, List, ℕ, length, Some, None, IfOk, IsSomeAnd, Err};
 ghost use Rattle.std.specs.List.{list_any};
 ghost use Rattle.std.specs.Option.{option_map};
 ghost use Rattle.std.specs.Str.{bytes_eq};
 ghost use Rattle.std.specs.HashMap as hashed;
+ghost use Rattle.outside.specs.declared.disk.Damage.{Damage};
+ghost use Rattle.outside.specs.declared.disk.ReadStop.TheVariants.{Damaged};
 ghost use Rattle.chain_defs.specs.Kept.{block_at};
 ghost use Rattle.chain_defs.specs.Branch.{branch};
 ghost use Rattle.chain_tree.specs.Entries.{entry_at};
@@ -72,6 +74,7 @@ fn move_at<B: Blocks>(
     requires within { place < length tree.now.entries }
     requires counts { B.count blocks.old ≡ length tree.now.entries }
     ensures read { HasRead B.told B.count B.loans_of B.faults B.damages blocks.old blocks.new (stop_of result) }
+    ensures undamaged { (stored : List Stored) → B.told blocks.old ≡ Some stored → (damage : Damage) → result ≡ Err (Damaged damage) → ⊥ }
     ensures moved { (stored : List Stored) → B.told blocks.old ≡ Some stored → ComesTo (λ _. (id : List ℕ) → hashed.get bytes_eq starts.new id
         ≡ cond (proposes id (block_at (blocks_of stored) place)) (option_map (λ _. start) (hashed.get bytes_eq starts.old id)) (hashed.get bytes_eq starts.old id)) result }
 {
@@ -98,6 +101,7 @@ fn move_over<B: Blocks>(
     requires proposer { IsSomeAnd (entry_at tree.now.entries parent) (λ entry. proposer ≤ entry.number) }
     requires counts { B.count blocks.old ≡ length tree.now.entries }
     ensures read { HasRead B.told B.count B.loans_of B.faults B.damages blocks.old blocks.new (stop_of result) }
+    ensures undamaged { (stored : List Stored) → B.told blocks.old ≡ Some stored → (damage : Damage) → result ≡ Err (Damaged damage) → ⊥ }
     ensures starts { (stored : List Stored) → B.told blocks.old ≡ Some stored → IndexesBlocks (blocks_of stored) tree.now.entries
         → ((id : List ℕ) → hashed.get bytes_eq starts.old id ≡ cond (proposes_at (branch (blocks_of stored) parent) id proposer) (Some 0) None)
         → ComesTo (λ _. AreStarts spec.now (branch (blocks_of stored) parent) proposer (hashed.get bytes_eq starts.new)) result }
@@ -129,6 +133,7 @@ pub(crate) fn starts_at<B: Blocks>(
     requires proposer { IsSomeAnd (entry_at tree.now.entries parent) (λ entry. proposer ≤ entry.number) }
     requires counts { B.count blocks.old ≡ length tree.now.entries }
     ensures read { HasRead B.told B.count B.loans_of B.faults B.damages blocks.old blocks.new (stop_of result) }
+    ensures undamaged { (stored : List Stored) → B.told blocks.old ≡ Some stored → (damage : Damage) → result ≡ Err (Damaged damage) → ⊥ }
     ensures starts { (stored : List Stored) → B.told blocks.old ≡ Some stored → IndexesBlocks (blocks_of stored) tree.now.entries
         → option_map proposed_ids (block_at (branch (blocks_of stored) parent) proposer) ≡ Some ids.now
         → ComesTo (λ starts. AreStarts spec.now (branch (blocks_of stored) parent) proposer (hashed.get bytes_eq starts)) result }

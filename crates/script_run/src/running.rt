@@ -196,7 +196,10 @@ fn run_shown<'a, B: Blocks>(
 {
     let groups = match groups_of(alloc, tx) {
         Ok(groups) => groups,
-        Err(stop) => return Err(ScriptStop::Read(stop)),
+        Err(stop) => {
+            blocks.report(stop);
+            return Err(ScriptStop::Read(stop));
+        }
     };
     if let Some(failure) = first_without_code(codes, &groups) {
         return Err(ScriptStop::Failed(failure));

@@ -79,7 +79,11 @@ impl<'a, 'w, 'b, B: Blocks> World for GroupWorld<'a, 'w, 'b, B> {
             Lookup::NoIndex => Ok(Found::NoIndex),
             Lookup::Missing => Ok(Found::Missing),
             Lookup::Unknown => Ok(Found::Unknown),
-            Lookup::Broken => Err(damaged()),
+            Lookup::Broken => {
+                let stop = damaged();
+                self.blocks.report(stop);
+                Err(stop)
+            }
         }
     }
 
@@ -107,7 +111,9 @@ fn read_header<'a, B: Blocks>(
         → (damage : Damage) → stop_of result ≡ Some (Damaged damage) → ⊥ }
 {
     if place >= tree.len() {
-        return Err(damaged());
+        let stop = damaged();
+        blocks.report(stop);
+        return Err(stop);
     }
     match blocks.bring(place) {
         Ok(()) => {}

@@ -47,7 +47,13 @@ fn copy_kept<B: Blocks>(
         Err(stop) => return Err(stop),
     }
     let block = blocks.block();
-    copy_read(alloc, at, &block, o, meta)
+    match copy_read(alloc, at, &block, o, meta) {
+        Ok(copy) => Ok(copy),
+        Err(stop) => {
+            blocks.report(stop);
+            Err(stop)
+        }
+    }
 }
 
 /// A copy of an output of a block that is read.
@@ -152,9 +158,17 @@ fn copy_row<B: Blocks>(
     if meta.block < kept {
         copy_kept(alloc, at, blocks, o, meta)
     } else if meta.block == kept {
-        copy_own(alloc, at, o, meta)
+        match copy_own(alloc, at, o, meta) {
+            Ok(copy) => Ok(copy),
+            Err(stop) => {
+                blocks.report(stop);
+                Err(stop)
+            }
+        }
     } else {
-        Err(ReadStop::Damaged(damage_of(at, &meta)))
+        let stop = ReadStop::Damaged(damage_of(at, &meta));
+        blocks.report(stop);
+        Err(stop)
     }
 }
 
@@ -257,7 +271,13 @@ fn take_kept<B: Blocks>(
         Err(stop) => return Err(stop),
     }
     let block = blocks.block();
-    take_read(alloc, at, &block, meta.block, rows, order, taken)
+    match take_read(alloc, at, &block, meta.block, rows, order, taken) {
+        Ok(()) => Ok(()),
+        Err(stop) => {
+            blocks.report(stop);
+            Err(stop)
+        }
+    }
 }
 
 /// Takes copies of the cells of rows of kept blocks that made several of them, each to its row's place. The order has

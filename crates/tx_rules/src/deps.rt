@@ -108,7 +108,13 @@ fn add_kept_group<C: Cells, B: Blocks>(
         Err(stop) => return Err(stop),
     }
     let block = blocks.block();
-    add_group_in(at, cells, &block, o, meta, found)
+    match add_group_in(at, cells, &block, o, meta, found) {
+        Ok(all) => Ok(all),
+        Err(stop) => {
+            blocks.report(stop);
+            Err(stop)
+        }
+    }
 }
 
 /// The same among the transactions of the block that is judged.
@@ -184,7 +190,13 @@ fn add_group_of<C: Cells, B: Blocks>(
     if meta.block < at.tree.len() {
         add_kept_group(at, cells, blocks, o, meta, found)
     } else {
-        add_own_group(at, cells, o, meta, found)
+        match add_own_group(at, cells, o, meta, found) {
+            Ok(all) => Ok(all),
+            Err(stop) => {
+                blocks.report(stop);
+                Err(stop)
+            }
+        }
     }
 }
 

@@ -17,9 +17,9 @@ ghost use Rattle.tx_defs.specs.Rules as defs;
 ghost use Rattle.tx_defs.specs.Capacity as rules;
 ghost use Rattle.tx_defs.specs.Resolving.{inputs, deps, heights};
 ghost use Rattle.tx_rules.specs.At.{AtValue, IsPlaced, IsSiteOf, found_row, input_rows};
-ghost use Rattle.tx_rules.specs.Steps.{spending_rules, naming_rules, using_rules, finding_rules, paying_rules, AnswersBy, Stops, StopsLater, AreFound, Pays};
+ghost use Rattle.tx_rules.specs.Steps.{spending_rules, naming_rules, using_rules, finding_rules, paying_rules, AnswersBy, Stops, StopsLater, IsLater, AreFound, Pays};
 ghost use Rattle.tx_rules.specs.declared.resolving.TxStop.TheVariants.{Read};
-ghost use Rattle.tx_rules.specs.Reading.{read_stop_of};
+ghost use Rattle.tx_rules.specs.Reading.{read_stop, read_stop_of};
 ghost use Rattle.tx_rules.specs.Copying.{row_in, CopiesItsRow, HoldsOutput};
 ghost use Rattle.tx_rules.specs.Outcome.{Copies, FollowsRows, IsFormed, IsResolved, IsTried, rules_to_27};
 
@@ -100,6 +100,7 @@ fn spent_rows<C: Cells>(
     ensures stops { Stops proposed result }
     ensures by_rows { FollowsRows proposed (C.rows cells.now) tx.now result }
     ensures unread { result ≡ Err (Read DiskFault) → ⊥ }
+    ensures undamaged { (damage : Damage) → result ≡ Err (Read (Damaged damage)) → ⊥ }
     ensures judged { (stored : List Stored) (at : AtValue) (site : Site) → IsSiteOf stored at (C.rows cells.now) site → AnswersBy (spending_rules proposed site tx.now) result }
     ensures form { IfOk result (λ _. IsTrue (defs.has_form tx.now)) }
     ensures rows { IfOk result (λ rows. input_rows (C.rows cells.now) tx.now ≡ Some rows.items) }
@@ -227,6 +228,18 @@ fn paid_by(
     }
 }
 
+/// Takes why a step stopped that reads no kept block, as the source of the blocks takes it: what it finds damaged is found.
+fn report<B: Blocks>(blocks: &mut B, stop: TxStop)
+    requires later { IsLater stop }
+    requires unread { stop ≡ Read DiskFault → ⊥ }
+    ensures read { HasRead B.told B.count B.loans_of B.faults B.damages blocks.old blocks.new (read_stop stop) }
+{
+    match stop {
+        TxStop::Broken(_) => {}
+        TxStop::Read(stop) => blocks.report(stop),
+    }
+}
+
 /// J18 to J25, which take no copy of a cell. The transaction comes with its hash.
 fn find<C: Cells, B: Blocks>(
     alloc: Global,
@@ -265,7 +278,10 @@ fn find<C: Cells, B: Blocks>(
             named,
             places,
         }),
-        Err(stop) => Err(stop),
+        Err(stop) => {
+            report(blocks, stop);
+            Err(stop)
+        }
     }
 }
 
@@ -305,7 +321,10 @@ fn copy_cells<B: Blocks>(
     };
     let balance = match paid_by(alloc, tx, at, &inputs, &finding.places) {
         Ok(balance) => balance,
-        Err(stop) => return Err(stop),
+        Err(stop) => {
+            report(blocks, stop);
+            return Err(stop);
+        }
     };
     match fetch_all(alloc, at, blocks, &finding.named) {
         Ok(deps) => Ok(Copying {

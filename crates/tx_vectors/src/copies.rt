@@ -38,22 +38,27 @@ fn named(columns: &str) -> Option<(OutPoint, CellMeta)> {
     Some((o, meta))
 }
 
-/// The output and its data that `fetch` copies, `damaged` where there is no such output, `none` where no such block.
+/// The output and its data that `fetch` copies, `damaged` where there is no such output in the block, which begins at some
+/// place of LOG, `none` where no such block.
 pub(crate) fn fetched(alloc: Global, blocks: &mut ListBlocks, columns: &str) -> Option<String> {
     let (o, meta) = named(columns)?;
     if meta.block >= blocks.len() {
         return format!(in alloc; "none").ok();
     }
-    match fetch(alloc, blocks, o, meta) {
+    let at = 100 + u64::from(meta.block);
+    match fetch(alloc, blocks, o, meta, at) {
         Ok(copy) => copied(alloc, &copy, &o, &meta),
-        Err(
-            ReadStop::Damaged(
-                Damage {
-                    area: Area::Log,
-                    at: 0,
-                },
-            ),
-        ) => format!(in alloc; "damaged").ok(),
+        Err(ReadStop::Damaged(damage)) => {
+            let there = Damage {
+                area: Area::Log,
+                at,
+            };
+            if damage == there {
+                format!(in alloc; "damaged").ok()
+            } else {
+                None
+            }
+        }
         Err(_) => None,
     }
 }

@@ -2,6 +2,7 @@
 use Rattle.std.proofs.Common.{◌≡◌, ℕ, ◌+◌, ◌-◌, ◌/◌, ◌%◌, ◌==◌, ◌||◌, nat_lt, Bool, true, false, List, ◌++◌, length, take, drop, replicate, Result, Ok, Err, ◌≤◌, ◌<◌, ◌⊎◌, inl, inr, refl, sym, ◌∙◌, ap, subst, arith, Option, Some}
 use Rattle.std.specs.Prelude.{not, IfSome, OnOk, ◌≢◌}
 use Rattle.outside.specs.Causes.{CountsFault}
+use Rattle.outside.specs.declared.disk.Damage.{Damage}
 use Rattle.outside.specs.declared.disk.ReadStop.{ReadStop}
 use Rattle.outside.specs.declared.disk.ReadStop.TheVariants as read_stop
 use Rattle.std.proofs.lemmas.Bool.Decides.{nat_tests}
@@ -19,8 +20,10 @@ use Rattle.vm_mem.specs.declared.stop.MemStop.{MemStop}
 use Rattle.vm_mem.specs.declared.stop.MemStop.TheVariants as mem_stop
 use Rattle.sys_defs.specs.Answer.{argument, paid_for, stored, with_part, with_length, loads_part, code_bytes, with_content, loads_code}
 use Rattle.vm_sys.specs.declared.syscall.Sys.{Sys}
-use Rattle.vm_sys.specs.declared.syscall.Sys.TheVariants.{Done, Fault, Spent, Stop}
+use Rattle.vm_sys.specs.declared.syscall.Sys.TheVariants.{Done, Exit, Fault, Spent, Stop}
 use Rattle.vm_mem.specs.Pages.{IsUnder}
+use Rattle.vm_sys.specs.Finding.{Finds}
+use Rattle.vm_sys.specs.Running.{outcome_of}
 use Rattle.vm_sys.specs.Answering.{AddsPages, ContentTouches, HasBytes, HoldsPart, IsAnswer, WhereCutOff, IsPlaced, IsStopped}
 
 -- ---- what the world answered
@@ -33,6 +36,14 @@ same-stop {T} stop other is = let same : stop ≡ other = cc in ap (unread T) sa
 
 pub same-answer : {T : Type 0} (stop other : ReadStop) → unread T stop ≡ unread T other → Stop stop ≡ Stop other
 same-answer stop other is = let same : stop ≡ other = cc in ap Stop same
+
+-- the program does not go on only where a syscall was stopped
+pub outcome-stop : (answer : Sys) (stop : ReadStop) → outcome_of answer ≡ Err stop → answer ≡ Stop stop
+outcome-stop Done stop is = absurd cc
+outcome-stop (Exit code) stop is = absurd cc
+outcome-stop (Fault number) stop is = absurd cc
+outcome-stop Spent stop is = absurd cc
+outcome-stop (Stop other) stop is = let same : other ≡ stop = cc in ap Stop same
 
 pub no-stop : (number : ℕ) (stop : ReadStop) → Fault number ≡ Stop stop → ⊥
 no-stop number stop is = absurd cc
@@ -49,6 +60,26 @@ pub item-found : (told : Option Items) (items : Items) (call asked : Call) (item
     → items asked ≡ item
 item-found told items call asked item found tells same =
     ap items (sym same) ∙ subst (λ (o : Option Items). IfSome o (λ its. its call ≡ item)) tells found
+
+-- ---- what the world found
+
+-- nothing, where it was not asked
+pub finds-none : (found : ℕ × Option Damage) {Answered : Damage → Type 0} → ((damage : Damage) → Answered damage → ⊥) → Finds found found Answered
+finds-none found never = record { named = λ damage is. absurd (never damage is); none = λ other. refl }
+
+-- for an answer that is given just where another is
+pub finds-as : {before after : ℕ × Option Damage} {Answered Other : Damage → Type 0} → ((damage : Damage) → Answered damage → Other damage)
+    → ((damage : Damage) → Other damage → Answered damage) → Finds before after Answered → Finds before after Other
+finds-as to from finds = record {
+  named = λ damage is. finds.named damage (from damage is);
+  none = λ none. finds.none (λ damage is. none damage (to damage is));
+}
+
+-- after a call that found none
+pub finds-after : {first then last : ℕ × Option Damage} {Answered : Damage → Type 0} → then ≡ first → Finds then last Answered → Finds first last Answered
+finds-after {last = last} {Answered = Answered} same finds = subst (λ (found : ℕ × Option Damage). Finds found last Answered) same finds
+
+-- ---- faults
 
 pub counts-none : (faults : ℕ) (Failed : Type 0) → (Failed → ⊥) → CountsFault faults faults Failed
 counts-none faults Failed never = record { later = omega arith; rose = λ fault. absurd (never fault); unchanged = λ none. refl }

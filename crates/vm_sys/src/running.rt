@@ -9,7 +9,7 @@ ghost use Rattle.vm_mem.specs.Pages.{IsAllocated};
 ghost use Rattle.vm_step.specs.Running.{LeavesRoom, WantsPage};
 ghost use Rattle.sys_defs.specs.World.{Items};
 ghost use Rattle.sys_defs.specs.Answer.{syscall};
-ghost use Rattle.vm_sys.specs.Finding.{AnswersFound};
+ghost use Rattle.vm_sys.specs.Finding.{Finds};
 ghost use Rattle.vm_sys.specs.Running.{Advances, AdvancesBySome, IsWithin, RunWants, StopLoadsItem, outcome_of};
 
 use super::syscall::{Sys, handle};
@@ -32,7 +32,7 @@ pub fn run<W: World>(machine: &mut Machine, world: &mut W) -> Result<Outcome, Re
     ensures later { machine.old.machine.cycles ≤ machine.new.machine.cycles }
     ensures wants { (items : Items) → W.told world.old ≡ Some items → result ≡ Err NoMemory → RunWants items (IsAllocated machine.old.allocated) machine.old.machine }
     ensures cause { CountsFault (W.faults world.old) (W.faults world.new) (result ≡ Err DiskFault) }
-    ensures answered { AnswersFound (W.damages world.old) (W.damages world.new) (λ damage. result ≡ Err (Damaged damage)) }
+    ensures answered { Finds (W.damages world.old) (W.damages world.new) (λ damage. result ≡ Err (Damaged damage)) }
     ensures undamaged { IsSome (W.told world.old) → (damage : Damage) → result ≡ Err (Damaged damage) → ⊥ }
     ensures damage { (damage : Damage) → result ≡ Err (Damaged damage) → damage.area ≡ Log }
 {
@@ -56,7 +56,7 @@ fn advance<W: World>(machine: &mut Machine, world: &mut W) -> Result<Option<Outc
     ensures later { machine.old.machine.cycles ≤ machine.new.machine.cycles }
     ensures wants { (items : Items) → W.told world.old ≡ Some items → result ≡ Err NoMemory → WantsPage machine.old machine.new.machine ⊎ StopLoadsItem items machine.old.machine }
     ensures cause { CountsFault (W.faults world.old) (W.faults world.new) (result ≡ Err DiskFault) }
-    ensures answered { AnswersFound (W.damages world.old) (W.damages world.new) (λ damage. result ≡ Err (Damaged damage)) }
+    ensures answered { Finds (W.damages world.old) (W.damages world.new) (λ damage. result ≡ Err (Damaged damage)) }
     ensures undamaged { IsSome (W.told world.old) → (damage : Damage) → result ≡ Err (Damaged damage) → ⊥ }
     ensures damage { (damage : Damage) → result ≡ Err (Damaged damage) → damage.area ≡ Log }
     ensures room { OnOk result (LeavesRoom machine.old.machine machine.new.allocated) }

@@ -11,7 +11,7 @@ ghost use Rattle.sys_defs.specs.Answer.{asks, results, syscall, with_item, with_
 ghost use Rattle.vm_defs.specs.Alone as alone;
 ghost use Rattle.vm_mem.specs.Pages.{IsAllocated};
 ghost use Rattle.vm_sys.specs.Actions.{form_meaning};
-ghost use Rattle.vm_sys.specs.Finding.{AnswersFound};
+ghost use Rattle.vm_sys.specs.Finding.{Finds};
 ghost use Rattle.vm_sys.specs.Answering.{AddsPages, BytesTouch, CallTouches, HoldsPart, IsAnswer, IsAnswerOfSome, WhereCutOff, ItemTouches, goes_on_of};
 ghost use Rattle.vm_sys.specs.Running.{LoadsItem};
 
@@ -59,7 +59,7 @@ pub fn handle<W: World>(machine: &mut Machine, world: &mut W) -> Sys
     ensures wants { (items : Items) → W.told world.old ≡ Some items → result ≡ Sys.Stop NoMemory → LoadsItem items machine.old.machine }
     ensures unpaid { (stop : ReadStop) → result ≡ Sys.Stop stop → machine.new.machine.cycles ≡ machine.old.machine.cycles }
     ensures cause { CountsFault (W.faults world.old) (W.faults world.new) (result ≡ Sys.Stop DiskFault) }
-    ensures answered { AnswersFound (W.damages world.old) (W.damages world.new) (λ damage. result ≡ Sys.Stop (Damaged damage)) }
+    ensures answered { Finds (W.damages world.old) (W.damages world.new) (λ damage. result ≡ Sys.Stop (Damaged damage)) }
     ensures undamaged { IsSome (W.told world.old) → (damage : Damage) → result ≡ Sys.Stop (Damaged damage) → ⊥ }
     ensures damage { (damage : Damage) → result ≡ Sys.Stop (Damaged damage) → damage.area ≡ Log }
     ensures in_part { WhereCutOff result (HoldsPart machine.old.machine machine.new.machine) }
@@ -88,7 +88,7 @@ fn load<W: World>(machine: &mut Machine, world: &mut W, form: Form) -> Sys
     ensures wants { (items : Items) → W.told world.old ≡ Some items → result ≡ Sys.Stop NoMemory → items (asks machine.old.machine (form_meaning form)) ≢ items_of.Unknown }
     ensures unpaid { (stop : ReadStop) → result ≡ Sys.Stop stop → machine.new.machine.cycles ≡ machine.old.machine.cycles }
     ensures cause { CountsFault (W.faults world.old) (W.faults world.new) (result ≡ Sys.Stop DiskFault) }
-    ensures answered { AnswersFound (W.damages world.old) (W.damages world.new) (λ damage. result ≡ Sys.Stop (Damaged damage)) }
+    ensures answered { Finds (W.damages world.old) (W.damages world.new) (λ damage. result ≡ Sys.Stop (Damaged damage)) }
     ensures undamaged { IsSome (W.told world.old) → (damage : Damage) → result ≡ Sys.Stop (Damaged damage) → ⊥ }
     ensures damage { (damage : Damage) → result ≡ Sys.Stop (Damaged damage) → damage.area ≡ Log }
     ensures in_part { WhereCutOff result (HoldsPart machine.old.machine machine.new.machine) }

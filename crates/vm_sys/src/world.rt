@@ -6,7 +6,7 @@ ghost use Rattle.outside.specs.declared.disk.Damage.{Damage};
 ghost use Rattle.outside.specs.declared.disk.ReadStop.TheVariants.{DiskFault, Damaged, NoMemory};
 ghost use Rattle.sys_defs.specs.World.{Items};
 ghost use Rattle.sys_defs.specs.World as items;
-ghost use Rattle.vm_sys.specs.Finding.{item_of, AnswersFound};
+ghost use Rattle.vm_sys.specs.Finding.{item_of, Finds};
 
 use super::call::Call;
 use outside::ReadStop;
@@ -53,7 +53,7 @@ pub trait World {
         // That there is no such source or field is known without memory.
         ensures known { IfSome (told self.old) (λ told. told call ≡ items.Unknown → result ≡ Err NoMemory → ⊥) }
         ensures cause { CountsFault (faults self.old) (faults self.new) (result ≡ Err DiskFault) }
-        ensures answered { AnswersFound (damages self.old) (damages self.new) (λ damage. result ≡ Err (Damaged damage)) }
+        ensures answered { Finds (damages self.old) (damages self.new) (λ damage. result ≡ Err (Damaged damage)) }
         ensures undamaged { IsSome (told self.old) → (damage : Damage) → result ≡ Err (Damaged damage) → ⊥ }
         ensures damage { (damage : Damage) → result ≡ Err (Damaged damage) → damage.area ≡ Log };
 

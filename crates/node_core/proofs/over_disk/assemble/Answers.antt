@@ -3,6 +3,7 @@ use Rattle.outside.proofs.Endings.{after_still}
 use Rattle.chain_tree.specs.Entries.{TreeValue}
 use Rattle.chain_tree.specs.Reading.{stop_of}
 use Rattle.chain_tree.specs.Told.{blocks_of}
+use Rattle.chain_tree.proofs.ReadLemmas.{finds_after}
 use Rattle.block_store.specs.Held.{CacheValue}
 use Rattle.node_core.specs.Node.{KeptValue, HasOnlyRead}
 use Rattle.node_core.proofs.SourceLemmas.{kept-on, counts-blocks, tells-joined, has-looked}
@@ -29,7 +30,7 @@ returns-clause-looked g c =
     (has-looked c.args.kept.now c.assemble.new.blocks.tree.now.entries c.args.cache.now _ (ap (λ it. it.entries) c.assemble.ensures.read.loans ∙ same) content
     (g.met.D.Disk.content_rests _ _ content).reads c.requires.own c.assemble.new.blocks.kept (ap (λ it. it.most) loans ∙ ap (λ (it : CacheValue). it.most) c.new-store.ensures.cache) c.assemble.ensures.read.damage
     (after_still (ap g.D.Disk.faults c.new-store.ensures.disk) c.assemble.ensures.read.cause)
-    (λ other. c.assemble.ensures.read.found other ∙ ap (λ (it : CacheValue). it.damages) c.new-store.ensures.cache)))
+    (finds_after (ap (λ (it : CacheValue). it.damages) c.new-store.ensures.cache) c.assemble.ensures.read.found)))
 
 pub returns-clause-assembled : goal.returns-clause-assembled
 returns-clause-assembled g c told joined =

@@ -3,6 +3,7 @@ use Rattle.outside.proofs.Endings.{after_still, is_told}
 use Rattle.chain_tree.specs.Entries.{TreeValue}
 use Rattle.chain_tree.specs.Reading.{stop_of}
 use Rattle.chain_tree.specs.Told.{blocks_of}
+use Rattle.chain_tree.proofs.ReadLemmas.{finds_after}
 use Rattle.block_store.specs.Held.{CacheValue}
 use Rattle.node_core.specs.Node.{KeptValue, HasOnlyRead}
 use Rattle.node_core.proofs.SourceLemmas.{kept-on, counts-blocks, tells-kept, has-looked}
@@ -30,7 +31,7 @@ returns-clause-looked g c =
     (has-looked c.args.kept.now c.block.new.blocks.tree.now.entries c.args.cache.now _ (ap (λ it. it.entries) c.block.ensures.read.loans ∙ same) content
     (g.met.D.Disk.content_rests _ _ content).reads c.requires.own c.block.new.blocks.kept (ap (λ it. it.most) loans ∙ ap (λ (it : CacheValue). it.most) c.new-store.ensures.cache) c.block.ensures.read.damage
     (after_still (ap g.D.Disk.faults c.new-store.ensures.disk) c.block.ensures.read.cause)
-    (λ other. c.block.ensures.read.found other ∙ ap (λ (it : CacheValue). it.damages) c.new-store.ensures.cache)))
+    (finds_after (ap (λ (it : CacheValue). it.damages) c.new-store.ensures.cache) c.block.ensures.read.found)))
 
 pub returns-clause-block : goal.returns-clause-block
 returns-clause-block g c = λ some.

@@ -3,6 +3,7 @@ use Rattle.outside.proofs.Endings.{after_still}
 use Rattle.chain_tree.specs.Entries.{TreeValue}
 use Rattle.chain_tree.specs.Told.{blocks_of}
 use Rattle.block_judge.specs.Stops.{read_stop_of}
+use Rattle.chain_tree.proofs.ReadLemmas.{finds_after}
 use Rattle.block_store.specs.Held.{CacheValue}
 use Rattle.node_core.specs.Node.{KeptValue, HasOnlyRead}
 use Rattle.node_core.proofs.SourceLemmas.{kept-on, counts-blocks, tells-joined, has-looked}
@@ -30,7 +31,7 @@ returns-clause-looked g c =
     (has-looked c.args.kept.now c.check.new.blocks.tree.now.entries c.args.cache.now _ (ap (λ it. it.entries) c.check.ensures.read.loans ∙ same) content
     (g.met.D.Disk.content_rests _ _ content).reads c.requires.own c.check.new.blocks.kept (ap (λ it. it.most) loans ∙ ap (λ (it : CacheValue). it.most) c.new-store.ensures.cache) c.check.ensures.read.damage
     (after_still (ap g.D.Disk.faults c.new-store.ensures.disk) c.check.ensures.read.cause)
-    (λ other. c.check.ensures.read.found other ∙ ap (λ (it : CacheValue). it.damages) c.new-store.ensures.cache)))
+    (finds_after (ap (λ (it : CacheValue). it.damages) c.new-store.ensures.cache) c.check.ensures.read.found)))
 
 pub returns-clause-passes : goal.returns-clause-passes
 returns-clause-passes g c told joined =

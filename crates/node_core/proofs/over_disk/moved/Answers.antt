@@ -4,6 +4,7 @@ use Rattle.outside.proofs.Endings.{after_still}
 use Rattle.chain_tree.specs.Entries.{TreeValue}
 use Rattle.chain_tree.specs.Reading.{stop_of}
 use Rattle.chain_tree.specs.Told.{blocks_of}
+use Rattle.chain_tree.proofs.ReadLemmas.{finds_after}
 use Rattle.block_store.specs.Held.{CacheValue}
 use Rattle.node_core.specs.Node.{KeptValue, HasOnlyRead}
 use Rattle.node_core.proofs.SourceLemmas.{kept-on, counts-blocks, tells-kept, tells-joined, has-looked}
@@ -36,7 +37,7 @@ returns-clause-looked g c =
     (has-looked c.args.kept.now c.moved.new.blocks.tree.now.entries c.args.cache.now _ (ap (λ it. it.entries) c.moved.ensures.read.loans ∙ same) content
     (g.met.D.Disk.content_rests _ _ content).reads c.requires.own c.moved.new.blocks.kept (ap (λ it. it.most) loans ∙ ap (λ (it : CacheValue). it.most) c.new-store.ensures.cache) c.moved.ensures.read.damage
     (after_still (ap g.D.Disk.faults c.new-store.ensures.disk) c.moved.ensures.read.cause)
-    (λ other. c.moved.ensures.read.found other ∙ ap (λ (it : CacheValue). it.damages) c.new-store.ensures.cache)))
+    (finds_after (ap (λ (it : CacheValue). it.damages) c.new-store.ensures.cache) c.moved.ensures.read.found)))
 
 pub returns-clause-cells : goal.returns-clause-cells
 returns-clause-cells g c told joined =

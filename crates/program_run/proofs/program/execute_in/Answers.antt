@@ -2,6 +2,7 @@ use Rattle.std.proofs.Common.{refl, subst}
 use Rattle.outside.specs.declared.disk.ReadStop.TheVariants.{DiskFault, Damaged, NoMemory}
 use Rattle.vm_defs.specs.Elf.{load_elf, segments}
 use Rattle.sys_defs.specs.Answer.{syscall}
+use Rattle.vm_sys.proofs.Exits.{finds-none}
 use Rattle.program_run.specs.Program.{IsStarted}
 use Rattle.program_run.specs.declared.program.Started.TheVariants as started
 use Rattle.program_run.proofs.ProgramLemmas.{bad-elf-came, bad-elf-judged, counts-none, no-error, not-running, on-err, ready-came, ready-judged, ready-paid, ready-wants, ready-within, spent-came, spent-judged}
@@ -43,7 +44,7 @@ returns-in-Ok-Spent g c =
       loading = λ err. absurd (no-error _ _ err);
       running = λ items told err. absurd (no-error _ _ err);
       cause = counts-none _ _ (no-error _ _);
-      answered = λ none. refl;
+      answered = finds-none _ (λ damage. no-error _ _);
       undamaged = λ told damage. no-error _ _;
       damage = λ damage err. absurd (no-error _ _ err);
     }
@@ -63,7 +64,7 @@ returns-in-Ok-BadElf g c =
       loading = λ err. absurd (no-error _ _ err);
       running = λ items told err. absurd (no-error _ _ err);
       cause = counts-none _ _ (no-error _ _);
-      answered = λ none. refl;
+      answered = finds-none _ (λ damage. no-error _ _);
       undamaged = λ told damage. no-error _ _;
       damage = λ damage err. absurd (no-error _ _ err);
     }
@@ -79,7 +80,7 @@ returns-in-Err g c = record {
   loading = λ is. refl;
   running = λ items told is. absurd (not-running NoMemory is);
   cause = counts-none _ _ (not-running DiskFault);
-  answered = λ none. refl;
+  answered = finds-none _ (λ damage. not-running (Damaged damage));
   undamaged = λ told damage is. not-running (Damaged damage) is;
   damage = λ damage is. absurd (not-running (Damaged damage) is);
 }

@@ -1,6 +1,7 @@
 use Rattle.std.proofs.Common.{ℕ, ap, ◌∙◌}
 use Rattle.std.specs.Prelude.{Ok}
 use Rattle.outside.specs.declared.disk.ReadStop.TheVariants.{DiskFault, Damaged, NoMemory}
+use Rattle.vm_sys.proofs.Exits.{finds-as}
 use Rattle.program_run.proofs.ProgramLemmas.{counts-as, no-error, not-loading, same-running, same-stop}
 use Rattle.program_run.proofs.program.run_started.Goals as goal
 
@@ -14,7 +15,7 @@ returns-in-Ok g c = record {
   loading = no-error _ _;
   running = λ items told is. absurd (no-error _ _ is);
   cause = counts-as (λ is. absurd (no-error _ _ is)) (λ is. absurd (no-error _ _ is)) c.in-Ok.ensures.cause;
-  answered = λ none. c.in-Ok.ensures.answered (λ damage is last. no-error _ _ is);
+  answered = finds-as (λ damage is. absurd (no-error _ _ is)) (λ damage is. absurd (no-error _ _ is)) c.in-Ok.ensures.answered;
   undamaged = λ told damage. no-error _ _;
   damage = λ damage is. absurd (no-error _ _ is);
 }
@@ -29,7 +30,7 @@ returns g c = record {
   loading = not-loading c.in-Err.stop;
   running = λ items told running. c.in-Err.ensures.wants items told (same-stop c.in-Err.stop NoMemory running);
   cause = counts-as (same-running c.in-Err.stop DiskFault) (same-stop c.in-Err.stop DiskFault) c.in-Err.ensures.cause;
-  answered = λ none. c.in-Err.ensures.answered (λ damage is. none damage (same-running c.in-Err.stop (Damaged damage) is));
+  answered = finds-as (λ damage. same-running c.in-Err.stop (Damaged damage)) (λ damage. same-stop c.in-Err.stop (Damaged damage)) c.in-Err.ensures.answered;
   undamaged = λ told damage is. c.in-Err.ensures.undamaged told damage (same-stop c.in-Err.stop (Damaged damage) is);
   damage = λ damage is. c.in-Err.ensures.damage damage (same-stop c.in-Err.stop (Damaged damage) is);
 }

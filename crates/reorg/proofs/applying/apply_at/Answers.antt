@@ -1,4 +1,4 @@
-use Rattle.std.proofs.Common.{◌≡◌, refl, sym, ap, ◌∙◌, subst, arith}
+use Rattle.std.proofs.Common.{◌≡◌, sym, ap, ◌∙◌, subst, arith}
 use Rattle.codec_defs.specs.Schema.{Block}
 use Rattle.cell_defs.specs.Events.{events_of_block}
 use Rattle.cell_defs.specs.Row.{row_after}
@@ -6,10 +6,10 @@ use Rattle.cell_defs.specs.Fit.{are_live, AllFit}
 use Rattle.cell_laws.proofs.FitLemmas.{found-same}
 use Rattle.cell_state.specs.State.{rows}
 use Rattle.outside.proofs.Endings.{handed, no_answer, memory_undamaged, is_told}
-use Rattle.chain_tree.proofs.ReadLemmas.{read_short, read_wrong}
+use Rattle.chain_tree.proofs.ReadLemmas.{same_stop, read_on, read_short}
 use Rattle.reorg.proofs.BelowLemmas.{below-same, after-below}
 use Rattle.reorg.proofs.RowLemmas.{row_after-same}
-use Rattle.reorg.proofs.FitLemmas.{told-block, none-odd, at-record}
+use Rattle.reorg.proofs.FitLemmas.{told-block, none-odd}
 use Rattle.reorg.proofs.applying.apply_at.Goals as goal
 
 pub returns-in-Err : goal.returns-in-Err
@@ -74,7 +74,7 @@ returns-in-Ok-apply g c = record {
 
 pub returns : goal.returns
 returns g c = record {
-  read = read_wrong c.damage_at.result refl c.damage_at.ensures.area c.in-Ok.ensures.read;
+  read = read_on c.in-Ok.ensures.read c.damaged_at.ensures.read;
   rows = λ stored b tells there. tt;
   below = λ end less are. tt;
   fit = λ stored b tells there. tt;
@@ -85,7 +85,7 @@ returns g c = record {
       (found-same (events_of_block height c.block-block.result) (rows c.args.state.now) (rows c.reserve.new.self) c.in-Ok-reserve.ensures.rows
       (subst (λ (x : Block). AllFit (events_of_block height x) (are_live (rows c.args.state.now))) (sym is) fit))
       (c.in-Err-apply.ensures.odd height above);
-  at_record = λ tells damage same. at-record c.args.tree.now.entries c.args.place c.damage_at.result damage c.damage_at.ensures.at same;
+  at_record = λ tells damage same. c.damaged_at.ensures.at_record damage (same_stop _ _ same);
   steps = tt;
   most = let one = c.in-Err-apply.ensures.steps in omega (arith, one);
 }

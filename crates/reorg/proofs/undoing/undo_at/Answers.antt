@@ -2,13 +2,13 @@ use Rattle.std.proofs.Common.{◌≡◌, true, sym, ap, ◌∙◌}
 use Rattle.std.specs.List.{list_all}
 use Rattle.std.proofs.lemmas.Bool.{false≢true}
 use Rattle.chain_tree.specs.Told.{Stored}
+use Rattle.chain_tree.proofs.ReadLemmas.{same_stop, read_on}
 use Rattle.cell_defs.specs.Events.{events_of_block}
 use Rattle.cell_defs.specs.Ext.{Ext}
 use Rattle.undo_defs.specs.Undo.{undone}
 use Rattle.cell_state.specs.State.{rows}
 use Rattle.reorg.specs.Moves.{is_below}
 use Rattle.reorg.proofs.BelowLemmas.{below-same, spent-below, undone-below}
-use Rattle.reorg.proofs.FitLemmas.{at-record}
 use Rattle.reorg.proofs.ToldLemmas.{told-it, same-ext, comes-back}
 use Rattle.reorg.proofs.undoing.undo_at.Goals as goal
 
@@ -33,8 +33,16 @@ returns-clause-undamaged g c stored it before tells there can under damage same 
     (comes-back it.block c.block-block.result it.ext (rows c.args.state.now) (rows c.reserve.new.self) before can _ block own c.in-Ok-reserve.ensures.rows)).0)
 
 pub returns-clause-at_record : goal.returns-clause-at_record
-returns-clause-at_record g c tells damage same =
-    at-record c.args.tree.now.entries c.args.place c.damage_at-in-Err-undo.result damage c.damage_at-in-Err-undo.ensures.at same
+returns-clause-at_record g c tells damage same = c.damaged_at-in-Err-undo.ensures.at_record damage (same_stop _ _ same)
+
+pub returns-clause-read : goal.returns-clause-read
+returns-clause-read g c = read_on c.in-Ok.ensures.read c.damaged_at-in-Err-undo.ensures.read
+
+pub returns-then-not-are_below-clause-read : goal.returns-then-not-are_below-clause-read
+returns-then-not-are_below-clause-read g c = read_on c.in-Ok.ensures.read c.damaged_at.ensures.read
+
+pub returns-then-not-are_below-clause-at_record : goal.returns-then-not-are_below-clause-at_record
+returns-then-not-are_below-clause-at_record g c tells damage same = c.damaged_at.ensures.at_record damage (same_stop _ _ same)
 
 pub returns-then-not-are_below-clause-undamaged : goal.returns-then-not-are_below-clause-undamaged
 returns-then-not-are_below-clause-undamaged g c stored it before tells there can under damage same =

@@ -1,5 +1,7 @@
-use Rattle.std.proofs.Common.{refl}
-use Rattle.chain_tree.proofs.ReadLemmas.{read_wrong}
+use Rattle.std.proofs.Common.{Some, ap}
+use Rattle.outside.specs.declared.disk.ReadStop.{ReadStop}
+use Rattle.outside.proofs.Endings.{handed, is_told, no_answer}
+use Rattle.chain_tree.proofs.ReadLemmas.{same_stop, read_on}
 use Rattle.rewards.proofs.BranchLemmas.{paid-in_hand, no_fee}
 use Rattle.rewards.proofs.fees.committed_at.Goals as goal
 
@@ -11,7 +13,19 @@ returns-then-ids-fee_count-clause-sum g c spec stored tells =
     c.place_at-place.ensures.later c.place_at-place.ensures.of_blocks c.ids-ids.ensures c.spent-ext.ensures.ext))
 
 pub returns-then-ids-fee_count-clause-read : goal.returns-then-ids-fee_count-clause-read
-returns-then-ids-fee_count-clause-read g c = read_wrong _ c.damaged.ensures refl c.in-Ok.ensures.read
+returns-then-ids-fee_count-clause-read g c = read_on c.in-Ok.ensures.read c.damaged_at.ensures.read
+
+pub returns-in-Err-clause-of_block : goal.returns-in-Err-clause-of_block
+returns-in-Err-clause-of_block g c stored tells damage same =
+    absurd (c.in-Err.ensures.undamaged (is_told _ stored tells) damage (handed c.in-Err.stop _ same))
+
+pub returns-then-ids-fee_count-clause-of_block : goal.returns-then-ids-fee_count-clause-of_block
+returns-then-ids-fee_count-clause-of_block g c stored tells damage same =
+    let is = same_stop _ _ same in
+    (c.damaged_at.ensures.read.damage damage (ap (λ (stop : ReadStop). Some stop) is), (c.place_at-place.result, c.damaged_at.ensures.at_record damage is))
+
+pub returns-clause-of_block : goal.returns-clause-of_block
+returns-clause-of_block g c stored tells damage same = absurd (no_answer _ _ same)
 
 pub returns-clause-sum : goal.returns-clause-sum
 returns-clause-sum g c spec stored tells =

@@ -6,6 +6,7 @@ use Rattle.time_defs.specs.Dao.{as_u64}
 use Rattle.chain_defs.specs.Branch.{branch}
 use Rattle.chain_tree.specs.Told.{blocks_of}
 use Rattle.reward_defs.specs.Reward.{proposer_part}
+use Rattle.outside.proofs.Endings.{no_answer}
 use Rattle.chain_tree.proofs.ReadLemmas.{unread, read_on}
 use Rattle.rewards.proofs.ReadLemmas.{tells_still}
 use Rattle.rewards.proofs.StartLemmas.{window-order}
@@ -36,12 +37,14 @@ commits-preserved g c = record {
 pub returns-in-Err : goal.returns-in-Err
 returns-in-Err g c = record {
   read = read_on c.commits.invariant.read c.in-Err.ensures.read;
+  of_block = λ stored tells. c.in-Err.ensures.of_block stored (c.commits.invariant.read.told ∙ tells);
   sum = λ stored tells starts. c.in-Err.ensures.sum c.args.spec.now stored (tells_still c.commits.invariant.read.told tells);
 }
 
 pub returns : goal.returns
 returns g c = record {
   read = c.commits.invariant.read;
+  of_block = λ stored tells damage same. absurd (no_answer _ _ same);
   sum = λ stored tells starts.
       let close : c.from.result ≡ c.args.spec.now.w_close = c.from.ensures ∙ ap (λ spec. spec.w_close) c.spec.view_is in
       let far : c.from-2.result ≡ c.args.spec.now.w_far = c.from-2.ensures ∙ ap (λ spec. spec.w_far) c.spec.view_is in

@@ -5,6 +5,7 @@ use Rattle.time_defs.specs.Dao.{as_u64}
 use Rattle.chain_defs.specs.Branch.{branch}
 use Rattle.chain_tree.specs.Told.{blocks_of}
 use Rattle.chain_tree.proofs.EntryLemmas.{there-within}
+use Rattle.outside.proofs.Endings.{handed, no_answer}
 use Rattle.chain_tree.proofs.ReadLemmas.{read_on}
 use Rattle.rewards.proofs.ReadLemmas.{tells_still}
 use Rattle.rewards.proofs.BranchLemmas.{ids-there}
@@ -38,3 +39,19 @@ returns-clause-sum g c stored tells =
     (ids-there (blocks_of stored) c.args.tree.now.entries c.args.parent c.args.height c.place_at-place.result c.deref.result.now tells.indexes
     (there-within c.args.tree.now.entries c.args.parent _ c.requires.far) (c.place_at-place.ensures.of_blocks (blocks_of stored) tells.indexes)
     (c.in-Ok.ensures.ids stored tells.is ∙ ap (λ (l : List (List ℕ)). Some l) (sym c.deref.ensures.value)))
+
+-- ---- What is damaged
+
+pub returns-in-Err-clause-of_block : goal.returns-in-Err-clause-of_block
+returns-in-Err-clause-of_block g c stored tells damage same = absurd (c.in-Err.ensures.undamaged stored tells damage (handed c.in-Err.stop _ same))
+
+pub returns-then-is_empty-clause-of_block : goal.returns-then-is_empty-clause-of_block
+returns-then-is_empty-clause-of_block g c stored tells damage same = absurd (no_answer _ _ same)
+
+pub returns-in-Ok-starts_at-clause-of_block : goal.returns-in-Ok-starts_at-clause-of_block
+returns-in-Ok-starts_at-clause-of_block g c stored tells =
+    c.proposed_after.ensures.of_block stored (c.in-Ok-starts_at.ensures.read.told ∙ c.in-Ok.ensures.read.told ∙ tells)
+
+pub returns-clause-of_block : goal.returns-clause-of_block
+returns-clause-of_block g c stored tells damage same =
+    absurd (c.in-Err-starts_at.ensures.undamaged stored (c.in-Ok.ensures.read.told ∙ tells) damage (handed c.in-Err-starts_at.stop _ same))

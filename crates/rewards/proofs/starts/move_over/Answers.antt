@@ -5,6 +5,7 @@ use Rattle.chain_defs.specs.Branch.{branch}
 use Rattle.chain_tree.specs.Told.{blocks_of}
 use Rattle.chain_tree.proofs.EntryLemmas.{there-within}
 use Rattle.proposal_window.proofs.BranchLemmas.{proposes-at-place}
+use Rattle.outside.proofs.Endings.{no_answer}
 use Rattle.chain_tree.proofs.ReadLemmas.{unread, read_on}
 use Rattle.rewards.proofs.StartLemmas.{AreMoved, moved-first, moved-by, moved-next, window-order, starts-all}
 use Rattle.rewards.proofs.starts.move_over.Goals as goal
@@ -32,12 +33,14 @@ lower-preserved g c = record {
 pub returns-in-Err : goal.returns-in-Err
 returns-in-Err g c = record {
   read = read_on c.lower.invariant.read c.in-Err.ensures.read;
+  undamaged = λ stored tells. c.in-Err.ensures.undamaged stored (c.lower.invariant.read.told ∙ tells);
   starts = λ stored tells indexes starts. c.in-Err.ensures.moved stored (c.lower.invariant.read.told ∙ tells);
 }
 
 pub returns : goal.returns
 returns g c = record {
   read = c.lower.invariant.read;
+  undamaged = λ stored tells damage same. no_answer _ _ same;
   starts = λ stored tells indexes starts.
       let close : c.from.result ≡ c.args.spec.now.w_close = c.from.ensures ∙ ap (λ spec. spec.w_close) c.spec.view_is in
       let far : c.from-far.result ≡ c.args.spec.now.w_far = c.from-far.ensures ∙ ap (λ spec. spec.w_far) c.spec.view_is in

@@ -4,14 +4,20 @@ use Rattle.script_defs.specs.Outcome.{first_without_code, run_from}
 use Rattle.script_run.specs.Running.{IsOutcome}
 use Rattle.script_run.specs.Shown.{GroupValue, HasItsHash}
 use Rattle.script_run.proofs.ShowingLemmas.{shown-over}
-use Rattle.chain_tree.proofs.ReadLemmas.{unread, read_then}
+use Rattle.chain_tree.proofs.ReadLemmas.{unread}
 use Rattle.script_run.proofs.ReadLemmas.{not-there, some-stop}
 use Rattle.script_run.proofs.RunningLemmas.{groups_in, deps-shown, first-fails, all-run}
 use Rattle.script_run.proofs.running.run_shown.Goals as goal
 
+pub report-requires : goal.report-requires
+report-requires g c = record {
+  area = λ damage is. c.in-Err.ensures.damage damage (ap Err is);
+  no_fault = λ is. c.in-Err.ensures.unread (ap Err is);
+}
+
 pub returns-in-Err : goal.returns-in-Err
 returns-in-Err g c = record {
-  read = read_then (Err c.in-Err.stop) c.in-Err.ensures.damage c.in-Err.ensures.unread (unread c.args.blocks.now);
+  read = c.report.ensures.read;
   within = tt;
   exact = λ stored scene tells there. tt;
   inputs = λ none. absurd (not-there _ c.in-Err.stop (sym none) refl);

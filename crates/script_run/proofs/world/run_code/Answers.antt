@@ -28,7 +28,8 @@ returns-in-Err-Running-clause-read g c =
       damage = λ damage same. c.execute_in-came.ensures.damage damage (is ∙ ap (λ (it : ReadStop). Err (Running it)) (some-stop _ _ same));
       cause = search rules;
       found = found-through g.B.Blocks.damages c.args.blocks.now _ c.execute_in-came.new.world.blocks.now (Some stop) (search rules)
-          (λ none. c.execute_in-came.ensures.answered (λ damage same last. none damage (running-stop stop _ (sym is ∙ same)) last));
+          (λ damage same. is ∙ ap (λ (it : ReadStop). Err (Running it)) (some-stop _ _ same)) (λ damage same. running-stop stop _ (sym is ∙ same))
+          c.execute_in-came.ensures.answered;
     }
 
 pub returns-in-Ok-clause-read : goal.returns-in-Ok-clause-read
@@ -39,7 +40,7 @@ returns-in-Ok-clause-read g c = record {
   damage = λ damage same. absurd (no_stop (Damaged damage) same);
   cause = search rules;
   found = found-through g.B.Blocks.damages c.args.blocks.now _ c.execute_in-came.new.world.blocks.now None (search rules)
-      (λ none. c.in-Ok.ensures.answered (λ damage same last. no-error _ _ same));
+      (λ damage same. absurd (no_stop (Damaged damage) same)) (λ damage same. absurd (no-error _ _ same)) c.in-Ok.ensures.answered;
 }
 
 pub returns-in-Err-Loading-clause-read : goal.returns-in-Err-Loading-clause-read
@@ -52,5 +53,6 @@ returns-in-Err-Loading-clause-read g c =
       damage = λ damage same. absurd (no_memory_damage damage same);
       cause = search rules;
       found = found-through g.B.Blocks.damages c.args.blocks.now _ c.execute_in-came.new.world.blocks.now (Some NoMemory) (search rules)
-          (λ none. c.execute_in-came.ensures.answered (λ damage same last. loading-unread (Damaged damage) (sym is ∙ same)));
+          (λ damage same. absurd (no_memory_damage damage same)) (λ damage same. absurd (loading-unread (Damaged damage) (sym is ∙ same)))
+          c.execute_in-came.ensures.answered;
     }

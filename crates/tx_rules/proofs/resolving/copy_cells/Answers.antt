@@ -12,10 +12,9 @@ use Rattle.tx_rules.specs.Copying.{row_in, CopiesItsRow, HoldsOutput}
 use Rattle.tx_rules.specs.Outcome.{Copies}
 use Rattle.tx_rules.specs.Steps.{paying_rules}
 use Rattle.chain_tree.proofs.ReadLemmas.{read_on}
-use Rattle.tx_rules.proofs.Endings.{read_stopped}
 use Rattle.tx_rules.proofs.SiteLemmas.{inputs-seen, deps-seen}
 use Rattle.tx_rules.proofs.RuleLemmas.{read-stops}
-use Rattle.tx_rules.proofs.RowRuleLemmas.{later-read, later-stops}
+use Rattle.tx_rules.proofs.RowRuleLemmas.{later-read}
 use Rattle.tx_rules.proofs.resolving.copy_cells.Goals as goal
 
 pub paid_by-requires-clause-each : goal.paid_by-requires-clause-each
@@ -42,8 +41,7 @@ returns-in-Err g c = record {
 
 pub returns-in-Err-paid_by : goal.returns-in-Err-paid_by
 returns-in-Err-paid_by g c = record {
-  read = read_stopped true c.in-Err-paid_by.stop (later-stops true c.in-Err-paid_by.stop c.in-Err-paid_by.ensures.later)
-      c.in-Err-paid_by.ensures.unread c.in-Ok.ensures.read;
+  read = read_on c.in-Ok.ensures.read c.report.ensures.read;
   fits = tt;
   later = c.in-Err-paid_by.ensures.later;
   judged = λ stored rows site told is found.

@@ -5,7 +5,7 @@ use Rattle.tx_defs.specs.Resolving.{inputs, deps}
 use Rattle.tx_rules.specs.At.{find_row, found_row}
 use Rattle.tx_rules.specs.Steps.{spending_rules, naming_rules, using_rules}
 use Rattle.tx_rules.proofs.AllThere.{all_there-long}
-use Rattle.chain_tree.proofs.ReadLemmas.{unread}
+use Rattle.chain_tree.proofs.ReadLemmas.{unread, read_on}
 use Rattle.tx_rules.proofs.Endings.{read_stopped}
 use Rattle.tx_rules.proofs.RuleLemmas.{rows-named, spent-inputs, stops-front, stops-back, keeps-all}
 use Rattle.tx_rules.proofs.RowRuleLemmas.{later-stops, follows-on, follows-behind}
@@ -19,7 +19,7 @@ try_cells-requires-clause-each g c =
 
 pub returns-in-Err : goal.returns-in-Err
 returns-in-Err g c = record {
-  read = read_stopped c.args.proposed c.in-Err.stop c.in-Err.ensures.stops c.in-Err.ensures.unread (unread c.args.blocks.now);
+  read = read_stopped c.in-Err.stop c.in-Err.ensures.undamaged c.in-Err.ensures.unread (unread c.args.blocks.now);
   stops = c.in-Err.ensures.stops;
   by_rows = follows-on c.args.proposed (g.C.Cells.rows c.args.cells.now) c.args.tx.now c.in-Err.stop c.in-Err.ensures.by_rows;
   judged = λ stored site told is.
@@ -48,8 +48,7 @@ returns-in-Err-named_rows g c = record {
 
 pub returns-in-Err-try_cells : goal.returns-in-Err-try_cells
 returns-in-Err-try_cells g c = record {
-  read = read_stopped c.args.proposed c.in-Err-try_cells.stop
-      (later-stops c.args.proposed c.in-Err-try_cells.stop c.in-Err-try_cells.ensures.later) c.in-Err-try_cells.ensures.unread c.in-Ok-named_rows.ensures.read;
+  read = read_on c.in-Ok-named_rows.ensures.read c.report.ensures.read;
   stops = later-stops c.args.proposed c.in-Err-try_cells.stop c.in-Err-try_cells.ensures.later;
   by_rows = follows-behind c.args.proposed (g.C.Cells.rows c.args.cells.now) c.args.tx.now c.in-Ok.spent _ c.in-Ok.ensures.by_rows c.in-Err-try_cells.ensures.later;
   judged = λ stored site told is.

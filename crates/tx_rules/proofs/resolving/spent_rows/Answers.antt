@@ -1,11 +1,11 @@
 use Rattle.std.proofs.Common.{◌≡◌, true, false, Some, None, sym, ap, ◌∙◌}
 use Rattle.std.specs.Prelude.{is_some}
-use Rattle.outside.specs.declared.disk.ReadStop.TheVariants.{DiskFault}
+use Rattle.outside.specs.declared.disk.ReadStop.TheVariants.{DiskFault, Damaged}
 use Rattle.tx_defs.specs.Rules.{has_form}
 use Rattle.tx_defs.specs.Resolving.{spends_each_once}
 use Rattle.tx_rules.specs.At.{spends_rows, input_rows}
 use Rattle.outside.proofs.Endings.{no_answer}
-use Rattle.tx_rules.proofs.Endings.{broken_unread, memory_unread}
+use Rattle.tx_rules.proofs.Endings.{broken_unread, memory_unread, memory_no_damage}
 use Rattle.tx_rules.proofs.RuleLemmas.{no-form, not-proposed, spends-badly, spends-well, spends-by-rows}
 use Rattle.tx_rules.proofs.RowRuleLemmas.{tried-18, tried-19, tried-20, twice-lost, once-named, follows-memory, follows-form, follows-unproposed, follows-lost, follows-kept}
 use Rattle.tx_rules.proofs.resolving.spent_rows.Goals as goal
@@ -17,6 +17,7 @@ returns-in-Ok-false g c =
       stops = tried-18 c.args.proposed;
       by_rows = follows-form c.args.proposed (g.C.Cells.rows c.args.cells.now) c.args.tx.now form;
       unread = broken_unread DiskFault;
+      undamaged = λ damage. broken_unread (Damaged damage);
       judged = λ stored at site is. no-form c.args.proposed site c.args.tx.now form;
       form = tt;
       rows = tt;
@@ -27,6 +28,7 @@ returns-in-Err g c = record {
   stops = tt;
   by_rows = follows-memory c.args.proposed (g.C.Cells.rows c.args.cells.now) c.args.tx.now;
   unread = memory_unread;
+  undamaged = memory_no_damage;
   judged = λ stored at site is. tt;
   form = tt;
   rows = tt;
@@ -39,6 +41,7 @@ returns-then-not-proposed g c =
       stops = tried-19 c.args.proposed c.if-not-proposed.true;
       by_rows = follows-unproposed c.args.proposed (g.C.Cells.rows c.args.cells.now) c.args.tx.now form c.if-not-proposed.true;
       unread = broken_unread DiskFault;
+      undamaged = λ damage. broken_unread (Damaged damage);
       judged = λ stored at site is. not-proposed c.args.proposed site c.args.tx.now form c.if-not-proposed.true;
       form = tt;
       rows = tt;
@@ -53,6 +56,7 @@ returns-in-Ok-false-are_inputs_distinct g c =
       stops = tried-20 c.args.proposed;
       by_rows = follows-lost c.args.proposed (g.C.Cells.rows c.args.cells.now) c.args.tx.now form c.if-not-proposed.false lost;
       unread = broken_unread DiskFault;
+      undamaged = λ damage. broken_unread (Damaged damage);
       judged = λ stored at site is. spends-badly c.args.proposed site c.args.tx.now form c.if-not-proposed.false (spends-by-rows stored at (g.C.Cells.rows c.args.cells.now) site c.args.tx.now is ∙ lost);
       form = tt;
       rows = tt;
@@ -63,6 +67,7 @@ returns-in-Err-are_inputs_distinct g c = record {
   stops = tt;
   by_rows = follows-memory c.args.proposed (g.C.Cells.rows c.args.cells.now) c.args.tx.now;
   unread = memory_unread;
+  undamaged = memory_no_damage;
   judged = λ stored at site is. tt;
   form = tt;
   rows = tt;
@@ -79,6 +84,7 @@ returns-in-Ok-Some g c =
       stops = tt;
       by_rows = follows-kept c.args.proposed (g.C.Cells.rows c.args.cells.now) c.args.tx.now _ form c.if-not-proposed.false kept tt;
       unread = no_answer _ _;
+      undamaged = λ damage. no_answer _ _;
       judged = λ stored at site is. spends-well c.args.proposed site c.args.tx.now form c.if-not-proposed.false (spends-by-rows stored at (g.C.Cells.rows c.args.cells.now) site c.args.tx.now is ∙ kept);
       form = form;
       rows = some;
@@ -94,6 +100,7 @@ returns-in-Ok-None g c =
       stops = tried-20 c.args.proposed;
       by_rows = follows-lost c.args.proposed (g.C.Cells.rows c.args.cells.now) c.args.tx.now form c.if-not-proposed.false lost;
       unread = broken_unread DiskFault;
+      undamaged = λ damage. broken_unread (Damaged damage);
       judged = λ stored at site is. spends-badly c.args.proposed site c.args.tx.now form c.if-not-proposed.false (spends-by-rows stored at (g.C.Cells.rows c.args.cells.now) site c.args.tx.now is ∙ lost);
       form = tt;
       rows = tt;
@@ -104,6 +111,7 @@ returns-in-Err-live_inputs g c = record {
   stops = tt;
   by_rows = follows-memory c.args.proposed (g.C.Cells.rows c.args.cells.now) c.args.tx.now;
   unread = memory_unread;
+  undamaged = memory_no_damage;
   judged = λ stored at site is. tt;
   form = tt;
   rows = tt;

@@ -1,9 +1,10 @@
-use Rattle.std.proofs.Common.{inl, refl, ap, ◌∙◌, arith, rules}
+use Rattle.std.proofs.Common.{inl, refl, sym, ap, ◌∙◌, arith, rules}
+use Rattle.outside.specs.declared.disk.ReadStop.TheVariants.{Damaged}
 use Rattle.vm_defs.specs.declared.step.Step.TheVariants.{Ecall, Fault, NoMemory, Spent}
 use Rattle.sys_defs.specs.World.{Unknown}
 use Rattle.sys_defs.specs.Answer.{syscall}
 use Rattle.vm_sys.specs.Running.{outcome_of}
-use Rattle.vm_sys.proofs.Exits.{counts-none}
+use Rattle.vm_sys.proofs.Exits.{counts-none, finds-as, finds-none, outcome-stop}
 use Rattle.vm_sys.proofs.RunLemmas.{fault-advances, handled-later, no-error, spent-advances, stops-later}
 use Rattle.vm_sys.proofs.running.advance.Goals as goal
 
@@ -25,7 +26,7 @@ returns-in-Fault g c =
       later = stops-later old new.machine (Fault c.in-Fault.number) c.in-Fault.ensures.stops;
       wants = λ items told is. absurd (no-error _ _ is);
       cause = counts-none _ _ (no-error _ _);
-      answered = λ none. refl;
+      answered = finds-none _ (λ damage. no-error _ _);
       undamaged = λ told damage. no-error _ _;
       damage = λ damage is. absurd (no-error _ _ is);
       room = c.in-Fault.ensures.room (λ is. absurd cc);
@@ -44,7 +45,7 @@ returns-in-Spent g c =
       later = stops-later old new.machine Spent c.in-Spent.ensures.stops;
       wants = λ items told is. absurd (no-error _ _ is);
       cause = counts-none _ _ (no-error _ _);
-      answered = λ none. refl;
+      answered = finds-none _ (λ damage. no-error _ _);
       undamaged = λ told damage. no-error _ _;
       damage = λ damage is. absurd (no-error _ _ is);
       room = c.in-Spent.ensures.room (λ is. absurd cc);
@@ -60,7 +61,7 @@ returns-in-NoMemory g c = record {
   later = stops-later c.args.machine.now c.run.new.self.machine NoMemory c.in-NoMemory.ensures.stops;
   wants = λ items told is. inl c.in-NoMemory.ensures.stops;
   cause = counts-none _ _ (λ is. absurd cc);
-  answered = λ none. refl;
+  answered = finds-none _ (λ damage is. absurd cc);
   undamaged = λ told damage is. absurd cc;
   damage = λ damage is. absurd cc;
   room = tt;
@@ -77,4 +78,6 @@ pub returns-in-Ecall-clause-cause : goal.returns-in-Ecall-clause-cause
 returns-in-Ecall-clause-cause g c = search rules
 
 pub returns-in-Ecall-clause-answered : goal.returns-in-Ecall-clause-answered
-returns-in-Ecall-clause-answered g c = λ none. c.handle.ensures.answered (λ damage is. none damage (c.outcome_of.ensures ∙ ap outcome_of is))
+returns-in-Ecall-clause-answered g c =
+    finds-as (λ damage is. c.outcome_of.ensures ∙ ap outcome_of is) (λ damage is. outcome-stop c.handle.result (Damaged damage) (sym c.outcome_of.ensures ∙ is))
+    c.handle.ensures.answered

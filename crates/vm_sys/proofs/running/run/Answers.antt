@@ -4,7 +4,8 @@ use Rattle.outside.specs.declared.disk.ReadStop.TheVariants.{NoMemory}
 use Rattle.sys_defs.specs.Answer.{syscall}
 use Rattle.outside.proofs.Endings.{handed}
 use Rattle.sys_laws.proofs.AccountLaws.{syscalls-keep-account}
-use Rattle.vm_sys.proofs.RunLemmas.{accounts-more, accounts-none, cycles-left, ends-within, run-ends, run-wants, runs-more, runs-none}
+use Rattle.vm_sys.proofs.RunLemmas.{accounts-more, accounts-none, cycles-left, ends-within, no-error, run-ends, run-wants, runs-more, runs-none}
+use Rattle.vm_sys.proofs.Exits.{finds-after, finds-as}
 use Rattle.vm_sys.proofs.running.run.Goals as goal
 
 pub steps-init : goal.steps-init
@@ -45,7 +46,7 @@ steps-preserved g c = record {
   told = c.advance.ensures.told ∙ c.steps.invariant.told;
   loans = c.advance.ensures.loans ∙ c.steps.invariant.loans;
   faults = c.in-Ok-None.ensures.cause.unchanged (λ fault. cc) ∙ c.steps.invariant.faults;
-  damages = c.in-Ok-None.ensures.answered (λ damage is last. cc) ∙ c.steps.invariant.damages;
+  damages = c.in-Ok-None.ensures.answered.none (λ damage is. no-error _ _ is) ∙ c.steps.invariant.damages;
   accounts = accounts-more c.args.machine.now.machine c.steps.machine c.advance.new.machine c.in-Ok-None.field-0 c.steps.invariant.accounts
       c.in-Ok-None.ensures.some c.in-Ok-None.field-0-is;
   runs = λ items told.
@@ -61,7 +62,9 @@ returns-in-Err-clause-wants g c = λ items told wants.
     (c.in-Err.ensures.wants items (c.steps.invariant.told ∙ told) (ap Err stop))
 
 pub returns-in-Ok-Some-clause-answered : goal.returns-in-Ok-Some-clause-answered
-returns-in-Ok-Some-clause-answered g c = λ none. c.in-Ok-Some.ensures.answered (λ damage is last. cc) ∙ c.steps.invariant.damages
+returns-in-Ok-Some-clause-answered g c =
+    finds-after c.steps.invariant.damages (finds-as (λ damage is. absurd (no-error _ _ is)) (λ damage is. absurd (no-error _ _ is)) c.in-Ok-Some.ensures.answered)
 
 pub returns-in-Err-clause-answered : goal.returns-in-Err-clause-answered
-returns-in-Err-clause-answered g c = λ none. c.in-Err.ensures.answered (λ damage is. none damage (handed c.in-Err.stop _ is)) ∙ c.steps.invariant.damages
+returns-in-Err-clause-answered g c =
+    finds-after c.steps.invariant.damages (finds-as (λ damage. handed c.in-Err.stop _) (λ damage. handed c.in-Err.stop _) c.in-Err.ensures.answered)

@@ -5,7 +5,8 @@ use Rattle.sys_defs.specs.Answer.{asks, with_item}
 use Rattle.vm_sys.specs.declared.syscall.Sys.TheVariants.{Fault}
 use Rattle.vm_sys.specs.Answering.{IsAnswer}
 use Rattle.vm_sys.specs.Actions.{form_meaning}
-use Rattle.vm_sys.proofs.Exits.{counts-as, item-found, known-before, no-stop, none-held, same-answer, same-stop}
+use Rattle.vm_sys.proofs.Exits.{counts-as, finds-as, item-found, known-before, no-stop, none-held, same-answer, same-stop}
+use Rattle.vm_sys.proofs.RunLemmas.{no-error}
 use Rattle.vm_sys.proofs.syscall.load.Goals as goal
 
 pub returns-in-Err : goal.returns-in-Err
@@ -19,7 +20,7 @@ returns-in-Err g c = record {
       known-before _ _ items c.asked.result (asks c.args.machine.now.machine (form_meaning c.args.form)) c.in-Err.stop c.in-Err.ensures.known told c.asked.ensures wants;
   unpaid = λ stop is. refl;
   cause = counts-as (same-answer c.in-Err.stop DiskFault) (same-stop c.in-Err.stop DiskFault) c.in-Err.ensures.cause;
-  answered = λ none. c.in-Err.ensures.answered (λ damage is. none damage (same-answer c.in-Err.stop (Damaged damage) is));
+  answered = finds-as (λ damage. same-answer c.in-Err.stop (Damaged damage)) (λ damage. same-stop c.in-Err.stop (Damaged damage)) c.in-Err.ensures.answered;
   undamaged = λ told damage is. c.in-Err.ensures.undamaged told damage (same-stop c.in-Err.stop (Damaged damage) is);
   damage = λ damage is. c.in-Err.ensures.damage damage (same-stop c.in-Err.stop (Damaged damage) is);
   in_part = none-held _ _ refl;
@@ -45,7 +46,7 @@ returns-in-Unknown g c =
       wants = λ items told is. absurd (no-stop 5 NoMemory is);
       unpaid = λ stop is. absurd (no-stop 5 stop is);
       cause = counts-as (λ is. absurd cc) (λ is. absurd cc) c.in-Ok.ensures.cause;
-      answered = λ none. c.in-Ok.ensures.answered (λ damage is. absurd cc);
+      answered = finds-as (λ damage is. absurd (no-error _ _ is)) (λ damage is. absurd (no-stop 5 (Damaged damage) is)) c.in-Ok.ensures.answered;
       undamaged = λ told damage. no-stop 5 (Damaged damage);
       damage = λ damage is. absurd (no-stop 5 (Damaged damage) is);
       in_part = none-held _ _ refl;

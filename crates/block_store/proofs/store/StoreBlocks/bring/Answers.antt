@@ -3,7 +3,8 @@ use Rattle.outside.specs.Image.{Image}
 use Rattle.outside.specs.declared.disk.Damage.{Damage}
 use Rattle.outside.specs.declared.disk.ReadStop.TheVariants.{Damaged}
 use Rattle.chain_tree.specs.Entries.{entry_at}
-use Rattle.chain_tree.specs.Reading.{Findings, found_next}
+use Rattle.chain_tree.specs.Reading.{found_next}
+use Rattle.chain_tree.proofs.ReadLemmas.{no_stop, finds_none, finds_after}
 use Rattle.block_store.specs.Stored.{stored_at, known_by}
 use Rattle.block_store.proofs.StoredLemmas.{kept-counted, told-there, of_damage, in_log, failed, stopped, stopped-back, stop-is}
 use Rattle.block_store.proofs.store.StoreBlocks.bring.Goals as goal
@@ -32,8 +33,10 @@ returns-in-Err-clause-read g c =
         rose = λ is. its.cause.rose (stopped-back Unit _ _ is);
         unchanged = λ other. its.cause.unchanged (λ is. other (stopped Unit _ _ is));
       };
-      found = λ other.
-          c.note.ensures.same (λ damage is. other damage (ap (λ stop. Some stop) is) (ap (λ (found : Findings). found.last) (c.note.ensures.next damage is))) ∙ its.damages;
+      found = record {
+        named = λ damage is. c.note.ensures.next damage (stop-is _ _ (stopped-back Unit _ _ is)) ∙ ap (found_next damage) its.damages;
+        none = λ other. c.note.ensures.same (λ damage is. other damage (ap (λ stop. Some stop) is)) ∙ its.damages;
+      };
     }
 
 pub returns-in-Err-clause-undamaged : goal.returns-in-Err-clause-undamaged
@@ -41,7 +44,3 @@ returns-in-Err-clause-undamaged g c = λ told damage is.
     let it = c.args.self.now in
     told-there _ it.tree.now.entries c.args.e c.requires.within told
     (of_damage _ (λ (one : Damage). failed Unit c.in-Err.stop ≡ Err (Damaged one)) (λ image. stored_at image it.tree.now.entries c.args.e ≡ None) damage c.in-Err.ensures.missing is)
-
-pub returns-in-Err-clause-counted : goal.returns-in-Err-clause-counted
-returns-in-Err-clause-counted g c = λ damage is.
-    c.note.ensures.next damage (stop-is _ _ is) ∙ ap (found_next damage) c.in-Err.ensures.damages

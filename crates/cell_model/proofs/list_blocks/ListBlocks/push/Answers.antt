@@ -50,4 +50,4 @@ returns-clause-pushed c = λ b is.
     let stored = seen-push here.blocks.items here.exts.items _ _ c.args.block c.args.ext b c.self.invariant.0 (blocks-more c) (exts-more c) is in
     let seen : stored_from (contents here.blocks.items) (contents here.exts.items) ++ record { block = b; ext = c.args.ext.items } ∷ [] ≡ c.args.self.now.stored ++ record { block = b; ext = c.args.ext.items } ∷ [] =
     ap (λ (v : ListBlocksValue). v.stored ++ record { block = b; ext = c.args.ext.items } ∷ []) c.self.view_is in
-    (λ i. record { stored = (stored ∙ seen) i; hand = (c.self.view_is i).hand })
+    (λ i. record { stored = (stored ∙ seen) i; hand = (c.self.view_is i).hand; damages = (c.self.view_is i).damages })

@@ -10,6 +10,9 @@ use Rattle.node_core.proofs.QueryLemmas.{names-of, not-live}
 use Rattle.node_core.proofs.RecordedLemmas.{blocks-told}
 use Rattle.node_core.proofs.kept.Kept.fetch.Goals as goal
 
+pub live-requires : goal.live-requires
+live-requires g c = record { below = c.requires.below }
+
 pub fetch-requires : goal.fetch-requires
 fetch-requires g c = record {
   within = omega (arith, c.requires.below c.args.o c.in-Some.live.row (sym c.in-Some.ensures.row), ap (λ (live : LiveValue). live.row.block) c.live-2.view_is, c.requires.counts);

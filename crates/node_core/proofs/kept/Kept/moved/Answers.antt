@@ -5,7 +5,7 @@ use Rattle.codec_defs.specs.Schema.{Block}
 use Rattle.chain_defs.specs.Branch.{distance}
 use Rattle.cell_state.specs.State.{rows}
 use Rattle.chain_tree.specs.declared.entry.Entry.{Entry}
-use Rattle.reorg.specs.Damages.{IsAtRecord}
+use Rattle.chain_tree.specs.Damages.{IsAtRecord}
 use Rattle.reorg.specs.Moves.{AreOf}
 use Rattle.store_defs.specs.Store.{AreJoined}
 use Rattle.node_core.specs.Node.{KeptValue}

@@ -544,11 +544,11 @@ pub returns-in-Err-join-clause-found : goal.returns-in-Err-join-clause-found
 returns-in-Err-join-clause-found g c = tt
 
 pub returns-in-Stays-clause-found : goal.returns-in-Stays-clause-found
-returns-in-Stays-clause-found g c = c.in-Ok.ensures.looked.found (λ _ e last. not_stopped _ e) ∙ ap (λ (v : NodeValue). v.damages) c.self.view_is
+returns-in-Stays-clause-found g c = c.in-Ok.ensures.looked.found.none (λ _ e. not_stopped _ e) ∙ ap (λ (v : NodeValue). v.damages) c.self.view_is
 
 pub returns-in-Ok-join-clause-found : goal.returns-in-Ok-join-clause-found
 returns-in-Ok-join-clause-found g c =
-    c.in-Ok-join.ensures.found ∙ c.in-Ok.ensures.looked.found (λ _ e last. not_stopped _ e) ∙ ap (λ (v : NodeValue). v.damages) c.self.view_is
+    c.in-Ok-join.ensures.found ∙ c.in-Ok.ensures.looked.found.none (λ _ e. not_stopped _ e) ∙ ap (λ (v : NodeValue). v.damages) c.self.view_is
 
 -- ---- It holds as many blocks at most
 

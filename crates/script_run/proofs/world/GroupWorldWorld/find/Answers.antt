@@ -3,10 +3,11 @@ use Rattle.std.specs.Prelude.{Err}
 use Rattle.outside.specs.declared.disk.ReadStop.TheVariants.{NoMemory}
 use Rattle.sys_defs.specs.World.{Here, NoIndex, Missing, Unknown}
 use Rattle.script_run.specs.declared.bytes.Lookup.TheVariants as look
-use Rattle.script_run.specs.Lookups.{bytes_of, found_in, header_part, known_items}
+use Rattle.script_run.specs.Lookups.{bytes_of, header_part, known_items}
 use Rattle.chain_tree.specs.Reading.{stop_of}
+use Rattle.vm_sys.proofs.Exits.{finds-none}
 use Rattle.script_run.specs.Shown.{ShownTxValue}
-use Rattle.script_run.proofs.ReadLemmas.{counted-as, counted-stop, damage-no-fault, damage-no-want, damage-of-log, no-error, none-counted, not-there, some-stop}
+use Rattle.script_run.proofs.ReadLemmas.{counted-as, counted-stop, damage-no-fault, damage-no-want, damage-of-log, no-error, none-counted, not-there, some-stop, world-finds}
 use Rattle.script_run.proofs.WorldLemmas.{block-told, by-look, here-or-unknown, kept, not-broken, not-wanted}
 use Rattle.script_run.proofs.world.GroupWorldWorld.find.Goals as goal
 
@@ -21,7 +22,7 @@ returns-in-Here g c =
           (λ items. items c.args.call ≡ Here (bytes_of c.in-Here.bytes)) (λ stored scene told is. is);
       known = not-wanted (known_items world.tx.now.epoch_length world.tx.now.it world.group.now (g.B.Blocks.told world.blocks.now)) c.args.call _ (no-error _ _);
       cause = none-counted _ _ (no-error _ _);
-      answered = λ none. refl;
+      answered = finds-none _ (λ damage. no-error _ _);
       undamaged = λ _ damage is. no-error _ _ is;
       damage = λ damage is. absurd (no-error _ _ is);
     }
@@ -37,7 +38,7 @@ returns-in-NoIndex g c =
           (λ items. items c.args.call ≡ NoIndex) (λ stored scene told is. is);
       known = not-wanted (known_items world.tx.now.epoch_length world.tx.now.it world.group.now (g.B.Blocks.told world.blocks.now)) c.args.call _ (no-error _ _);
       cause = none-counted _ _ (no-error _ _);
-      answered = λ none. refl;
+      answered = finds-none _ (λ damage. no-error _ _);
       undamaged = λ _ damage is. no-error _ _ is;
       damage = λ damage is. absurd (no-error _ _ is);
     }
@@ -53,7 +54,7 @@ returns-in-Missing g c =
           (λ items. items c.args.call ≡ Missing) (λ stored scene told is. is);
       known = not-wanted (known_items world.tx.now.epoch_length world.tx.now.it world.group.now (g.B.Blocks.told world.blocks.now)) c.args.call _ (no-error _ _);
       cause = none-counted _ _ (no-error _ _);
-      answered = λ none. refl;
+      answered = finds-none _ (λ damage. no-error _ _);
       undamaged = λ _ damage is. no-error _ _ is;
       damage = λ damage is. absurd (no-error _ _ is);
     }
@@ -69,22 +70,29 @@ returns-in-Unknown g c =
           (λ items. items c.args.call ≡ Unknown) (λ stored scene told is. is);
       known = not-wanted (known_items world.tx.now.epoch_length world.tx.now.it world.group.now (g.B.Blocks.told world.blocks.now)) c.args.call _ (no-error _ _);
       cause = none-counted _ _ (no-error _ _);
-      answered = λ none. refl;
+      answered = finds-none _ (λ damage. no-error _ _);
       undamaged = λ _ damage is. no-error _ _ is;
       damage = λ damage is. absurd (no-error _ _ is);
     }
 
+pub report-requires : goal.report-requires
+report-requires g c = record {
+  area = λ damage is. damage-of-log c.damaged.result damage c.damaged.ensures (ap Err is);
+  no_fault = λ is. damage-no-fault c.damaged.result _ c.damaged.ensures (ap Err is);
+}
+
 pub returns-in-Broken : goal.returns-in-Broken
 returns-in-Broken g c =
     let world = c.args.self.now in
+    let read = c.report.ensures.read in
     record {
-      told = refl;
-      loans = refl;
+      told = ap (known_items world.tx.now.epoch_length world.tx.now.it world.group.now) read.told;
+      loans = λ t. (world.blocks.ghost_name, read.loans t, read.told t, read.count t);
       here = tt;
       found = tt;
       known = not-wanted (known_items world.tx.now.epoch_length world.tx.now.it world.group.now (g.B.Blocks.told world.blocks.now)) c.args.call _ (damage-no-want c.damaged.result _ c.damaged.ensures);
-      cause = none-counted _ _ (damage-no-fault c.damaged.result _ c.damaged.ensures);
-      answered = λ none. refl;
+      cause = counted-stop _ _ c.damaged.result read.cause;
+      answered = world-finds (λ damage is. ap Err (some-stop _ _ is)) (λ damage is. ap stop_of is) read.found;
       undamaged = λ some damage is.
           not-broken world.tx.now.epoch_length world.tx.now.it world.group.now (g.B.Blocks.told world.blocks.now) c.args.call c.look_up.result c.look_up.ensures c.in-Broken.is some;
       damage = λ damage is. damage-of-log c.damaged.result damage c.damaged.ensures is;
@@ -107,7 +115,7 @@ returns-in-Ok g c =
           k.holds ∙ ap Here (ap (λ (t : ShownTxValue). header_part t.epoch_length part k.made.block.header) (sym c.tx.view_is) ∙ sym (c.in-Ok.ensures.part stored k.made told k.there)));
       known = not-wanted (known_items world.tx.now.epoch_length world.tx.now.it world.group.now (g.B.Blocks.told world.blocks.now)) c.args.call _ (no-error _ _);
       cause = counted-as _ _ _ _ (λ is. absurd (no-error _ _ is)) (λ is. absurd (not-there _ _ refl is)) read.cause;
-      answered = λ none. ap found_in (read.found (λ damage is last. not-there _ _ refl is));
+      answered = world-finds (λ damage is. absurd (not-there _ _ refl is)) (λ damage is. absurd (no-error _ _ is)) read.found;
       undamaged = λ _ damage is. no-error _ _ is;
       damage = λ damage is. absurd (no-error _ _ is);
     }
@@ -127,7 +135,7 @@ returns-in-Err g c =
           (λ items. items c.args.call ≡ Unknown → Err c.in-Err.stop ≡ Err NoMemory → ⊥)
           (λ stored scene told is unknown no_memory. let k = kept stored place _ is in here-or-unknown _ _ k.holds unknown);
       cause = counted-stop _ _ c.in-Err.stop read.cause;
-      answered = λ none. ap found_in (read.found (λ damage is last. none damage (ap Err (some-stop _ _ is)) last));
+      answered = world-finds (λ damage is. ap Err (some-stop _ _ is)) (λ damage is. ap stop_of is) read.found;
       undamaged = λ some damage is.
           let t = block-told world.tx.now.epoch_length world.tx.now.it world.group.now (g.B.Blocks.told world.blocks.now) c.args.call c.look_up.result place part c.look_up.ensures c.in-InBlock.is some in
           c.in-Err.ensures.undamaged t.stored t.made t.told_are t.there damage (ap stop_of is);
