@@ -1,11 +1,15 @@
 // The form in which an instruction is kept.
 ghost use Rattle.std.specs.Prelude.{◌≡◌};
 ghost use Rattle.isa_defs.specs.Instruction.{FitsFormat};
-ghost use Rattle.vm_mem.specs.Kept.{IsShort, instruction_of};
+ghost use Rattle.vm_mem.specs.Kept.{IsShort, instruction_of, target_of};
 
 use rv_decode::Ins;
 
-/// An instruction as a slot keeps it: that of the same name, with its immediate in 32 bits, so that it takes 8 bytes.
+// The target in place of x0.
+const DROPPED: u8 = 32;
+
+/// An instruction as a slot keeps it: that of the same name, with its immediate in 32 bits, so that it takes 8 bytes. In place of
+/// the target x0 it has 32: what is written there is read by none, so that x0 need not be written.
 #[derive(Clone, Copy)]
 pub enum Kept {
     Lui { rd: u8, imm: i32 },
@@ -85,6 +89,20 @@ fn short(imm: i64) -> i32
     imm as i32
 }
 
+// The register in the place of the target.
+#[tactic(auto, unfolding(crate::specs::Kept::target_of))]
+fn target(rd: u8) -> u8
+    ensures { target_of result ≡ rd }
+{
+    if rd == 0 {
+        return DROPPED;
+    }
+    if rd == DROPPED {
+        return 0;
+    }
+    rd
+}
+
 /// The form of an instruction that fits its format.
 pub fn kept_form(ins: Ins) -> Kept
     requires { FitsFormat ins }
@@ -92,19 +110,19 @@ pub fn kept_form(ins: Ins) -> Kept
 {
     match ins {
         Ins::Lui { rd, imm } => Kept::Lui {
-            rd,
+            rd: target(rd),
             imm: short(imm),
         },
         Ins::Auipc { rd, imm } => Kept::Auipc {
-            rd,
+            rd: target(rd),
             imm: short(imm),
         },
         Ins::Jal { rd, imm } => Kept::Jal {
-            rd,
+            rd: target(rd),
             imm: short(imm),
         },
         Ins::Jalr { rd, rs1, imm } => Kept::Jalr {
-            rd,
+            rd: target(rd),
             rs1,
             imm: short(imm),
         },
@@ -139,37 +157,37 @@ pub fn kept_form(ins: Ins) -> Kept
             imm: short(imm),
         },
         Ins::Lb { rd, rs1, imm } => Kept::Lb {
-            rd,
+            rd: target(rd),
             rs1,
             imm: short(imm),
         },
         Ins::Lh { rd, rs1, imm } => Kept::Lh {
-            rd,
+            rd: target(rd),
             rs1,
             imm: short(imm),
         },
         Ins::Lw { rd, rs1, imm } => Kept::Lw {
-            rd,
+            rd: target(rd),
             rs1,
             imm: short(imm),
         },
         Ins::Ld { rd, rs1, imm } => Kept::Ld {
-            rd,
+            rd: target(rd),
             rs1,
             imm: short(imm),
         },
         Ins::Lbu { rd, rs1, imm } => Kept::Lbu {
-            rd,
+            rd: target(rd),
             rs1,
             imm: short(imm),
         },
         Ins::Lhu { rd, rs1, imm } => Kept::Lhu {
-            rd,
+            rd: target(rd),
             rs1,
             imm: short(imm),
         },
         Ins::Lwu { rd, rs1, imm } => Kept::Lwu {
-            rd,
+            rd: target(rd),
             rs1,
             imm: short(imm),
         },
@@ -194,98 +212,210 @@ pub fn kept_form(ins: Ins) -> Kept
             imm: short(imm),
         },
         Ins::Addi { rd, rs1, imm } => Kept::Addi {
-            rd,
+            rd: target(rd),
             rs1,
             imm: short(imm),
         },
         Ins::Slti { rd, rs1, imm } => Kept::Slti {
-            rd,
+            rd: target(rd),
             rs1,
             imm: short(imm),
         },
         Ins::Sltiu { rd, rs1, imm } => Kept::Sltiu {
-            rd,
+            rd: target(rd),
             rs1,
             imm: short(imm),
         },
         Ins::Xori { rd, rs1, imm } => Kept::Xori {
-            rd,
+            rd: target(rd),
             rs1,
             imm: short(imm),
         },
         Ins::Ori { rd, rs1, imm } => Kept::Ori {
-            rd,
+            rd: target(rd),
             rs1,
             imm: short(imm),
         },
         Ins::Andi { rd, rs1, imm } => Kept::Andi {
-            rd,
+            rd: target(rd),
             rs1,
             imm: short(imm),
         },
         Ins::Slli { rd, rs1, imm } => Kept::Slli {
-            rd,
+            rd: target(rd),
             rs1,
             imm: short(imm),
         },
         Ins::Srli { rd, rs1, imm } => Kept::Srli {
-            rd,
+            rd: target(rd),
             rs1,
             imm: short(imm),
         },
         Ins::Srai { rd, rs1, imm } => Kept::Srai {
-            rd,
+            rd: target(rd),
             rs1,
             imm: short(imm),
         },
         Ins::Addiw { rd, rs1, imm } => Kept::Addiw {
-            rd,
+            rd: target(rd),
             rs1,
             imm: short(imm),
         },
         Ins::Slliw { rd, rs1, imm } => Kept::Slliw {
-            rd,
+            rd: target(rd),
             rs1,
             imm: short(imm),
         },
         Ins::Srliw { rd, rs1, imm } => Kept::Srliw {
-            rd,
+            rd: target(rd),
             rs1,
             imm: short(imm),
         },
         Ins::Sraiw { rd, rs1, imm } => Kept::Sraiw {
-            rd,
+            rd: target(rd),
             rs1,
             imm: short(imm),
         },
-        Ins::Add { rd, rs1, rs2 } => Kept::Add { rd, rs1, rs2 },
-        Ins::Sub { rd, rs1, rs2 } => Kept::Sub { rd, rs1, rs2 },
-        Ins::Sll { rd, rs1, rs2 } => Kept::Sll { rd, rs1, rs2 },
-        Ins::Slt { rd, rs1, rs2 } => Kept::Slt { rd, rs1, rs2 },
-        Ins::Sltu { rd, rs1, rs2 } => Kept::Sltu { rd, rs1, rs2 },
-        Ins::Xor { rd, rs1, rs2 } => Kept::Xor { rd, rs1, rs2 },
-        Ins::Srl { rd, rs1, rs2 } => Kept::Srl { rd, rs1, rs2 },
-        Ins::Sra { rd, rs1, rs2 } => Kept::Sra { rd, rs1, rs2 },
-        Ins::Or { rd, rs1, rs2 } => Kept::Or { rd, rs1, rs2 },
-        Ins::And { rd, rs1, rs2 } => Kept::And { rd, rs1, rs2 },
-        Ins::Mul { rd, rs1, rs2 } => Kept::Mul { rd, rs1, rs2 },
-        Ins::Mulh { rd, rs1, rs2 } => Kept::Mulh { rd, rs1, rs2 },
-        Ins::Mulhsu { rd, rs1, rs2 } => Kept::Mulhsu { rd, rs1, rs2 },
-        Ins::Mulhu { rd, rs1, rs2 } => Kept::Mulhu { rd, rs1, rs2 },
-        Ins::Div { rd, rs1, rs2 } => Kept::Div { rd, rs1, rs2 },
-        Ins::Divu { rd, rs1, rs2 } => Kept::Divu { rd, rs1, rs2 },
-        Ins::Rem { rd, rs1, rs2 } => Kept::Rem { rd, rs1, rs2 },
-        Ins::Remu { rd, rs1, rs2 } => Kept::Remu { rd, rs1, rs2 },
-        Ins::Addw { rd, rs1, rs2 } => Kept::Addw { rd, rs1, rs2 },
-        Ins::Subw { rd, rs1, rs2 } => Kept::Subw { rd, rs1, rs2 },
-        Ins::Sllw { rd, rs1, rs2 } => Kept::Sllw { rd, rs1, rs2 },
-        Ins::Srlw { rd, rs1, rs2 } => Kept::Srlw { rd, rs1, rs2 },
-        Ins::Sraw { rd, rs1, rs2 } => Kept::Sraw { rd, rs1, rs2 },
-        Ins::Mulw { rd, rs1, rs2 } => Kept::Mulw { rd, rs1, rs2 },
-        Ins::Divw { rd, rs1, rs2 } => Kept::Divw { rd, rs1, rs2 },
-        Ins::Divuw { rd, rs1, rs2 } => Kept::Divuw { rd, rs1, rs2 },
-        Ins::Remw { rd, rs1, rs2 } => Kept::Remw { rd, rs1, rs2 },
-        Ins::Remuw { rd, rs1, rs2 } => Kept::Remuw { rd, rs1, rs2 },
+        Ins::Add { rd, rs1, rs2 } => Kept::Add {
+            rd: target(rd),
+            rs1,
+            rs2,
+        },
+        Ins::Sub { rd, rs1, rs2 } => Kept::Sub {
+            rd: target(rd),
+            rs1,
+            rs2,
+        },
+        Ins::Sll { rd, rs1, rs2 } => Kept::Sll {
+            rd: target(rd),
+            rs1,
+            rs2,
+        },
+        Ins::Slt { rd, rs1, rs2 } => Kept::Slt {
+            rd: target(rd),
+            rs1,
+            rs2,
+        },
+        Ins::Sltu { rd, rs1, rs2 } => Kept::Sltu {
+            rd: target(rd),
+            rs1,
+            rs2,
+        },
+        Ins::Xor { rd, rs1, rs2 } => Kept::Xor {
+            rd: target(rd),
+            rs1,
+            rs2,
+        },
+        Ins::Srl { rd, rs1, rs2 } => Kept::Srl {
+            rd: target(rd),
+            rs1,
+            rs2,
+        },
+        Ins::Sra { rd, rs1, rs2 } => Kept::Sra {
+            rd: target(rd),
+            rs1,
+            rs2,
+        },
+        Ins::Or { rd, rs1, rs2 } => Kept::Or {
+            rd: target(rd),
+            rs1,
+            rs2,
+        },
+        Ins::And { rd, rs1, rs2 } => Kept::And {
+            rd: target(rd),
+            rs1,
+            rs2,
+        },
+        Ins::Mul { rd, rs1, rs2 } => Kept::Mul {
+            rd: target(rd),
+            rs1,
+            rs2,
+        },
+        Ins::Mulh { rd, rs1, rs2 } => Kept::Mulh {
+            rd: target(rd),
+            rs1,
+            rs2,
+        },
+        Ins::Mulhsu { rd, rs1, rs2 } => Kept::Mulhsu {
+            rd: target(rd),
+            rs1,
+            rs2,
+        },
+        Ins::Mulhu { rd, rs1, rs2 } => Kept::Mulhu {
+            rd: target(rd),
+            rs1,
+            rs2,
+        },
+        Ins::Div { rd, rs1, rs2 } => Kept::Div {
+            rd: target(rd),
+            rs1,
+            rs2,
+        },
+        Ins::Divu { rd, rs1, rs2 } => Kept::Divu {
+            rd: target(rd),
+            rs1,
+            rs2,
+        },
+        Ins::Rem { rd, rs1, rs2 } => Kept::Rem {
+            rd: target(rd),
+            rs1,
+            rs2,
+        },
+        Ins::Remu { rd, rs1, rs2 } => Kept::Remu {
+            rd: target(rd),
+            rs1,
+            rs2,
+        },
+        Ins::Addw { rd, rs1, rs2 } => Kept::Addw {
+            rd: target(rd),
+            rs1,
+            rs2,
+        },
+        Ins::Subw { rd, rs1, rs2 } => Kept::Subw {
+            rd: target(rd),
+            rs1,
+            rs2,
+        },
+        Ins::Sllw { rd, rs1, rs2 } => Kept::Sllw {
+            rd: target(rd),
+            rs1,
+            rs2,
+        },
+        Ins::Srlw { rd, rs1, rs2 } => Kept::Srlw {
+            rd: target(rd),
+            rs1,
+            rs2,
+        },
+        Ins::Sraw { rd, rs1, rs2 } => Kept::Sraw {
+            rd: target(rd),
+            rs1,
+            rs2,
+        },
+        Ins::Mulw { rd, rs1, rs2 } => Kept::Mulw {
+            rd: target(rd),
+            rs1,
+            rs2,
+        },
+        Ins::Divw { rd, rs1, rs2 } => Kept::Divw {
+            rd: target(rd),
+            rs1,
+            rs2,
+        },
+        Ins::Divuw { rd, rs1, rs2 } => Kept::Divuw {
+            rd: target(rd),
+            rs1,
+            rs2,
+        },
+        Ins::Remw { rd, rs1, rs2 } => Kept::Remw {
+            rd: target(rd),
+            rs1,
+            rs2,
+        },
+        Ins::Remuw { rd, rs1, rs2 } => Kept::Remuw {
+            rd: target(rd),
+            rs1,
+            rs2,
+        },
         Ins::Fence => Kept::Fence,
         Ins::FenceI => Kept::FenceI,
         Ins::Ecall => Kept::Ecall,

@@ -1,4 +1,5 @@
 pub mod Executing
 pub mod Stepping
 pub mod Paying
+pub mod Registers
 pub mod Going

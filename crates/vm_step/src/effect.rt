@@ -5,6 +5,7 @@ ghost use Rattle.std.specs.Int.RustNames.{int_lt};
 ghost use Rattle.isa_defs.specs.Alu.{bits_of, signed};
 ghost use Rattle.vm_defs.specs.Memory.{byte_count};
 ghost use Rattle.vm_defs.specs.Step.{branch, jump, load, moved, past_instruction, store, write};
+ghost use Rattle.vm_mem.specs.Kept.{target_of};
 ghost use Rattle.vm_step.specs.Extension.{extended};
 ghost use Rattle.vm_step.specs.Running.{Executes, machine_at, range_at, stands, with_place};
 
@@ -67,10 +68,10 @@ impl Machine {
     pub(crate) fn write(&mut self, place: &mut Place, length: u64, rd: u8, value: u64)
         requires goes_on { self.old.goes_on ≡ true }
         requires went { self.old.last ≡ Step.Went }
-        requires register { rd < 32 }
-        ensures { Executes (write (machine_at self.old place.old) length rd value) None (with_place self.old place.old) (stands self.new place.new) self.new.last place.new.pc }
+        requires register { target_of rd < 32 }
+        ensures { Executes (write (machine_at self.old place.old) length (target_of rd) value) None (with_place self.old place.old) (stands self.new place.new) self.new.last place.new.pc }
     {
-        self.set_reg(rd, value);
+        self.set_target(rd, value);
         place.pc = place.pc.wrapping_add(length);
     }
 
@@ -79,11 +80,11 @@ impl Machine {
     pub(crate) fn jump(&mut self, place: &mut Place, length: u64, rd: u8, target: u64)
         requires goes_on { self.old.goes_on ≡ true }
         requires went { self.old.last ≡ Step.Went }
-        requires register { rd < 32 }
-        ensures { Executes (jump (machine_at self.old place.old) length rd target) None (with_place self.old place.old) (stands self.new place.new) self.new.last place.new.pc }
+        requires register { target_of rd < 32 }
+        ensures { Executes (jump (machine_at self.old place.old) length (target_of rd) target) None (with_place self.old place.old) (stands self.new place.new) self.new.last place.new.pc }
     {
         let next = place.pc.wrapping_add(length);
-        self.set_reg(rd, next);
+        self.set_target(rd, next);
         place.pc = target;
     }
 
@@ -116,9 +117,9 @@ impl Machine {
     )
         requires goes_on { self.old.goes_on ≡ true }
         requires went { self.old.last ≡ Step.Went }
-        requires target { rd < 32 }
+        requires target { target_of rd < 32 }
         requires source { rs1 < 32 }
-        ensures { Executes (load (machine_at self.old place.old) length rd rs1 imm (byte_count width) (extended extension width)) None (with_place self.old place.old) (stands self.new place.new) self.new.last place.new.pc }
+        ensures { Executes (load (machine_at self.old place.old) length (target_of rd) rs1 imm (byte_count width) (extended extension width)) None (with_place self.old place.old) (stands self.new place.new) self.new.last place.new.pc }
     {
         let at = moved(self.reg(rs1), imm);
         match self.memory.load(at, width) {

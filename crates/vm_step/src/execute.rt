@@ -4,7 +4,7 @@ ghost use Rattle.std.specs.Prelude.{◌≡◌, ◌^◌, ◌<◌, ◌≤◌, true
 ghost use Rattle.isa_defs.specs.Instruction.{HasRegisters, cycles};
 ghost use Rattle.vm_defs.specs.Memory.{byte_count};
 ghost use Rattle.vm_defs.specs.Step.{branch, by_immediate, by_registers, charged, effect, jump, load, past_instruction, store, write};
-ghost use Rattle.vm_mem.specs.Kept.{instruction_of};
+ghost use Rattle.vm_mem.specs.Kept.{instruction_of, target_of};
 ghost use Rattle.vm_step.specs.Extension.{extended};
 ghost use Rattle.vm_step.specs.Running.{Executes, machine_at, paying, range_at, stored_range, stands, with_place};
 
@@ -63,8 +63,8 @@ impl Machine {
         requires went { self.old.last ≡ Step.Went }
         requires bound { cost ≤ 2 ^ 40 }
         requires within { place.old.cycles ≤ self.old.machine.budget }
-        requires register { rd < 32 }
-        ensures { Executes (paying cost (machine_at self.old place.old) (write (charged (machine_at self.old place.old) cost) length rd value)) None (with_place self.old place.old) (stands self.new place.new) self.new.last place.new.pc }
+        requires register { target_of rd < 32 }
+        ensures { Executes (paying cost (machine_at self.old place.old) (write (charged (machine_at self.old place.old) cost) length (target_of rd) value)) None (with_place self.old place.old) (stands self.new place.new) self.new.last place.new.pc }
     {
         if !self.pay(place, cost) {
             self.stop(place, Step::Spent);
@@ -80,8 +80,8 @@ impl Machine {
         requires went { self.old.last ≡ Step.Went }
         requires bound { cost ≤ 2 ^ 40 }
         requires within { place.old.cycles ≤ self.old.machine.budget }
-        requires register { rd < 32 }
-        ensures { Executes (paying cost (machine_at self.old place.old) (jump (charged (machine_at self.old place.old) cost) length rd target)) None (with_place self.old place.old) (stands self.new place.new) self.new.last place.new.pc }
+        requires register { target_of rd < 32 }
+        ensures { Executes (paying cost (machine_at self.old place.old) (jump (charged (machine_at self.old place.old) cost) length (target_of rd) target)) None (with_place self.old place.old) (stands self.new place.new) self.new.last place.new.pc }
     {
         if !self.pay(place, cost) {
             self.stop(place, Step::Spent);
@@ -123,9 +123,9 @@ impl Machine {
         requires went { self.old.last ≡ Step.Went }
         requires bound { cost ≤ 2 ^ 40 }
         requires within { place.old.cycles ≤ self.old.machine.budget }
-        requires target { rd < 32 }
+        requires target { target_of rd < 32 }
         requires source { rs1 < 32 }
-        ensures { Executes (paying cost (machine_at self.old place.old) (load (charged (machine_at self.old place.old) cost) length rd rs1 imm (byte_count width) (extended extension width))) None (with_place self.old place.old) (stands self.new place.new) self.new.last place.new.pc }
+        ensures { Executes (paying cost (machine_at self.old place.old) (load (charged (machine_at self.old place.old) cost) length (target_of rd) rs1 imm (byte_count width) (extended extension width))) None (with_place self.old place.old) (stands self.new place.new) self.new.last place.new.pc }
     {
         if !self.pay(place, cost) {
             self.stop(place, Step::Spent);
@@ -178,10 +178,10 @@ impl Machine {
         requires went { self.old.last ≡ Step.Went }
         requires bound { cost ≤ 2 ^ 40 }
         requires within { place.old.cycles ≤ self.old.machine.budget }
-        requires target { rd < 32 }
+        requires target { target_of rd < 32 }
         requires first { rs1 < 32 }
         requires second { rs2 < 32 }
-        ensures { Executes (paying cost (machine_at self.old place.old) (by_registers (charged (machine_at self.old place.old) cost) length operation rd rs1 rs2)) None (with_place self.old place.old) (stands self.new place.new) self.new.last place.new.pc }
+        ensures { Executes (paying cost (machine_at self.old place.old) (by_registers (charged (machine_at self.old place.old) cost) length operation (target_of rd) rs1 rs2)) None (with_place self.old place.old) (stands self.new place.new) self.new.last place.new.pc }
     {
         let value = op(operation, self.reg(rs1), self.reg(rs2));
         self.paid_write(place, cost, length, rd, value)
@@ -204,9 +204,9 @@ impl Machine {
         requires went { self.old.last ≡ Step.Went }
         requires bound { cost ≤ 2 ^ 40 }
         requires within { place.old.cycles ≤ self.old.machine.budget }
-        requires target { rd < 32 }
+        requires target { target_of rd < 32 }
         requires source { rs1 < 32 }
-        ensures { Executes (paying cost (machine_at self.old place.old) (by_immediate (charged (machine_at self.old place.old) cost) length operation rd rs1 imm)) None (with_place self.old place.old) (stands self.new place.new) self.new.last place.new.pc }
+        ensures { Executes (paying cost (machine_at self.old place.old) (by_immediate (charged (machine_at self.old place.old) cost) length operation (target_of rd) rs1 imm)) None (with_place self.old place.old) (stands self.new place.new) self.new.last place.new.pc }
     {
         let value = op(operation, self.reg(rs1), wide(imm));
         self.paid_write(place, cost, length, rd, value)

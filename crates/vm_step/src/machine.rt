@@ -3,6 +3,7 @@ ghost use Rattle.std.specs.Borrow.{sem};
 ghost use Rattle.std.specs.Prelude.{◌≡◌, ◌≢◌, ◌⊎◌, ℕ, ◌%◌, ◌^◌, ◌<◌, ◌≤◌, true, false, not, IsTrue};
 ghost use Rattle.vm_defs.specs.Program.{new_machine};
 ghost use Rattle.vm_defs.specs.Step.{charged, is_spent, register, step_of, with_register};
+ghost use Rattle.vm_mem.specs.Kept.{target_of};
 ghost use Rattle.vm_mem.specs.Pages.{IsAllocated};
 ghost use Rattle.vm_mem.specs.Slots.{IsKept};
 ghost use Rattle.vm_step.specs.Lending.{LendsMemory};
@@ -23,8 +24,8 @@ const STACK_POINTER: u64 = 0x3f_fff0;
 #[derive(Drop)]
 pub struct Machine {
     pub(crate) memory: Memory,
-    // x0 is made 0 again after each write, so that it reads as 0.
-    pub(crate) registers: [u64; 32],
+    // x0 to x31, and one in place of x0 where an instruction writes it, which is never read. So x0 stays 0.
+    pub(crate) registers: [u64; 33],
     pub(crate) place: Place,
     pub(crate) budget: u64,
     pub(crate) goes_on: bool,
@@ -36,13 +37,13 @@ pub struct Machine {
 const NOWHERE: u64 = 1;
 
 impl Model for Machine {
-    ghost use Rattle.std.specs.Prelude.{◌≡◌, ◌^◌, ◌≤◌, slice_index, true};
+    ghost use Rattle.std.specs.Prelude.{◌≡◌, ◌^◌, ◌≤◌, slice_index, take, true};
     ghost use Rattle.vm_step.specs.Running.{RunningMachine};
 
     ghost Value = { RunningMachine };
 
     ghost view = { λ m. record {
-      machine = record { pc = m.place.pc; registers = m.registers; memory = m.memory.memory; cycles = m.place.cycles; budget = m.budget };
+      machine = record { pc = m.place.pc; registers = take 32 m.registers; memory = m.memory.memory; cycles = m.place.cycles; budget = m.budget };
       allocated = m.memory.allocated;
       goes_on = m.goes_on;
       last = m.last;
@@ -64,7 +65,7 @@ impl Machine {
         ensures allocated { result.allocated ≡ memory.allocated }
         ensures goes_on { result.goes_on ≡ true }
     {
-        let mut registers = [0u64; 32];
+        let mut registers = [0u64; 33];
         registers[2] = STACK_POINTER;
         Machine {
             memory,
@@ -170,8 +171,19 @@ impl Machine {
         requires { i < 32 }
         ensures { self.new ≡ record self.old { machine = with_register self.old.machine i value } }
     {
-        self.registers[i as usize] = value;
-        self.registers[0] = 0;
+        if i != 0 {
+            self.registers[usize::from(i)] = value;
+        }
+    }
+
+    // Writes the target of an instruction that is kept, which is never x0.
+    #[inline(always)]
+    #[tactic(auto, unfolding(vm_defs::specs::Step::with_register))]
+    pub(crate) fn set_target(&mut self, rd: u8, value: u64)
+        requires { target_of rd < 32 }
+        ensures { self.new ≡ record self.old { machine = with_register self.old.machine (target_of rd) value } }
+    {
+        self.registers[rd as usize] = value;
     }
 
     /// The cycles so far.

@@ -1,6 +1,7 @@
 use Rattle.std.proofs.Common.{None, ap, refl, sym, ◌∙◌}
 use Rattle.vm_defs.specs.declared.step.Step.TheVariants.{Spent}
 use Rattle.vm_defs.specs.Step.{jump}
+use Rattle.vm_mem.specs.Kept.{target_of}
 use Rattle.vm_step.specs.Running.{RunningMachine, with_place}
 use Rattle.vm_step.proofs.Executing.{ended-stands}
 use Rattle.vm_step.proofs.Paying.{executes-paid, executes-spent}
@@ -16,6 +17,6 @@ returns-then-not-pay c =
 pub returns : goal.returns
 returns c =
     let self = c.args.self.now in
-    executes-paid (λ machine. jump machine c.args.length c.args.rd c.args.target) (λ machine. None) c.args.cost
+    executes-paid (λ machine. jump machine c.args.length (target_of c.args.rd) c.args.target) (λ machine. None) c.args.cost
     (with_place self c.args.place.now) (with_place self c.pay.new.place) _ _ _ c.pay.ensures.machine refl
     (sym c.pay.ensures.within ∙ c.if-not-pay.false) refl c.jump.ensures

@@ -3,6 +3,7 @@ use Rattle.std.proofs.lemmas.Int.{to_z-of_z}
 use Rattle.vm_defs.specs.declared.step.Step.TheVariants.{Spent}
 use Rattle.vm_defs.specs.Memory.{byte_count}
 use Rattle.vm_defs.specs.Step.{load}
+use Rattle.vm_mem.specs.Kept.{target_of}
 use Rattle.vm_step.specs.Extension.{extended}
 use Rattle.vm_step.specs.Running.{RunningMachine, with_place}
 use Rattle.vm_step.proofs.Executing.{ended-stands}
@@ -19,6 +20,6 @@ returns-then-not-pay c =
 pub returns : goal.returns
 returns c =
     let self = c.args.self.now in
-    executes-paid (λ machine. load machine c.args.length c.args.rd c.args.rs1 c.args.imm (byte_count c.args.width) (extended c.args.extension c.args.width)) (λ machine. None) c.args.cost
+    executes-paid (λ machine. load machine c.args.length (target_of c.args.rd) c.args.rs1 c.args.imm (byte_count c.args.width) (extended c.args.extension c.args.width)) (λ machine. None) c.args.cost
     (with_place self c.args.place.now) (with_place self c.pay.new.place) _ _ _ c.pay.ensures.machine refl
     (sym c.pay.ensures.within ∙ c.if-not-pay.false) refl (rw (to_z-of_z w32 c.args.imm c.ranges.imm) at c.load.ensures)

@@ -1,5 +1,6 @@
 use Rattle.std.proofs.Common.{ap, ◌∙◌}
 use Rattle.vm_defs.specs.Step.{after}
+use Rattle.vm_mem.specs.Kept.{target_of}
 use Rattle.vm_step.specs.Running.{RunningMachine, with_place}
 use Rattle.vm_step.proofs.Executing.{executes-went, went-stands, written-past}
 use Rattle.vm_step.proofs.machine.Machine.write.Goals as goal
@@ -7,6 +8,6 @@ use Rattle.vm_step.proofs.machine.Machine.write.Goals as goal
 pub returns : goal.returns
 unfolding after
 returns c =
-    went-stands _ _ _ _ _ _ (ap (λ (running : RunningMachine). running.last) c.set_reg.ensures ∙ c.requires.went)
+    went-stands _ _ _ _ _ _ (ap (λ (running : RunningMachine). running.last) c.set_target.ensures ∙ c.requires.went)
     (executes-went (with_place c.args.self.now c.args.place.now) _ _ c.requires.goes_on
-    (written-past _ _ c.args.place.now c.args.length c.args.rd c.args.value c.set_reg.ensures))
+    (written-past _ _ c.args.place.now c.args.length (target_of c.args.rd) c.args.value c.set_target.ensures))
