@@ -1,5 +1,5 @@
 -- What an instruction does, from what the code did to the machine. The code sees the machine by its fields, as `seen`.
-use Rattle.std.proofs.Common.{◌≡◌, ◌≢◌, ℕ, ◌%◌, ◌==◌, Bool, true, false, if◌then◌else◌, slice_set, refl, Option, None, Result, Ok, Err, ◌⊎◌, inl, ap, sym, subst, ◌∙◌}
+use Rattle.std.proofs.Common.{◌≡◌, ◌≢◌, ℕ, ◌%◌, ◌==◌, Bool, true, false, if◌then◌else◌, List, slice_set, refl, Option, None, Result, Ok, Err, ◌⊎◌, inl, ap, sym, subst, ◌∙◌}
 use Rattle.vm_defs.specs.declared.memory.MemFault.{MemFault}
 use Rattle.vm_defs.specs.declared.step.Step.{Step}
 use Rattle.vm_defs.specs.declared.step.Step.TheVariants.{Went, Ecall, Fault, Spent, NoMemory}
@@ -8,24 +8,23 @@ use Rattle.vm_defs.specs.Step.{Machine, after, past_instruction, stored, with_re
 use Rattle.vm_mem.specs.Pages.{IsAllocated}
 use Rattle.vm_mem.specs.Paged.{PagedMemory, Stores}
 use Rattle.vm_step.specs.declared.place.Place.{Place}
-use Rattle.vm_step.specs.Running.{RunningMachine, ByteRange, Executes, HasRoom, Touches, machine_at, stands_after, with_place}
+use Rattle.vm_step.specs.Running.{RunningMachine, ByteRange, Executes, HasRoom, Touches, machine_at, placed, stands_after, with_place}
 
 abbrev pub machine_of : RunningMachine → Machine
 machine_of running = running.machine
 
-with_register-place : (b : Bool) (machine changed : Machine) (place : Place)
-    → (if b then (record machine { pc = place.pc; cycles = place.cycles }) else (record changed { pc = place.pc; cycles = place.cycles }))
-    ≡ record (if b then machine else changed) { pc = place.pc; cycles = place.cycles }
-with_register-place true machine changed place = refl
-with_register-place false machine changed place = refl
+with_register-place : (b : Bool) (machine : Machine) (registers : List ℕ) (place : Place)
+    → (if b then placed machine place else placed (record machine { registers = registers }) place)
+    ≡ placed (if b then machine else (record machine { registers = registers })) place
+with_register-place true machine registers place = refl
+with_register-place false machine registers place = refl
 
 -- a register is written, whatever the program counter and the cycles are
 register-apart : (machine : Machine) (place : Place) (rd value : ℕ)
-    → with_register (record machine { pc = place.pc; cycles = place.cycles }) rd value
-    ≡ record (with_register machine rd value) { pc = place.pc; cycles = place.cycles }
+    → with_register (placed machine place) rd value ≡ placed (with_register machine rd value) place
 unfolding with_register
 register-apart machine place rd value =
-    with_register-place (rd == 0) machine (record machine { registers = slice_set machine.registers rd value }) place
+    with_register-place (rd == 0) machine (slice_set machine.registers rd value) place
 
 -- a register was written, and the program counter is the next
 pub written : (old new : RunningMachine) (place : Place) (next rd value : ℕ) → new ≡ record old { machine = with_register old.machine rd value }
@@ -91,19 +90,6 @@ executes-ecall old new machine next on changed nowhere = record {
   pages_kept = λ page allocated. rw changed allocated;
   pages_added = λ page allocated. inl (rw changed at allocated);
   goes_on = ap (λ (running : RunningMachine). running.goes_on) changed ∙ on;
-  follows = nowhere;
-}
-
--- A fault leaves the machine as it was.
-pub executes-fault : (expected : Step × Machine) (range : Option ByteRange) (old new : RunningMachine) (number next : ℕ) → expected ≡ (Fault number, old.machine)
-    → new ≡ record old { goes_on = false; last = Fault number } → next % 2 ≡ 1 → Executes expected range old new (Fault number) next
-executes-fault expected range old new number next is changed nowhere = record {
-  machine = ap (λ (running : RunningMachine). (Fault number, running.machine)) changed ∙ sym is;
-  room = λ has-room none. cc;
-  allocated = λ went. cc;
-  pages_kept = λ page allocated. rw changed allocated;
-  pages_added = λ page allocated. inl (rw changed at allocated);
-  goes_on = ap (λ (running : RunningMachine). running.goes_on) changed;
   follows = nowhere;
 }
 

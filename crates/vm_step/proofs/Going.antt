@@ -12,7 +12,7 @@ use Rattle.vm_mem.specs.declared.slot.Slot.{Slot}
 use Rattle.vm_mem.specs.Pages.{IsAllocated}
 use Rattle.vm_mem.specs.Slots.{IsKept}
 use Rattle.vm_step.specs.declared.place.Place.{Place}
-use Rattle.vm_step.specs.Running.{RunningMachine, ByteRange, HasRoom, IsOneStep, IsStep, IsStoredBefore, IsStoredTo, LeavesRoom, Stops, Touches, goes_on_after, next_range, stands_after, with_place}
+use Rattle.vm_step.specs.Running.{RunningMachine, ByteRange, HasRoom, IsOneStep, IsStep, IsStoredBefore, IsStoredTo, LeavesRoom, Stops, Touches, goes_on_after, machine_at, next_range, stands_after, with_place}
 
 -- the machine at the start, and after some steps that went
 pub record Going (start now : RunningMachine) : Type 0 where
@@ -175,7 +175,7 @@ pub record Ended (start now : RunningMachine) (answer : Step) : Type 0 where
 
 -- As long as its steps went, its place is apart from the machine.
 abbrev pub HasCome : Step → RunningMachine → RunningMachine → Place → Type 0
-HasCome Went start now place = Going start (with_place now place) × (place.cycles ≤ now.machine.budget)
+HasCome Went start now place = Going start (with_place now place) × ((machine_at now place).cycles ≤ now.machine.budget)
 HasCome Ecall start now place = Ended start now Ecall × (place.pc % 2 ≡ 1)
 HasCome (Fault number) start now place = Ended start now (Fault number) × (place.pc % 2 ≡ 1)
 HasCome Spent start now place = Ended start now Spent × (place.pc % 2 ≡ 1)
@@ -183,7 +183,7 @@ HasCome NoMemory start now place = Ended start now NoMemory × (place.pc % 2 ≡
 
 -- what is left of it
 abbrev pub left_after : Step → RunningMachine → Place → ℕ
-left_after Went now place = suc (now.machine.budget - place.cycles)
+left_after Went now place = suc (now.machine.budget - (machine_at now place).cycles)
 left_after Ecall now place = 0
 left_after (Fault number) now place = 0
 left_after Spent now place = 0

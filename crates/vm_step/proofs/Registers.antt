@@ -1,5 +1,5 @@
 -- Registers that are written: those that are seen are the first 32, and the one after them is in the place of x0.
-use Rattle.std.proofs.Common.{◌≡◌, ◌≢◌, ◌⊎◌, inl, inr, ℕ, ◌+◌, ◌<◌, ◌≤◌, ◌==◌, List, slice_index, slice_set, take, refl, ap, subst, sym, ◌∙◌, arith, eq-eqb, get_or-set_other}
+use Rattle.std.proofs.Common.{◌≡◌, ◌≢◌, ◌⊎◌, inl, inr, ℕ, ◌<◌, List, slice_index, slice_set, take, refl, ap, sym, ◌∙◌, arith, eq-eqb, get_or-set_other}
 use Rattle.std.proofs.lemmas.Bool.{cases_lt}
 use Rattle.std.proofs.lemmas.List.{get_or-take, take-set-le}
 use Rattle.std.proofs.Math.Seq.{take-set-lt}

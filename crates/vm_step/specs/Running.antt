@@ -1,5 +1,5 @@
 -- A machine that runs: what contracts see of it, and what a step of it does.
-use Rattle.std.specs.Prelude.{◌≡◌, ◌≢◌, ◌⊎◌, ℕ, ◌%◌, ◌<◌, ◌≤◌, ℤ, Bool, true, false, List, Option, Some, None, IfSome, Result, Ok, Err, if◌then◌else◌}
+use Rattle.std.specs.Prelude.{◌≡◌, ◌≢◌, ◌⊎◌, ℕ, ◌+◌, ◌-◌, ◌%◌, ◌^◌, ◌<◌, ◌≤◌, ℤ, Bool, true, false, List, Option, Some, None, IfSome, Result, Ok, Err, if◌then◌else◌}
 use Rattle.isa_defs.specs.declared.ins.Ins.{Ins}
 use Rattle.isa_defs.specs.declared.ins.Ins.TheVariants.{Sb, Sh, Sw, Sd}
 use Rattle.vm_defs.specs.declared.memory.MemFault.{MemFault}
@@ -18,12 +18,19 @@ pub record RunningMachine : Type 0 where
   pub goes_on : Bool
   pub last : Step
 
+-- The cycles so far, from what is left of the budget: the difference modulo 2^64, since what is left wraps below 0.
+unfoldable pub cycles_of : ℕ → ℕ → ℕ
+cycles_of budget left = (budget + (2 ^ 64 - left % 2 ^ 64)) % 2 ^ 64
+
 -- a machine whose program counter and cycles are kept apart from it
+abbrev pub placed : Machine → Place → Machine
+placed machine place = record machine { pc = place.pc; cycles = cycles_of machine.budget place.left }
+
 abbrev pub with_place : RunningMachine → Place → RunningMachine
-with_place running place = record running { machine = record running.machine { pc = place.pc; cycles = place.cycles } }
+with_place running place = record running { machine = placed running.machine place }
 
 abbrev pub machine_at : RunningMachine → Place → Machine
-machine_at running place = record running.machine { pc = place.pc; cycles = place.cycles }
+machine_at running place = placed running.machine place
 
 -- A machine that ran: as long as its steps went its place is kept apart from it, and after any other answer it has it again.
 abbrev pub stands_after : Step → RunningMachine → Place → RunningMachine

@@ -56,7 +56,7 @@ impl Machine {
     #[inline(always)]
     pub(crate) fn ecall(&mut self, place: &mut Place, length: u64)
         requires goes_on { self.old.goes_on ≡ true }
-        requires within { place.old.cycles ≤ self.old.machine.budget }
+        requires within { (machine_at self.old place.old).cycles ≤ self.old.machine.budget }
         ensures { Executes (Step.Ecall, past_instruction (machine_at self.old place.old) length) None (with_place self.old place.old) (stands self.new place.new) self.new.last place.new.pc }
     {
         place.pc = place.pc.wrapping_add(length);

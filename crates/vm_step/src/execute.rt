@@ -30,7 +30,7 @@ impl Machine {
         requires goes_on { self.old.goes_on ≡ true }
         requires went { self.old.last ≡ Step.Went }
         requires bound { cost ≤ 2 ^ 40 }
-        requires within { place.old.cycles ≤ self.old.machine.budget }
+        requires within { (machine_at self.old place.old).cycles ≤ self.old.machine.budget }
         ensures { Executes (paying cost (machine_at self.old place.old) (Step.Went, past_instruction (charged (machine_at self.old place.old) cost) length)) None (with_place self.old place.old) (stands self.new place.new) self.new.last place.new.pc }
     {
         if !self.pay(place, cost) {
@@ -46,7 +46,7 @@ impl Machine {
         requires goes_on { self.old.goes_on ≡ true }
         requires went { self.old.last ≡ Step.Went }
         requires bound { cost ≤ 2 ^ 40 }
-        requires within { place.old.cycles ≤ self.old.machine.budget }
+        requires within { (machine_at self.old place.old).cycles ≤ self.old.machine.budget }
         ensures { Executes (paying cost (machine_at self.old place.old) (Step.Ecall, past_instruction (charged (machine_at self.old place.old) cost) length)) None (with_place self.old place.old) (stands self.new place.new) self.new.last place.new.pc }
     {
         if !self.pay(place, cost) {
@@ -62,7 +62,7 @@ impl Machine {
         requires goes_on { self.old.goes_on ≡ true }
         requires went { self.old.last ≡ Step.Went }
         requires bound { cost ≤ 2 ^ 40 }
-        requires within { place.old.cycles ≤ self.old.machine.budget }
+        requires within { (machine_at self.old place.old).cycles ≤ self.old.machine.budget }
         requires register { target_of rd < 32 }
         ensures { Executes (paying cost (machine_at self.old place.old) (write (charged (machine_at self.old place.old) cost) length (target_of rd) value)) None (with_place self.old place.old) (stands self.new place.new) self.new.last place.new.pc }
     {
@@ -79,7 +79,7 @@ impl Machine {
         requires goes_on { self.old.goes_on ≡ true }
         requires went { self.old.last ≡ Step.Went }
         requires bound { cost ≤ 2 ^ 40 }
-        requires within { place.old.cycles ≤ self.old.machine.budget }
+        requires within { (machine_at self.old place.old).cycles ≤ self.old.machine.budget }
         requires register { target_of rd < 32 }
         ensures { Executes (paying cost (machine_at self.old place.old) (jump (charged (machine_at self.old place.old) cost) length (target_of rd) target)) None (with_place self.old place.old) (stands self.new place.new) self.new.last place.new.pc }
     {
@@ -96,7 +96,7 @@ impl Machine {
         requires goes_on { self.old.goes_on ≡ true }
         requires went { self.old.last ≡ Step.Went }
         requires bound { cost ≤ 2 ^ 40 }
-        requires within { place.old.cycles ≤ self.old.machine.budget }
+        requires within { (machine_at self.old place.old).cycles ≤ self.old.machine.budget }
         ensures { Executes (paying cost (machine_at self.old place.old) (branch (charged (machine_at self.old place.old) cost) length taken imm)) None (with_place self.old place.old) (stands self.new place.new) self.new.last place.new.pc }
     {
         if !self.pay(place, cost) {
@@ -122,7 +122,7 @@ impl Machine {
         requires goes_on { self.old.goes_on ≡ true }
         requires went { self.old.last ≡ Step.Went }
         requires bound { cost ≤ 2 ^ 40 }
-        requires within { place.old.cycles ≤ self.old.machine.budget }
+        requires within { (machine_at self.old place.old).cycles ≤ self.old.machine.budget }
         requires target { target_of rd < 32 }
         requires source { rs1 < 32 }
         ensures { Executes (paying cost (machine_at self.old place.old) (load (charged (machine_at self.old place.old) cost) length (target_of rd) rs1 imm (byte_count width) (extended extension width))) None (with_place self.old place.old) (stands self.new place.new) self.new.last place.new.pc }
@@ -149,7 +149,7 @@ impl Machine {
         requires goes_on { self.old.goes_on ≡ true }
         requires went { self.old.last ≡ Step.Went }
         requires bound { cost ≤ 2 ^ 40 }
-        requires within { place.old.cycles ≤ self.old.machine.budget }
+        requires within { (machine_at self.old place.old).cycles ≤ self.old.machine.budget }
         requires address { rs1 < 32 }
         requires source { rs2 < 32 }
         ensures { Executes (paying cost (machine_at self.old place.old) (store (charged (machine_at self.old place.old) cost) length rs1 rs2 imm (byte_count width))) (range_at (machine_at self.old place.old) rs1 imm (byte_count width)) (with_place self.old place.old) (stands self.new place.new) self.new.last place.new.pc }
@@ -177,7 +177,7 @@ impl Machine {
         requires goes_on { self.old.goes_on ≡ true }
         requires went { self.old.last ≡ Step.Went }
         requires bound { cost ≤ 2 ^ 40 }
-        requires within { place.old.cycles ≤ self.old.machine.budget }
+        requires within { (machine_at self.old place.old).cycles ≤ self.old.machine.budget }
         requires target { target_of rd < 32 }
         requires first { rs1 < 32 }
         requires second { rs2 < 32 }
@@ -203,7 +203,7 @@ impl Machine {
         requires goes_on { self.old.goes_on ≡ true }
         requires went { self.old.last ≡ Step.Went }
         requires bound { cost ≤ 2 ^ 40 }
-        requires within { place.old.cycles ≤ self.old.machine.budget }
+        requires within { (machine_at self.old place.old).cycles ≤ self.old.machine.budget }
         requires target { target_of rd < 32 }
         requires source { rs1 < 32 }
         ensures { Executes (paying cost (machine_at self.old place.old) (by_immediate (charged (machine_at self.old place.old) cost) length operation (target_of rd) rs1 imm)) None (with_place self.old place.old) (stands self.new place.new) self.new.last place.new.pc }
@@ -219,7 +219,7 @@ impl Machine {
     pub(crate) fn execute<const SITE: u8>(&mut self, place: &mut Place, kept: Kept, length: u64)
         requires goes_on { self.old.goes_on ≡ true }
         requires went { self.old.last ≡ Step.Went }
-        requires within { place.old.cycles ≤ self.old.machine.budget }
+        requires within { (machine_at self.old place.old).cycles ≤ self.old.machine.budget }
         requires registers { HasRegisters (instruction_of kept) }
         ensures { Executes (paying (cycles (instruction_of kept)) (machine_at self.old place.old) (effect (charged (machine_at self.old place.old) (cycles (instruction_of kept))) length (instruction_of kept))) (stored_range (machine_at self.old place.old) (instruction_of kept)) (with_place self.old place.old) (stands self.new place.new) self.new.last place.new.pc }
     {

@@ -7,7 +7,7 @@ ghost use Rattle.vm_mem.specs.Kept.{target_of};
 ghost use Rattle.vm_mem.specs.Pages.{IsAllocated};
 ghost use Rattle.vm_mem.specs.Slots.{IsKept};
 ghost use Rattle.vm_step.specs.Lending.{LendsMemory};
-ghost use Rattle.vm_step.specs.Running.{HasRoom, IsOneStep, IsStep, IsStoredTo, LeavesRoom, Stops, Touches, goes_on_after, machine_at, next_range, stands, with_place};
+ghost use Rattle.vm_step.specs.Running.{HasRoom, IsOneStep, IsStep, IsStoredTo, LeavesRoom, Stops, Touches, cycles_of, goes_on_after, machine_at, next_range, stands, with_place};
 
 use super::fault::{NO_INSTRUCTION, fault_number};
 use super::place::Place;
@@ -36,20 +36,23 @@ pub struct Machine {
 // An odd address, which no instruction has.
 const NOWHERE: u64 = 1;
 
+// What is left of a budget is this or more where it wrapped below 0.
+const BELOW: u64 = 0x8000_0000_0000_0000;
+
 impl Model for Machine {
     ghost use Rattle.std.specs.Prelude.{◌≡◌, ◌^◌, ◌≤◌, slice_index, take, true};
-    ghost use Rattle.vm_step.specs.Running.{RunningMachine};
+    ghost use Rattle.vm_step.specs.Running.{RunningMachine, cycles_of};
 
     ghost Value = { RunningMachine };
 
     ghost view = { λ m. record {
-      machine = record { pc = m.place.pc; registers = take 32 m.registers; memory = m.memory.memory; cycles = m.place.cycles; budget = m.budget };
+      machine = record { pc = m.place.pc; registers = take 32 m.registers; memory = m.memory.memory; cycles = cycles_of m.budget m.place.left; budget = m.budget };
       allocated = m.memory.allocated;
       goes_on = m.goes_on;
       last = m.last;
     } };
 
-    ghost invariant = { λ m. (slice_index m.registers 0 ≡ 0) × (m.budget ≤ 2 ^ 40) × (m.goes_on ≡ true → m.place.cycles ≤ m.budget) };
+    ghost invariant = { λ m. (slice_index m.registers 0 ≡ 0) × (m.budget ≤ 2 ^ 40) × (m.goes_on ≡ true → cycles_of m.budget m.place.left ≤ m.budget) };
 }
 
 impl Machine {
@@ -70,7 +73,10 @@ impl Machine {
         Machine {
             memory,
             registers,
-            place: Place { pc, cycles },
+            place: Place {
+                pc,
+                left: budget - cycles,
+            },
             budget,
             goes_on: true,
             last: Step::Went,
@@ -146,8 +152,8 @@ impl Machine {
         ensures goes_on { self.new.goes_on ≡ result }
         ensures within { result ≡ not (is_spent self.new.machine) }
     {
-        self.place.cycles += cycles;
-        if self.place.cycles > self.budget {
+        self.place.left = self.place.left.wrapping_sub(cycles);
+        if self.place.left >= BELOW {
             self.goes_on = false;
             return false;
         }
@@ -190,7 +196,7 @@ impl Machine {
     pub fn cycles(&self) -> u64
         ensures { result ≡ self.now.machine.cycles }
     {
-        self.place.cycles
+        cycles_of(self.budget, self.place.left)
     }
 
     /// The program counter: the address of the next instruction.
@@ -215,7 +221,7 @@ impl Machine {
     fn go(&mut self, place: &mut Place, slot: Slot)
         requires goes_on { self.old.goes_on ≡ true }
         requires went { self.old.last ≡ Step.Went }
-        requires within { place.old.cycles ≤ self.old.machine.budget }
+        requires within { (machine_at self.old place.old).cycles ≤ self.old.machine.budget }
         requires at { slot.at ≡ place.old.pc }
         requires kept { IsKept self.old.machine.memory slot }
         ensures { IsOneStep (with_place self.old place.old) (stands self.new place.new) self.new.last place.new.pc }
@@ -231,7 +237,7 @@ impl Machine {
     #[inline(always)]
     fn step_apart(&mut self, place: &mut Place)
         requires goes_on { self.old.goes_on ≡ true }
-        requires within { place.old.cycles ≤ self.old.machine.budget }
+        requires within { (machine_at self.old place.old).cycles ≤ self.old.machine.budget }
         ensures { IsOneStep (with_place self.old place.old) (stands self.new place.new) self.new.last place.new.pc }
     {
         self.place = *place;
@@ -250,7 +256,7 @@ impl Machine {
     fn step_at(&mut self, place: &mut Place)
         requires goes_on { self.old.goes_on ≡ true }
         requires went { self.old.last ≡ Step.Went }
-        requires within { place.old.cycles ≤ self.old.machine.budget }
+        requires within { (machine_at self.old place.old).cycles ≤ self.old.machine.budget }
         ensures { IsOneStep (with_place self.old place.old) (stands self.new place.new) self.new.last place.new.pc }
     {
         if place.pc % 2 == 1 {
@@ -271,18 +277,19 @@ impl Machine {
         self.execute::<0>(place, kept_form(ins), u64::from(length));
     }
 
-    // Adds what an instruction costs, and says whether the cycles are still within the budget.
+    // Adds what an instruction costs, and says whether the cycles are still within the budget: the sign of what is left.
     #[inline(always)]
     pub(crate) fn pay(&self, place: &mut Place, cost: u64) -> bool
         requires bound { cost ≤ 2 ^ 40 }
-        requires within { place.old.cycles ≤ self.now.machine.budget }
+        requires within { (machine_at self.now place.old).cycles ≤ self.now.machine.budget }
         ensures machine { machine_at self.now place.new ≡ charged (machine_at self.now place.old) cost }
         ensures within { result ≡ not (is_spent (machine_at self.now place.new)) }
-        ensures lasts { IsTrue result → place.new.cycles ≤ self.now.machine.budget }
+        ensures lasts { IsTrue result → (machine_at self.now place.new).cycles ≤ self.now.machine.budget }
     {
-        let budget = self.budget;
-        place.cycles += cost;
-        place.cycles <= budget
+        // The budget's bound is known where the machine is looked at.
+        let _ = &self.budget;
+        place.left = place.left.wrapping_sub(cost);
+        place.left < BELOW
     }
 
     // The machine goes on no more.
@@ -298,7 +305,7 @@ impl Machine {
     // The last step answered so. The machine has its place again, and the place apart is that of no instruction.
     #[inline(always)]
     pub(crate) fn end(&mut self, place: &mut Place, answer: Step)
-        requires { self.old.goes_on ≡ true → place.old.cycles ≤ self.old.machine.budget }
+        requires { self.old.goes_on ≡ true → (machine_at self.old place.old).cycles ≤ self.old.machine.budget }
         ensures machine { self.new ≡ record (with_place self.old place.old) { last = answer } }
         ensures nowhere { place.new.pc % 2 ≡ 1 }
     {
@@ -306,4 +313,13 @@ impl Machine {
         self.last = answer;
         place.pc = NOWHERE;
     }
+}
+
+// The cycles so far, of a budget and what is left of it.
+#[inline(always)]
+#[tactic(auto, unfolding(crate::specs::Running::cycles_of))]
+fn cycles_of(budget: u64, left: u64) -> u64
+    ensures cycles { result ≡ cycles_of budget left }
+{
+    budget.wrapping_sub(left)
 }

@@ -1,8 +1,9 @@
-/// Where a machine stands: its program counter, and the cycles so far.
+/// Where a machine stands: its program counter, and what is left of its budget.
 ///
 /// A run keeps them apart from the machine, in registers of the processor.
 #[derive(Clone, Copy)]
 pub(crate) struct Place {
     pub(crate) pc: u64,
-    pub(crate) cycles: u64,
+    // In cycles. Below 0 it wraps, and the budget is spent.
+    pub(crate) left: u64,
 }

@@ -3,6 +3,7 @@ use Rattle.std.specs.Prelude.{IfSome}
 use Rattle.chain_tree.specs.Told.{Stored}
 use Rattle.cell_defs.specs.Row.{Row}
 use Rattle.tx_rules.specs.At.{AtValue}
+use Rattle.outside.specs.declared.disk.ReadStop.{ReadStop}
 use Rattle.outside.proofs.Endings.{no_answer}
 use Rattle.chain_tree.proofs.ReadLemmas.{unread}
 use Rattle.tx_rules.proofs.SiteLemmas.{copied-of-kept, copied-of-own, none-past}
@@ -48,7 +49,7 @@ returns-in-Ok g c =
           let own = copied-of-own stored c.args.at.now rows site found c.args.o c.args.meta c.requires.placed.parent is found_at (omega (arith, place, long)) in
           c.in-Ok.ensures.copied own.0 found.cell own.1 own.2;
       of_row =
-          judged-row (g.B.Blocks.told c.args.blocks.now) c.args.at.now c.args.o c.args.meta (Ok c.in-Ok.copy) c.in-Ok.ensures.out_point c.in-Ok.ensures.row
+          judged-row {E = ReadStop} (g.B.Blocks.told c.args.blocks.now) c.args.at.now c.args.o c.args.meta (Ok c.in-Ok.copy) c.in-Ok.ensures.out_point c.in-Ok.ensures.row
           (λ stored tells. subst (λ (t : Option (List Stored)). IfSome t (λ all. length all ≡ g.B.Blocks.count c.args.blocks.now)) tells (g.met.B.Blocks.told_all c.args.blocks.now)
           ∙ c.requires.counts) (omega (arith, place, long)) c.in-Ok.ensures.judged;
       undamaged = λ stored rows site found tells is found_at damage same. no_answer _ _ same;
@@ -75,7 +76,7 @@ returns-else-meta-kept-2 g c =
     let place : c.meta.inside.block ≡ c.args.meta.block = ap (λ (row : Row). row.block) c.meta.view_is in
     let long : c.len-kept.result ≡ length c.args.at.now.entries = c.len-kept.ensures.len ∙ ap (λ (at : AtValue). length at.entries) c.at.view_is in
     record {
-      read = c.report-2.ensures.read;
+      read = c.report-else-meta-kept-2.ensures.read;
       out_point = tt;
       row = tt;
       output = tt;

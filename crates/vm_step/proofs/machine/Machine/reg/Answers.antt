@@ -1,4 +1,4 @@
-use Rattle.std.proofs.Common.{refl, sym, ap, ◌∙◌}
+use Rattle.std.proofs.Common.{refl, ap, ◌∙◌}
 use Rattle.vm_defs.specs.Step.{register}
 use Rattle.vm_step.specs.Running.{RunningMachine}
 use Rattle.vm_step.specs.contracts.machine.Machine.{the_view}

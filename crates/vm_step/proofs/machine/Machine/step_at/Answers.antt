@@ -2,7 +2,7 @@ use Rattle.std.proofs.Common.{Err, None, Ok, Some, ap, false, refl, ◌∙◌}
 use Rattle.vm_defs.specs.declared.step.Step.{Step}
 use Rattle.vm_defs.specs.declared.step.Step.TheVariants.{Fault}
 use Rattle.vm_step.specs.Lending.{with_memory}
-use Rattle.vm_step.specs.Running.{RunningMachine, IsOneStep, machine_at, stands, with_place}
+use Rattle.vm_step.specs.Running.{RunningMachine, IsOneStep, stands, with_place}
 use Rattle.vm_step.specs.contracts.machine.Machine.{the_view}
 use Rattle.vm_step.proofs.Executing.{ended, machine_of}
 use Rattle.vm_step.proofs.Stepping.{executed, finds, found-executed, looked-up, one-fault, steps-odd, steps-unfetched, steps-undecoded}
