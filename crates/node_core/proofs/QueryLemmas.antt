@@ -1,5 +1,5 @@
 -- What queries ask of a node: the block at a height of the best branch, and the live cell with an out-point there.
-use Rattle.std.proofs.Common.{◌≡◌, ℕ, ◌+◌, ◌<◌, List, [], ◌∷◌, length, Option, Some, None, refl, sym, ap, ◌∙◌, subst, arith}
+use Rattle.std.proofs.Common.{◌≡◌, ℕ, ◌+◌, ◌<◌, List, [], length, Option, Some, None, refl, sym, ap, ◌∙◌, subst, arith}
 use Rattle.std.specs.Prelude.{slice_get, slice_index, IfSome}
 use Rattle.std.proofs.lemmas.List.{length-map}
 use Rattle.std.specs.Option.{option_map, option_and_then}
@@ -124,34 +124,34 @@ made-at stored entries tip o cell row indexed below live its_row =
     kept : (it : Stored) × (slice_get stored row.block ≡ Some it) × (it.block ≡ made.0)
     kept = stored-at stored row.block made.0 there
 
-module _ (stored : List Stored) (found : OutPoint → Option Row) (tip : ℕ)
-    (live : AreOfTip (blocks_of stored) found) (is : tip_place (blocks_of stored) ≡ Some tip) (o : OutPoint) where
-  by-cell : (cell : Option Cell) → live_cell (branch (blocks_of stored) tip) o ≡ cell → found o ≡ option_map (row_on (blocks_of stored) tip) cell
+module _ (kept : List Block) (found : OutPoint → Option Row) (tip : ℕ)
+    (live : AreOfTip kept found) (is : tip_place kept ≡ Some tip) (o : OutPoint) where
+  by-cell : (cell : Option Cell) → live_cell (branch kept tip) o ≡ cell → found o ≡ option_map (row_on kept tip) cell
   unfolding live_row
-  by-cell cell at = live tip is o ∙ ap (option_map (row_on (blocks_of stored) tip)) at
+  by-cell cell at = live tip is o ∙ ap (option_map (row_on kept tip)) at
 
   -- where there is no row, no cell is live
-  no-cell : found o ≡ None → live_cell (best_branch (blocks_of stored)) o ≡ None
-  no-cell none = ap (λ (blocks : List Block). live_cell blocks o) (best-is (blocks_of stored) tip is)
-      ∙ by_live (live_cell (branch (blocks_of stored) tip) o) refl
+  no-cell : found o ≡ None → live_cell (best_branch kept) o ≡ None
+  no-cell none = ap (λ (blocks : List Block). live_cell blocks o) (best-is kept tip is)
+      ∙ by_live (live_cell (branch kept tip) o) refl
     where
-      by_live : (live : Option Cell) → live_cell (branch (blocks_of stored) tip) o ≡ live → live_cell (branch (blocks_of stored) tip) o ≡ None
+      by_live : (live : Option Cell) → live_cell (branch kept tip) o ≡ live → live_cell (branch kept tip) o ≡ None
       by_live None at = at
       by_live (Some cell) at = let row = by-cell (Some cell) at in absurd (cc)
 
   -- and where there is one, it is the row of a cell that is live
-  row-cell : (row : Row) → found o ≡ Some row → (cell : Cell) × IsLiveRow (blocks_of stored) o cell row
-  row-cell row some = by_live (live_cell (branch (blocks_of stored) tip) o) refl
+  row-cell : (row : Row) → found o ≡ Some row → (cell : Cell) × IsLiveRow kept o cell row
+  row-cell row some = by_live (live_cell (branch kept tip) o) refl
     where
-      by_live : (live : Option Cell) → live_cell (branch (blocks_of stored) tip) o ≡ live → (cell : Cell) × IsLiveRow (blocks_of stored) o cell row
+      by_live : (live : Option Cell) → live_cell (branch kept tip) o ≡ live → (cell : Cell) × IsLiveRow kept o cell row
       by_live None at = let row = by-cell None at in absurd (cc)
       by_live (Some cell) at = (
         cell,
         record {
           tip = tip;
           is_tip = is;
-          live = ap (λ (blocks : List Block). live_cell blocks o) (best-is (blocks_of stored) tip is) ∙ at;
-          its_row = same_Some row (row_on (blocks_of stored) tip cell) (sym some ∙ by-cell (Some cell) at);
+          live = ap (λ (blocks : List Block). live_cell blocks o) (best-is kept tip is) ∙ at;
+          its_row = same_Some row (row_on kept tip cell) (sym some ∙ by-cell (Some cell) at);
         },
       )
 
@@ -160,21 +160,21 @@ unfolding cell_after events last_naming
 none-made o = refl
 
 -- Where the rows are those of the tip's branch, no cell is live with an out-point that has no row,
-pub no-live : (stored : List Stored) (found : OutPoint → Option Row) → AreOfTip (blocks_of stored) found → (o : OutPoint) → found o ≡ None
-    → live_cell (best_branch (blocks_of stored)) o ≡ None
-no-live stored found live o none = by_tip (tip_place (blocks_of stored)) refl
+pub no-live : (kept : List Block) (found : OutPoint → Option Row) → AreOfTip kept found → (o : OutPoint) → found o ≡ None
+    → live_cell (best_branch kept) o ≡ None
+no-live kept found live o none = by_tip (tip_place kept) refl
   where
-    by_tip : (tip : Option ℕ) → tip_place (blocks_of stored) ≡ tip → live_cell (best_branch (blocks_of stored)) o ≡ None
-    by_tip None is = ap (λ (at : Option ℕ). live_cell (branch_at (blocks_of stored) at) o) is ∙ none-made o
-    by_tip (Some tip) is = no-cell stored found tip live is o none
+    by_tip : (tip : Option ℕ) → tip_place kept ≡ tip → live_cell (best_branch kept) o ≡ None
+    by_tip None is = ap (λ (at : Option ℕ). live_cell (branch_at kept at) o) is ∙ none-made o
+    by_tip (Some tip) is = no-cell kept found tip live is o none
 
 -- and a row of a kept block is that of a cell that is live.
-pub some-live : (stored : List Stored) (found : OutPoint → Option Row) → AreOfTip (blocks_of stored) found → AreOfKept (blocks_of stored) found
-    → (o : OutPoint) (row : Row) → found o ≡ Some row → (cell : Cell) × IsLiveRow (blocks_of stored) o cell row
-some-live stored found live kept o row some =
-    let below = kept o row some in
-    let tip = tip_place-there (blocks_of stored) (omega (arith, below)) in
-    row-cell stored found tip.0 live tip.1 o row some
+pub some-live : (kept : List Block) (found : OutPoint → Option Row) → AreOfTip kept found → AreOfKept kept found
+    → (o : OutPoint) (row : Row) → found o ≡ Some row → (cell : Cell) × IsLiveRow kept o cell row
+some-live kept found live of_kept o row some =
+    let below = of_kept o row some in
+    let tip = tip_place-there kept (omega (arith, below)) in
+    row-cell kept found tip.0 live tip.1 o row some
 
 -- a cell that is found is live
 pub not-live : (kept : List Block) (o : OutPoint) (told : LiveValue) → IsLiveCell kept o (Some told) → IsLiveCell kept o None → ⊥

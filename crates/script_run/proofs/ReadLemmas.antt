@@ -6,7 +6,7 @@ use Rattle.outside.specs.declared.disk.Damage.{Damage}
 use Rattle.outside.specs.declared.disk.ReadStop.{ReadStop}
 use Rattle.outside.specs.declared.disk.ReadStop.TheVariants.{Damaged, DiskFault, NoMemory}
 use Rattle.chain_tree.specs.Reading.{Findings, Finds, found_next, stop_of}
-use Rattle.vm_sys.specs.Finding as world
+use Rattle.vm_sys.specs.Finding as finding
 use Rattle.program_run.specs.declared.program.Stopped.{Stopped}
 use Rattle.program_run.specs.declared.program.Stopped.TheVariants.{Loading, Running}
 use Rattle.script_run.specs.declared.stop.ScriptStop.{ScriptStop}
@@ -50,7 +50,7 @@ same-found one other same = λ i. record { count = (same i).0; last = (same i).1
 
 -- so a world over it finds what it finds
 pub world-finds : {before after : Findings} {stop : Option ReadStop} {Answered : Damage → Type 0} → ((damage : Damage) → stop ≡ Some (Damaged damage) → Answered damage)
-    → ((damage : Damage) → Answered damage → stop ≡ Some (Damaged damage)) → Finds before after stop → world.Finds (found_in before) (found_in after) Answered
+    → ((damage : Damage) → Answered damage → stop ≡ Some (Damaged damage)) → Finds before after stop → finding.Finds (found_in before) (found_in after) Answered
 world-finds to from finds = record {
   named = λ damage is. ap found_in (finds.named damage (from damage is));
   none = λ none. ap found_in (finds.none (λ damage is. none damage (to damage is)));
@@ -59,7 +59,7 @@ world-finds to from finds = record {
 -- and it finds what the world finds
 pub found-through : {S : Type 0} {Answered : Damage → Type 0} (damages : S → Findings) (old new world : S) (stop : Option ReadStop) → damages new ≡ damages world
     → ((damage : Damage) → stop ≡ Some (Damaged damage) → Answered damage) → ((damage : Damage) → Answered damage → stop ≡ Some (Damaged damage))
-    → world.Finds (found_in (damages old)) (found_in (damages world)) Answered → Finds (damages old) (damages new) stop
+    → finding.Finds (found_in (damages old)) (found_in (damages world)) Answered → Finds (damages old) (damages new) stop
 found-through damages old new world stop same to from finds = record {
   named = λ damage is. same ∙ same-found (damages world) (found_next damage (damages old)) (finds.named damage (to damage is));
   none = λ none. same ∙ same-found (damages world) (damages old) (finds.none (λ damage is. none damage (from damage is)));

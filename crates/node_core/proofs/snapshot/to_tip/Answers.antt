@@ -5,6 +5,7 @@ use Rattle.outside.specs.Image.{Image}
 use Rattle.cell_state.specs.State.{rows}
 use Rattle.chain_tree.proofs.BlockLemmas.{len-same}
 use Rattle.chain_tree.specs.Reading.{stop_of}
+use Rattle.chain_tree.proofs.ReadLemmas.{finds_answers}
 use Rattle.log_file.proofs.Exits.{same_stop}
 use Rattle.reorg.specs.Moves.{AreOf}
 use Rattle.node_core.proofs.snapshot.to_tip.Goals as goal
@@ -36,3 +37,14 @@ returns-in-Err-moved-clause-damage g c = λ now told damage e.
 
 pub returns-in-Ok-moved-clause-below : goal.returns-in-Ok-moved-clause-below
 returns-in-Ok-moved-clause-below g c = λ are. c.in-Ok-moved.ensures.below (c.in-Ok.ensures.below are)
+
+-- ---- What is found damaged over the cache
+
+pub returns-in-Err-clause-found : goal.returns-in-Err-clause-found
+returns-in-Err-clause-found g c = λ other. refl
+
+pub returns-in-Ok-moved-clause-found : goal.returns-in-Ok-moved-clause-found
+returns-in-Ok-moved-clause-found g c = finds_answers c.in-Ok-moved.ensures.looked.found
+
+pub returns-in-Err-moved-clause-found : goal.returns-in-Err-moved-clause-found
+returns-in-Err-moved-clause-found g c = finds_answers c.in-Err-moved.ensures.looked.found

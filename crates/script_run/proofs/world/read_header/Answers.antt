@@ -1,5 +1,6 @@
-use Rattle.std.proofs.Common.{◌≡◌, refl, ap, sym, ◌∙◌, subst}
-use Rattle.std.specs.Prelude.{Option, Err, IsSome, List}
+use Rattle.std.proofs.Common.{◌≡◌, ◌<◌, length, refl, ap, sym, ◌∙◌, subst, arith}
+use Rattle.std.specs.Prelude.{Option, Err, IfSome, IsSome, List}
+use Rattle.std.proofs.lemmas.Option.{slice_get_within}
 use Rattle.codec_defs.specs.Schema.{Block}
 use Rattle.chain_tree.specs.Told.{Stored}
 use Rattle.cell_model.proofs.CopyLemmas.{in-hand}
@@ -23,3 +24,11 @@ returns-clause-part g c = λ stored made tells there.
     let is = in-hand c.block.result _ _ stored c.args.place made (c.in-Ok.ensures.read.told ∙ tells) c.in-Ok.ensures.taken there c.block.ensures in
     subst (λ (b : Block). bytes_of c.part_of.result ≡ header_part c.args.epoch_length c.args.part b.header) is
     (c.part_of.ensures c.block.result.header c.header_of.ensures)
+
+-- over blocks that are known each has an entry
+pub returns-then-place-len-clause-undamaged : goal.returns-then-place-len-clause-undamaged
+returns-then-place-len-clause-undamaged g c = λ stored made tells there damage is.
+    let long : length stored ≡ g.B.Blocks.count c.args.blocks.now =
+    subst (λ (told : Option (List Stored)). IfSome told (λ all. length all ≡ g.B.Blocks.count c.args.blocks.now)) tells (g.met.B.Blocks.told_all c.args.blocks.now) in
+    let within : c.args.place < length stored = slice_get_within stored c.args.place made there in
+    omega (arith, within, long, c.requires.counts, c.if-place-len.true, c.len.ensures.len)

@@ -1,10 +1,11 @@
-use Rattle.std.proofs.Common.{◌≡◌, List, Option, refl, sym, ap, ◌∙◌, subst, arith}
+use Rattle.std.proofs.Common.{◌≡◌, List, Option, length, refl, sym, ap, ◌∙◌, subst, arith}
 use Rattle.outside.proofs.Endings.{handed, no_answer}
 use Rattle.codec_defs.specs.Schema.{Block}
 use Rattle.cell_defs.specs.Row.{Row}
 use Rattle.chain_tree.specs.Told.{blocks_of}
+use Rattle.chain_tree.proofs.BlockLemmas.{len-same}
 use Rattle.chain_tree.proofs.ReadLemmas.{unread}
-use Rattle.node_core.specs.Node.{stored_of}
+use Rattle.node_core.specs.Node.{KeptValue, stored_of}
 use Rattle.node_core.specs.Queries.{LiveValue, IsLiveRow, IsLiveCell}
 use Rattle.node_core.proofs.QueryLemmas.{names-of, not-live}
 use Rattle.node_core.proofs.RecordedLemmas.{blocks-told}
@@ -12,6 +13,16 @@ use Rattle.node_core.proofs.kept.Kept.fetch.Goals as goal
 
 pub live-requires : goal.live-requires
 live-requires g c = record { below = c.requires.below }
+
+pub entry-requires : goal.entry-requires
+entry-requires g c =
+    omega (
+      arith,
+      c.requires.below c.args.o c.in-Some.live.row (sym c.in-Some.ensures.row),
+      ap (λ (live : LiveValue). live.row.block) c.live-2.view_is,
+      len-same (blocks_of c.self.inside.blocks.stored) c.self.inside.tree.entries c.self.invariant.indexed,
+      ap (λ (v : KeptValue). length v.chain.blocks) c.self.view_is,
+    )
 
 pub fetch-requires : goal.fetch-requires
 fetch-requires g c = record {

@@ -4,4 +4,4 @@ use Rattle.node_core.specs.Node.{NodeValue, AreOfKept}
 use Rattle.node_core.proofs.node.Node.state.Goals as goal
 
 pub returns-clause-below : goal.returns-clause-below
-returns-clause-below c = subst (λ (v : NodeValue). AreOfKept v.chain.blocks (rows v.cells)) c.self.view_is c.self.invariant.below
+returns-clause-below c = subst (λ (v : NodeValue). AreOfKept v.chain.blocks (rows c.self.inside.state)) c.self.view_is c.self.invariant.below

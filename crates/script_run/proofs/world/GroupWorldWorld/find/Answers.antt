@@ -1,4 +1,4 @@
-use Rattle.std.proofs.Common.{◌≡◌, refl, sym, ap, ◌∙◌}
+use Rattle.std.proofs.Common.{◌≡◌, ℕ, refl, sym, ap, ◌∙◌}
 use Rattle.std.specs.Prelude.{Err}
 use Rattle.outside.specs.declared.disk.ReadStop.TheVariants.{NoMemory}
 use Rattle.sys_defs.specs.World.{Here, NoIndex, Missing, Unknown}
@@ -77,8 +77,8 @@ returns-in-Unknown g c =
 
 pub report-requires : goal.report-requires
 report-requires g c = record {
-  area = λ damage is. damage-of-log c.damaged.result damage c.damaged.ensures (ap Err is);
-  no_fault = λ is. damage-no-fault c.damaged.result _ c.damaged.ensures (ap Err is);
+  area = λ damage is. damage-of-log {T = ℕ} c.damaged-stop.result damage c.damaged-stop.ensures (ap Err is);
+  no_fault = λ is. damage-no-fault {T = ℕ} c.damaged-stop.result _ c.damaged-stop.ensures (ap Err is);
 }
 
 pub returns-in-Broken : goal.returns-in-Broken
@@ -90,12 +90,12 @@ returns-in-Broken g c =
       loans = λ t. (world.blocks.ghost_name, read.loans t, read.told t, read.count t);
       here = tt;
       found = tt;
-      known = not-wanted (known_items world.tx.now.epoch_length world.tx.now.it world.group.now (g.B.Blocks.told world.blocks.now)) c.args.call _ (damage-no-want c.damaged.result _ c.damaged.ensures);
-      cause = counted-stop _ _ c.damaged.result read.cause;
+      known = not-wanted (known_items world.tx.now.epoch_length world.tx.now.it world.group.now (g.B.Blocks.told world.blocks.now)) c.args.call _ (damage-no-want c.damaged-stop.result _ c.damaged-stop.ensures);
+      cause = counted-stop _ _ c.damaged-stop.result read.cause;
       answered = world-finds (λ damage is. ap Err (some-stop _ _ is)) (λ damage is. ap stop_of is) read.found;
       undamaged = λ some damage is.
           not-broken world.tx.now.epoch_length world.tx.now.it world.group.now (g.B.Blocks.told world.blocks.now) c.args.call c.look_up.result c.look_up.ensures c.in-Broken.is some;
-      damage = λ damage is. damage-of-log c.damaged.result damage c.damaged.ensures is;
+      damage = λ damage is. damage-of-log c.damaged-stop.result damage c.damaged-stop.ensures is;
     }
 
 pub returns-in-Ok : goal.returns-in-Ok
