@@ -635,6 +635,7 @@ impl Node {
     ) -> Result<Option<u64>, ReadStop>
         ensures counted { IfOk result (λ amount. amount ≡ as_u64 (pos (counted_capacity capacity occupied
             (rate_of (block_at (best_branch self.now.chain.blocks) made)) (rate_of (block_at (best_branch self.now.chain.blocks) deposit))))) }
+        ensures there { IfOk result (λ _. (occupied ≤ capacity) × (made < length (best_branch self.now.chain.blocks)) × (deposit < length (best_branch self.now.chain.blocks))) }
         ensures undamaged { occupied ≤ capacity → made < length (best_branch self.now.chain.blocks) → deposit < length (best_branch self.now.chain.blocks)
             → (damage : Damage) → result ≡ Err (Damaged damage) → ⊥ }
         ensures damage { (damage : Damage) → result ≡ Err (Damaged damage) → damage.area ≡ log_area }

@@ -98,6 +98,7 @@ impl Kept {
     fn place_at(&self, height: u64) -> Option<u32>
         ensures within { IfSome result (λ place. place < length self.now.chain.blocks) }
         ensures block { option_and_then (block_at self.now.chain.blocks) result ≡ block_at (best_branch self.now.chain.blocks) height }
+        ensures on_branch { IfSome result (λ _. height < length (best_branch self.now.chain.blocks)) }
     {
         let tip = self.tree.tip();
         if height > self.tree.entry(tip).number {
@@ -110,6 +111,7 @@ impl Kept {
     fn rate_at(&self, height: u64) -> Option<u64>
         ensures rate { IfSome result (λ rate. rate ≡ rate_of (block_at (best_branch self.now.chain.blocks) height)) }
         ensures rated { IfSome result (λ rate. 0 < rate) }
+        ensures on_branch { IfSome result (λ _. height < length (best_branch self.now.chain.blocks)) }
         ensures there { height < length (best_branch self.now.chain.blocks) → IsSome result }
     {
         match self.place_at(height) {
@@ -232,6 +234,7 @@ impl Kept {
     ) -> Result<Option<u64>, ReadStop>
         ensures counted { IfOk result (λ amount. amount ≡ as_u64 (pos (counted_capacity capacity occupied
             (rate_of (block_at (best_branch self.now.chain.blocks) made)) (rate_of (block_at (best_branch self.now.chain.blocks) deposit))))) }
+        ensures there { IfOk result (λ _. (occupied ≤ capacity) × (made < length (best_branch self.now.chain.blocks)) × (deposit < length (best_branch self.now.chain.blocks))) }
         ensures undamaged { occupied ≤ capacity → made < length (best_branch self.now.chain.blocks) → deposit < length (best_branch self.now.chain.blocks)
             → (damage : a_damage) → result ≡ Err (Damaged damage) → ⊥ }
         ensures damage { (damage : a_damage) → result ≡ Err (Damaged damage) → damage.area ≡ Log }

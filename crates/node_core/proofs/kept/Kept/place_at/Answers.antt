@@ -4,7 +4,7 @@ use Rattle.chain_defs.specs.Tip.{best_branch}
 use Rattle.chain_tree.specs.Told.{blocks_of}
 use Rattle.chain_tree.proofs.BlockLemmas.{len-same}
 use Rattle.node_core.specs.Node.{KeptValue}
-use Rattle.node_core.proofs.QueryLemmas.{none-above, block-at}
+use Rattle.node_core.proofs.QueryLemmas.{best-long, none-above, block-at}
 use Rattle.node_core.proofs.kept.Kept.place_at.Goals as goal
 
 pub returns-then-height-entry-clause-block : goal.returns-then-height-entry-clause-block
@@ -21,6 +21,16 @@ returns-clause-within c =
       c.ancestor.ensures.within,
       len-same (blocks_of c.self.inside.blocks.stored) c.self.inside.tree.entries c.self.invariant.indexed,
       ap (λ (v : KeptValue). length v.chain.blocks) c.self.view_is,
+    )
+
+pub returns-clause-on_branch : goal.returns-clause-on_branch
+returns-clause-on_branch c =
+    omega (
+      arith,
+      c.if-height-entry.false,
+      best-long (blocks_of c.self.inside.blocks.stored) c.self.inside.tree.entries c.tip-tip.result c.self.invariant.indexed
+          (c.tip-tip.ensures.of_blocks (blocks_of c.self.inside.blocks.stored) c.self.invariant.indexed) c.entry.result.now c.entry.ensures.entry,
+      ap (λ (v : KeptValue). length (best_branch v.chain.blocks)) c.self.view_is,
     )
 
 pub returns-clause-block : goal.returns-clause-block
