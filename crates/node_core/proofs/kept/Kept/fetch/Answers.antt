@@ -22,6 +22,7 @@ entry-requires g c =
       ap (λ (live : LiveValue). live.row.block) c.live-2.view_is,
       len-same (blocks_of c.self.inside.blocks.stored) c.self.inside.tree.entries c.self.invariant.indexed,
       ap (λ (v : KeptValue). length v.chain.blocks) c.self.view_is,
+      ap (λ (row : Row). row.block) c.meta.view_is,
     )
 
 pub fetch-requires : goal.fetch-requires
