@@ -45,6 +45,10 @@ impl World for Shown {
 
     ghost loans_of = { λ shown. tt };
 
+    ghost IsSound = { λ loans. ⊤ };
+
+    ghost sound_where_told = { λ shown told. tt };
+
     fn find(&mut self, _call: Call) -> Result<Found, ReadStop> {
         Ok(self.found)
     }

@@ -1,5 +1,5 @@
 // A machine's run to its end.
-ghost use Rattle.std.specs.Prelude.{◌≡◌, ◌⊎◌, ℕ, ◌≤◌, Some, Err, true, IfOk, OnOk, IsSome};
+ghost use Rattle.std.specs.Prelude.{◌≡◌, ◌⊎◌, ℕ, ◌≤◌, Some, Err, true, IfOk, OnOk};
 ghost use Rattle.outside.specs.Causes.{CountsFault};
 ghost use Rattle.outside.specs.declared.disk.Area.TheVariants.{Log};
 ghost use Rattle.outside.specs.declared.disk.Damage.{Damage};
@@ -33,7 +33,7 @@ pub fn run<W: World>(machine: &mut Machine, world: &mut W) -> Result<Outcome, Re
     ensures wants { (items : Items) → W.told world.old ≡ Some items → result ≡ Err NoMemory → RunWants items (IsAllocated machine.old.allocated) machine.old.machine }
     ensures cause { CountsFault (W.faults world.old) (W.faults world.new) (result ≡ Err DiskFault) }
     ensures answered { Finds (W.damages world.old) (W.damages world.new) (λ damage. result ≡ Err (Damaged damage)) }
-    ensures undamaged { IsSome (W.told world.old) → (damage : Damage) → result ≡ Err (Damaged damage) → ⊥ }
+    ensures undamaged { W.IsSound (W.loans_of world.old) → (damage : Damage) → result ≡ Err (Damaged damage) → ⊥ }
     ensures damage { (damage : Damage) → result ≡ Err (Damaged damage) → damage.area ≡ Log }
 {
     'steps: loop {
@@ -57,7 +57,7 @@ fn advance<W: World>(machine: &mut Machine, world: &mut W) -> Result<Option<Outc
     ensures wants { (items : Items) → W.told world.old ≡ Some items → result ≡ Err NoMemory → WantsPage machine.old machine.new.machine ⊎ StopLoadsItem items machine.old.machine }
     ensures cause { CountsFault (W.faults world.old) (W.faults world.new) (result ≡ Err DiskFault) }
     ensures answered { Finds (W.damages world.old) (W.damages world.new) (λ damage. result ≡ Err (Damaged damage)) }
-    ensures undamaged { IsSome (W.told world.old) → (damage : Damage) → result ≡ Err (Damaged damage) → ⊥ }
+    ensures undamaged { W.IsSound (W.loans_of world.old) → (damage : Damage) → result ≡ Err (Damaged damage) → ⊥ }
     ensures damage { (damage : Damage) → result ≡ Err (Damaged damage) → damage.area ≡ Log }
     ensures room { OnOk result (LeavesRoom machine.old.machine machine.new.allocated) }
     ensures pages_kept { (page : ℕ) → IsAllocated machine.old.allocated page → IsAllocated machine.new.allocated page }

@@ -1,5 +1,5 @@
 // A syscall from its number to its result.
-ghost use Rattle.std.specs.Prelude.{◌≡◌, ◌≢◌, ℕ, true, Some, IsSome};
+ghost use Rattle.std.specs.Prelude.{◌≡◌, ◌≢◌, ℕ, true, Some};
 ghost use Rattle.outside.specs.Causes.{CountsFault};
 ghost use Rattle.outside.specs.declared.disk.Area.TheVariants.{Log};
 ghost use Rattle.outside.specs.declared.disk.Damage.{Damage};
@@ -60,7 +60,7 @@ pub fn handle<W: World>(machine: &mut Machine, world: &mut W) -> Sys
     ensures unpaid { (stop : ReadStop) → result ≡ Sys.Stop stop → machine.new.machine.cycles ≡ machine.old.machine.cycles }
     ensures cause { CountsFault (W.faults world.old) (W.faults world.new) (result ≡ Sys.Stop DiskFault) }
     ensures answered { Finds (W.damages world.old) (W.damages world.new) (λ damage. result ≡ Sys.Stop (Damaged damage)) }
-    ensures undamaged { IsSome (W.told world.old) → (damage : Damage) → result ≡ Sys.Stop (Damaged damage) → ⊥ }
+    ensures undamaged { W.IsSound (W.loans_of world.old) → (damage : Damage) → result ≡ Sys.Stop (Damaged damage) → ⊥ }
     ensures damage { (damage : Damage) → result ≡ Sys.Stop (Damaged damage) → damage.area ≡ Log }
     ensures in_part { WhereCutOff result (HoldsPart machine.old.machine machine.new.machine) }
     ensures pages_kept { (page : ℕ) → IsAllocated machine.old.allocated page → IsAllocated machine.new.allocated page }
@@ -89,7 +89,7 @@ fn load<W: World>(machine: &mut Machine, world: &mut W, form: Form) -> Sys
     ensures unpaid { (stop : ReadStop) → result ≡ Sys.Stop stop → machine.new.machine.cycles ≡ machine.old.machine.cycles }
     ensures cause { CountsFault (W.faults world.old) (W.faults world.new) (result ≡ Sys.Stop DiskFault) }
     ensures answered { Finds (W.damages world.old) (W.damages world.new) (λ damage. result ≡ Sys.Stop (Damaged damage)) }
-    ensures undamaged { IsSome (W.told world.old) → (damage : Damage) → result ≡ Sys.Stop (Damaged damage) → ⊥ }
+    ensures undamaged { W.IsSound (W.loans_of world.old) → (damage : Damage) → result ≡ Sys.Stop (Damaged damage) → ⊥ }
     ensures damage { (damage : Damage) → result ≡ Sys.Stop (Damaged damage) → damage.area ≡ Log }
     ensures in_part { WhereCutOff result (HoldsPart machine.old.machine machine.new.machine) }
     ensures pages_kept { (page : ℕ) → IsAllocated machine.old.allocated page → IsAllocated machine.new.allocated page }

@@ -44,6 +44,9 @@ pub trait World {
 
     ghost loans_of: { Self → Loans };
 
+    /// Nothing is damaged of what it has borrowed: a world of which this holds finds no damage.
+    ghost IsSound: { Loans → Type 0 };
+
     /// Finds the item that a call asks for.
     fn find(&mut self, call: Call) -> Result<Found, ReadStop>
         ensures told { told self.new ≡ told self.old }
@@ -54,13 +57,16 @@ pub trait World {
         ensures known { IfSome (told self.old) (λ told. told call ≡ items.Unknown → result ≡ Err NoMemory → ⊥) }
         ensures cause { CountsFault (faults self.old) (faults self.new) (result ≡ Err DiskFault) }
         ensures answered { Finds (damages self.old) (damages self.new) (λ damage. result ≡ Err (Damaged damage)) }
-        ensures undamaged { IsSome (told self.old) → (damage : Damage) → result ≡ Err (Damaged damage) → ⊥ }
+        ensures undamaged { IsSound (loans_of self.old) → (damage : Damage) → result ≡ Err (Damaged damage) → ⊥ }
         ensures damage { (damage : Damage) → result ≡ Err (Damaged damage) → damage.area ≡ Log };
 
     /// The bytes of the current item.
     fn bytes(&self) -> &[u8]
         requires { IsSome (here self.now) }
         ensures { here self.now ≡ Some result.now };
+
+    /// One that tells what it shows is sound.
+    ghost sound_where_told: { (world : Self) → IsSome (told world) → IsSound (loans_of world) };
 
     /// The last value of the count of faults.
     ghost last_fault: { (world : Self) → faults world ≤ 2 ^ 64 - 1 };
@@ -88,6 +94,10 @@ impl World for Alone {
     ghost Loans = { ⊤ };
 
     ghost loans_of = { λ alone. tt };
+
+    ghost IsSound = { λ loans. ⊤ };
+
+    ghost sound_where_told = { λ alone told. tt };
 
     fn find(&mut self, _call: Call) -> Result<Found, ReadStop> {
         Ok(Found::Unknown)

@@ -14,7 +14,7 @@ pub returns-in-Err-Running-clause-running : goal.returns-in-Err-Running-clause-r
 returns-in-Err-Running-clause-running c = λ running.
     program-wants-alone c.args.budget (segments c.args.file.now) (load_elf c.args.file.now)
     (stopped-alone c.execute_in.result c.in-Err-Running.field-0-0 _ (c.in-Err-Running.is ∙ ap Err c.in-Err-Running.field-0-is)
-    (c.execute_in.ensures.running nothing refl) c.execute_in.ensures.cause (c.execute_in.ensures.undamaged refl))
+    (c.execute_in.ensures.running nothing refl) c.execute_in.ensures.cause (c.execute_in.ensures.undamaged tt))
 
 pub returns-in-Err-Loading-clause-running : goal.returns-in-Err-Loading-clause-running
 returns-in-Err-Loading-clause-running c = search rules

@@ -45,7 +45,7 @@ returns-in-Ok-Spent g c =
       running = λ items told err. absurd (no-error _ _ err);
       cause = counts-none _ _ (no-error _ _);
       answered = finds-none _ (λ damage. no-error _ _);
-      undamaged = λ told damage. no-error _ _;
+      undamaged = λ sound damage. no-error _ _;
       damage = λ damage err. absurd (no-error _ _ err);
     }
 
@@ -65,7 +65,7 @@ returns-in-Ok-BadElf g c =
       running = λ items told err. absurd (no-error _ _ err);
       cause = counts-none _ _ (no-error _ _);
       answered = finds-none _ (λ damage. no-error _ _);
-      undamaged = λ told damage. no-error _ _;
+      undamaged = λ sound damage. no-error _ _;
       damage = λ damage err. absurd (no-error _ _ err);
     }
 
@@ -81,6 +81,6 @@ returns-in-Err g c = record {
   running = λ items told is. absurd (not-running NoMemory is);
   cause = counts-none _ _ (not-running DiskFault);
   answered = finds-none _ (λ damage. not-running (Damaged damage));
-  undamaged = λ told damage is. not-running (Damaged damage) is;
+  undamaged = λ sound damage is. not-running (Damaged damage) is;
   damage = λ damage is. absurd (not-running (Damaged damage) is);
 }

@@ -16,7 +16,7 @@ returns-in-Ok g c = record {
   running = λ items told is. absurd (no-error _ _ is);
   cause = counts-as (λ is. absurd (no-error _ _ is)) (λ is. absurd (no-error _ _ is)) c.in-Ok.ensures.cause;
   answered = finds-as (λ damage is. absurd (no-error _ _ is)) (λ damage is. absurd (no-error _ _ is)) c.in-Ok.ensures.answered;
-  undamaged = λ told damage. no-error _ _;
+  undamaged = λ sound damage. no-error _ _;
   damage = λ damage is. absurd (no-error _ _ is);
 }
 
@@ -31,6 +31,6 @@ returns g c = record {
   running = λ items told running. c.in-Err.ensures.wants items told (same-stop c.in-Err.stop NoMemory running);
   cause = counts-as (same-running c.in-Err.stop DiskFault) (same-stop c.in-Err.stop DiskFault) c.in-Err.ensures.cause;
   answered = finds-as (λ damage. same-running c.in-Err.stop (Damaged damage)) (λ damage. same-stop c.in-Err.stop (Damaged damage)) c.in-Err.ensures.answered;
-  undamaged = λ told damage is. c.in-Err.ensures.undamaged told damage (same-stop c.in-Err.stop (Damaged damage) is);
+  undamaged = λ sound damage is. c.in-Err.ensures.undamaged sound damage (same-stop c.in-Err.stop (Damaged damage) is);
   damage = λ damage is. c.in-Err.ensures.damage damage (same-stop c.in-Err.stop (Damaged damage) is);
 }
