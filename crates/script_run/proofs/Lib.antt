@@ -6,6 +6,7 @@ pub mod PlaceLemmas
 pub mod LookLemmas
 pub mod SyscallLemmas
 pub mod ShowingLemmas
+pub mod FitLemmas
 pub mod WorldLemmas
 pub mod ReadLemmas
 pub mod RunningLemmas

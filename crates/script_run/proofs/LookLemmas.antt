@@ -1,9 +1,9 @@
 -- What is found for a script is the item that it is answered.
-use Rattle.std.proofs.Common.{◌≡◌, ℕ, zero, suc, ◌+◌, ◌/◌, ◌%◌, ◌^◌, Bool, true, false, List, [], ◌∷◌, length, get_or, Option, Some, None, refl, sym, ap, subst, ◌∙◌, arith, eqb, cond}
+use Rattle.std.proofs.Common.{◌≡◌, ℕ, zero, suc, ◌+◌, ◌<◌, ◌/◌, ◌%◌, ◌^◌, Bool, true, false, List, [], ◌∷◌, length, get_or, Option, Some, None, refl, sym, ap, subst, ◌∙◌, arith, eqb, cond}
 use Rattle.std.specs.Prelude.{slice_get, IsSomeAnd, ◌==◌, ◌||◌}
 use Rattle.std.specs.Option.{option_map, option_and_then}
 use Rattle.std.specs.Int.{w64, to_le_bytes}
-use Rattle.std.specs.List.{AllZip, enumerate_from, list_any}
+use Rattle.std.specs.List.{All, AllZip, enumerate_from, list_any}
 use Rattle.std.proofs.lemmas.Option.{slice_get-map, get_or_from_slice_get}
 use Rattle.std.proofs.lemmas.Bool.{eqb-true}
 use Rattle.std.proofs.lemmas.List.{length-map}
@@ -18,6 +18,7 @@ use Rattle.script_defs.specs.Scene.{Scene, ShownCell}
 use Rattle.script_defs.specs.Items.{OutputWithData, answer, item_at, listed, output_of}
 use Rattle.script_defs.specs.Groups.{Group}
 use Rattle.script_defs.specs.Sources.{Place, place_in_source, source_of}
+use Rattle.script_run.specs.declared.bytes.Answer.{Answer}
 use Rattle.script_run.specs.declared.bytes.CellPart.{CellPart}
 use Rattle.script_run.specs.declared.bytes.HeaderPart.{HeaderPart}
 use Rattle.script_run.specs.declared.bytes.InputPart.{InputPart}
@@ -26,7 +27,7 @@ use Rattle.script_run.specs.declared.sources.Place as code
 use Rattle.script_run.specs.declared.sources.Target.{Target}
 use Rattle.script_run.specs.declared.sources.Target.TheVariants.{At}
 use Rattle.script_run.specs.Places.{place_meaning, target_meaning}
-use Rattle.script_run.specs.Lookups.{HasHashes, IsFound, cell_part, header_among, header_part, input_part}
+use Rattle.script_run.specs.Lookups.{HasHashes, IsFound, cell_part, header_among, header_part, input_part, item_of}
 use Rattle.script_run.specs.Shown.{IsShownAs, output_row, output_rows}
 use Rattle.script_run.proofs.PlaceLemmas.{Beside, beside, beside-none, some-is}
 
@@ -49,24 +50,16 @@ none-there R f xs ys i zip none = ap (λ (o : Option _). answer (option_map f o)
 pub one-there : {A : Type 0} (f : A → Option (List ℕ)) (xs : List A) (i : ℕ) (x : A) → slice_get xs i ≡ Some x → answer (option_map f (slice_get xs i)) ≡ answer (Some (f x))
 one-there f xs i x here = ap (λ (o : Option _). answer (option_map f o)) here
 
-pub shown-copy : (headers : ℕ → Option Header) (epoch_length : ℕ) (cells : List ShownCell) (copies : List ResolvedValue) (i : ℕ) (copy : ResolvedValue) (part : CellPart) (look : Lookup)
+pub shown-copy : (cells : List ShownCell) (copies : List ResolvedValue) (i : ℕ) (copy : ResolvedValue) (part : CellPart) (result : Answer)
     → AllZip IsShownAs copies cells → slice_get copies i ≡ Some copy
-    → ((cell : ShownCell) → IsShownAs copy cell → IsFound headers epoch_length (answer (Some (cell_part part (output_of cell)))) look)
-    → IsFound headers epoch_length (answer (option_map (λ cell. cell_part part (output_of cell)) (slice_get cells i))) look
-shown-copy headers epoch_length cells copies i copy part look zip here each =
+    → ((cell : ShownCell) → IsShownAs copy cell → answer (Some (cell_part part (output_of cell))) ≡ item_of result)
+    → answer (option_map (λ cell. cell_part part (output_of cell)) (slice_get cells i)) ≡ item_of result
+shown-copy cells copies i copy part result zip here each =
     let it : Beside IsShownAs copy cells i = beside IsShownAs copies cells i copy zip here in
-    found headers epoch_length _ _ look (one-there (λ cell. cell_part part (output_of cell)) cells i it.item it.there) (each it.item it.holds)
+    one-there (λ cell. cell_part part (output_of cell)) cells i it.item it.there ∙ each it.item it.holds
 
 pub has-hashes : (copy : ResolvedValue) (cell : ShownCell) → IsShownAs copy cell → HasHashes copy.row (output_of cell)
 has-hashes copy cell is = record { lock = is.lock; type_script = is.type_script; content_hash = is.content_hash }
-
--- a copy that is shown is an output
-pub no-output : (cells : List ShownCell) (copies : List ResolvedValue) (i : ℕ) (copy : ResolvedValue) → AllZip IsShownAs copies cells → slice_get copies i ≡ Some copy
-    → decoded cell_output copy.output ≡ None → ⊥
-no-output cells copies i copy zip here none =
-    let it : Beside IsShownAs copy cells i = beside IsShownAs copies cells i copy zip here in
-    let output = it.holds.output in
-    cc
 
 -- its row, as a part of what it is made of
 pub row-has-hashes : (copy : ResolvedValue) (row : Row) (cell : ShownCell) → row ≡ copy.row → IsShownAs copy cell → HasHashes row (output_of cell)
@@ -200,3 +193,12 @@ low-bytes n =
     let b6 : n % 2 ^ 64 / 281474976710656 % 256 ≡ n / 281474976710656 % 256 = omega arith in
     let b7 : n % 2 ^ 64 / 72057594037927936 % 256 ≡ n / 72057594037927936 % 256 = omega arith in
     λ t. b0 t ∷ b1 t ∷ b2 t ∷ b3 t ∷ b4 t ∷ b5 t ∷ b6 t ∷ b7 t ∷ []
+
+-- a place among those that are kept
+pub any-kept : (kept : ℕ) (places : List ℕ) (place : ℕ) → All (λ it. it < kept) places → list_any (λ it. it == place) places ≡ true → place < kept
+any-kept kept [] place all any = absurd cc
+any-kept kept (it ∷ places) place all any =
+    elim (eqb it place) as (λ b. eqb it place ≡ b → place < kept) [
+      | true ↦ λ same. subst (λ (n : ℕ). n < kept) (eqb-true it place same) (all 0 0 (omega arith))
+      | false ↦ λ other. any-kept kept places place (λ k d within. all (suc k) d (omega arith)) (sym (ap (λ (b : Bool). b || list_any (λ q. q == place) places) other) ∙ any)
+    ] refl

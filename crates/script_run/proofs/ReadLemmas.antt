@@ -1,5 +1,6 @@
 -- Kept blocks that were read, and what a function says of it where it ends.
-use Rattle.std.proofs.Common.{◌≡◌, ℕ, Option, Some, None, Result, Ok, Err, refl, ap, ◌∙◌, subst, arith}
+use Rattle.std.proofs.Common.{◌≡◌, ℕ, Option, Some, None, Result, Ok, Err, refl, ap, ◌∙◌, arith}
+use Rattle.std.specs.Prelude.{IfSome}
 use Rattle.outside.specs.Causes.{CountsFault}
 use Rattle.outside.specs.declared.disk.Area.TheVariants.{Log}
 use Rattle.outside.specs.declared.disk.Damage.{Damage}
@@ -12,7 +13,6 @@ use Rattle.program_run.specs.declared.program.Stopped.TheVariants.{Loading, Runn
 use Rattle.script_run.specs.declared.stop.ScriptStop.{ScriptStop}
 use Rattle.script_run.specs.declared.stop.ScriptStop.TheVariants.{Read}
 use Rattle.script_run.specs.Lookups.{found_in}
-use Rattle.script_run.specs.Grouping.{IsWantOrDamage}
 
 -- ---- Answers that are none
 
@@ -24,22 +24,6 @@ not-there other x none some = absurd (cc)
 
 pub some-stop : (stop other : ReadStop) → Some stop ≡ Some other → stop ≡ other
 some-stop stop other is = cc
-
--- damage of the log is no other stop
-pub damage-of-log : {T : Type 0} (stop : ReadStop) (damage : Damage) → stop ≡ Damaged (record { area = Log; at = 0 }) → ◌≡◌ {A = Result T ReadStop} (Err stop) (Err (Damaged damage)) → damage.area ≡ Log
-damage-of-log stop damage damaged is = let same : Damaged (record { area = Log; at = 0 }) ≡ Damaged damage = cc in cc
-
-pub damage-no-fault : {T : Type 0} (stop : ReadStop) (damage : Damage) → stop ≡ Damaged damage → ◌≡◌ {A = Result T ReadStop} (Err stop) (Err DiskFault) → ⊥
-damage-no-fault stop damage damaged is = absurd (cc)
-
-pub damage-no-want : {T : Type 0} (stop : ReadStop) (damage : Damage) → stop ≡ Damaged damage → ◌≡◌ {A = Result T ReadStop} (Err stop) (Err NoMemory) → ⊥
-damage-no-want stop damage damaged is = absurd (cc)
-
-pub logged : (stop : ReadStop) (damage : Damage) → stop ≡ Damaged (record { area = Log; at = 0 }) → Some stop ≡ Some (Damaged damage) → damage.area ≡ Log
-logged stop damage damaged is = let same : Damaged (record { area = Log; at = 0 }) ≡ Damaged damage = cc in cc
-
-pub damaged-unlike-fault : (stop : ReadStop) (damage : Damage) → stop ≡ Damaged damage → Some stop ≡ Some DiskFault → ⊥
-damaged-unlike-fault stop damage damaged is = absurd (cc)
 
 pub running-stop : {T : Type 0} (stop other : ReadStop) → ◌≡◌ {A = Result T Stopped} (Err (Running stop)) (Err (Running other)) → Some stop ≡ Some other
 running-stop stop other same = let is : stop ≡ other = cc in ap Some is
@@ -73,19 +57,34 @@ loading-unread stop same = absurd (cc)
 pub wanted-no-damage : (damage : Damage) → ◌≡◌ {A = Result ℕ ScriptStop} (Err (Read NoMemory)) (Err (Read (Damaged damage))) → ⊥
 wanted-no-damage damage is = absurd (cc)
 
--- want of memory, or damage of the log
-pub want-or-log : {T : Type 0} (stop : ReadStop) (damage : Damage) → IsWantOrDamage stop → ◌≡◌ {A = Result T ReadStop} (Err stop) (Err (Damaged damage)) → damage.area ≡ Log
-want-or-log DiskFault damage why is = absurd why
-want-or-log NoMemory damage why is = absurd (cc)
-want-or-log (Damaged other) damage why is = let same : other ≡ damage = cc in subst (λ (d : Damage). d.area ≡ Log) same why
+-- ---- What does not fit
 
-pub want-no-fault : {T : Type 0} (stop : ReadStop) → IsWantOrDamage stop → ◌≡◌ {A = Result T ReadStop} (Err stop) (Err DiskFault) → ⊥
-want-no-fault DiskFault why is = absurd why
-want-no-fault NoMemory why is = absurd (cc)
-want-no-fault (Damaged other) why is = absurd (cc)
+-- damage of the log, or no memory
+pub unfit-in-log : (T : Type 0) (found : Option ℕ) (stop : ReadStop)
+    → IfSome found (λ at. ◌≡◌ {A = Result T ReadStop} (Err stop) (Err (Damaged (record { area = Log; at = at })))) → (found ≡ None → stop ≡ NoMemory)
+    → (damage : Damage) → stop ≡ Damaged damage → damage.area ≡ Log
+unfit-in-log T None stop unfit fit damage is = let want : stop ≡ NoMemory = fit refl in absurd (cc)
+unfit-in-log T (Some at) stop unfit fit damage is = cc
 
-pub want-no-damage : {T : Type 0} (stop : ReadStop) (damage : Damage) → stop ≡ NoMemory → ◌≡◌ {A = Result T ReadStop} (Err stop) (Err (Damaged damage)) → ⊥
-want-no-damage stop damage wanted is = absurd (cc)
+pub unfit-no-fault : (T : Type 0) (found : Option ℕ) (stop : ReadStop)
+    → IfSome found (λ at. ◌≡◌ {A = Result T ReadStop} (Err stop) (Err (Damaged (record { area = Log; at = at })))) → (found ≡ None → stop ≡ NoMemory)
+    → stop ≡ DiskFault → ⊥
+unfit-no-fault T None stop unfit fit is = let want : stop ≡ NoMemory = fit refl in absurd (cc)
+unfit-no-fault T (Some at) stop unfit fit is = absurd (cc)
+
+pub unfit-answered : (T U : Type 0) (found : Option ℕ) (stop : ReadStop) → IfSome found (λ at. ◌≡◌ {A = Result T ReadStop} (Err stop) (Err (Damaged (record { area = Log; at = at }))))
+    → IfSome found (λ at. ◌≡◌ {A = Result U ScriptStop} (Err (Read stop)) (Err (Read (Damaged (record { area = Log; at = at })))))
+unfit-answered T U None stop unfit = tt
+unfit-answered T U (Some at) stop unfit = ap (λ (it : ReadStop). Err (Read it)) (let same : stop ≡ Damaged (record { area = Log; at = at }) = cc in same)
+
+-- what is there fits
+pub there-fits : {T : Type 0} (found : Option ℕ) (value : T) (Answered : ℕ → Type 0) → IfSome found (λ at. ◌≡◌ {A = Result T ReadStop} (Ok value) (Err (Damaged (record { area = Log; at = at }))))
+    → IfSome found Answered
+there-fits None value Answered unfit = tt
+there-fits (Some at) value Answered unfit = absurd (no-error _ _ unfit)
+
+pub fit-no-damage : (stop : ReadStop) → stop ≡ NoMemory → (damage : Damage) → ◌≡◌ {A = Result ℕ ScriptStop} (Err (Read stop)) (Err (Read (Damaged damage))) → ⊥
+fit-no-damage stop want damage is = absurd (cc)
 
 -- ---- Faults that are counted
 

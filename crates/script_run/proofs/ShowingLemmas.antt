@@ -1,9 +1,9 @@
 -- What a scene that is shown over kept blocks has.
 use Rattle.std.proofs.Common.{◌≡◌, ℕ, Bool, true, false, cond, List, [], ◌∷◌, length, map, Option, Some, None, refl, sym, ap, subst, ◌∙◌}
-use Rattle.std.specs.Prelude.{IfSome, IsSome}
+use Rattle.std.specs.Prelude.{IfSome}
 use Rattle.std.specs.Option.{option_map, option_and_then}
 use Rattle.std.specs.List.{AllZip}
-use Rattle.std.proofs.lemmas.Bool.{and_parts, eqb-true, false≢true}
+use Rattle.std.proofs.lemmas.Bool.{and_parts, eqb-true}
 use Rattle.std.proofs.lemmas.Slice.Eq.{bytes_eq-Decides}
 use Rattle.codec_defs.specs.Shape.{decoded}
 use Rattle.codec_defs.specs.Schema.{Header, CellOutput, cell_output, Transaction}
@@ -157,21 +157,6 @@ if-told epoch_length it group (Some stored) P each =
       | None ↦ λ none. tt
       | Some scene ↦ λ some. each stored scene refl some
     ] refl
-
--- kept blocks that are known and show a scene
-pub record IsTold (epoch_length : ℕ) (it : ResolvedTxValue) (told : Option (List Stored)) : Type 0 where
-  pub stored : List Stored
-  pub scene : Scene
-  pub told_are : told ≡ Some stored
-  pub shown : scene_shown epoch_length stored it ≡ Some scene
-
-pub is-told : (epoch_length : ℕ) (it : ResolvedTxValue) (group : GroupValue) (told : Option (List Stored)) → IsSome (known_items epoch_length it group told) → IsTold epoch_length it told
-is-told epoch_length it group None some = absurd (false≢true some)
-is-told epoch_length it group (Some stored) some =
-    elim (scene_shown epoch_length stored it) as (λ shown. scene_shown epoch_length stored it ≡ shown → IsSome (option_map (λ scene. items_of scene group) shown) → IsTold epoch_length it (Some stored)) [
-      | None ↦ λ none there. absurd (false≢true there)
-      | Some scene ↦ λ is there. record { stored = stored; scene = scene; told_are = refl; shown = is }
-    ] refl some
 
 pub told-is : (epoch_length : ℕ) (it : ResolvedTxValue) (group : GroupValue) (told : Option (List Stored)) (stored : List Stored) (scene : Scene) → told ≡ Some stored
     → scene_shown epoch_length stored it ≡ Some scene → known_items epoch_length it group told ≡ Some (items_of scene group)

@@ -1,11 +1,8 @@
 -- Groups that grow by one member after the other.
-use Rattle.std.specs.Prelude.{◌≡◌, ⊤, ℕ, suc, List, [], ◌∷◌, ◌++◌, map, Option, Some, None, if◌then◌else◌}
+use Rattle.std.specs.Prelude.{◌≡◌, ℕ, suc, List, [], ◌∷◌, ◌++◌, map, Option, Some, None, if◌then◌else◌}
 use Rattle.std.specs.List.{filter_map}
 use Rattle.std.specs.Map.{lookup}
 use Rattle.std.specs.Str.{bytes_eq}
-use Rattle.outside.specs.declared.disk.Area.TheVariants.{Log}
-use Rattle.outside.specs.declared.disk.ReadStop.{ReadStop}
-use Rattle.outside.specs.declared.disk.ReadStop.TheVariants.{DiskFault, NoMemory, Damaged}
 use Rattle.codec_defs.specs.Schema.{Script}
 use Rattle.cell_defs.specs.Cell.{script_hash}
 use Rattle.script_defs.specs.Groups.{first_scripts, places_with, present}
@@ -51,11 +48,3 @@ place_with hash place (it ∷ later) = if bytes_eq it.hash hash then Some place 
 -- the entries of a map tell the place of each group
 pub record FindsEach (places : List (List ℕ × ℕ)) (groups : List GroupValue) : Type 0 where
   pub at : (hash : List ℕ) → lookup (bytes_eq hash) places ≡ place_with hash 0 groups
-
--- ---- Why groups could not be made
-
--- not by a fault of the disk, and where something is damaged, it is the log
-abbrev pub IsWantOrDamage : ReadStop → Type 0
-IsWantOrDamage DiskFault = ⊥
-IsWantOrDamage NoMemory = ⊤
-IsWantOrDamage (Damaged damage) = damage.area ≡ Log

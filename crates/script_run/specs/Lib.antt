@@ -1,3 +1,4 @@
+pub mod Fitting
 pub mod Showing
 pub mod Shown
 pub mod Grouping

@@ -1,5 +1,5 @@
 -- What is found for a script, beside what it is answered.
-use Rattle.std.specs.Prelude.{◌≡◌, ℕ, ◌*◌, ◌==◌, List, Option, Some, None, IsSomeAnd, slice_get, if◌then◌else◌}
+use Rattle.std.specs.Prelude.{◌≡◌, ⊤, true, ℕ, ◌*◌, ◌<◌, ◌==◌, List, Option, Some, None, IsSome, IsSomeAnd, slice_get, if◌then◌else◌}
 use Rattle.std.specs.Option.{option_map, option_and_then}
 use Rattle.std.specs.List.{AllZip, list_any}
 use Rattle.codec_defs.specs.Shape.{encoded}
@@ -28,8 +28,10 @@ use Rattle.script_run.specs.declared.bytes.InputPart.{InputPart}
 use Rattle.script_run.specs.declared.bytes.InputPart.TheVariants as input
 use Rattle.script_run.specs.declared.bytes.Load.{Load}
 use Rattle.script_run.specs.declared.bytes.Load.TheVariants as load
+use Rattle.script_run.specs.declared.bytes.Answer.{Answer}
+use Rattle.script_run.specs.declared.bytes.Answer.TheVariants.{Here, NoIndex, Missing, Unknown}
 use Rattle.script_run.specs.declared.bytes.Lookup.{Lookup}
-use Rattle.script_run.specs.declared.bytes.Lookup.TheVariants.{Here, InBlock, NoIndex, Missing, Unknown, Broken}
+use Rattle.script_run.specs.declared.bytes.Lookup.TheVariants.{Answered, InBlock}
 
 abbrev pub bytes_of : Bytes → List ℕ
 bytes_of (Slice bytes) = bytes.now
@@ -81,14 +83,22 @@ pub record ShowsHeaders (headers : ℕ → Option Header) (it : ResolvedTxValue)
 
 -- ---- What is found
 
--- What is found is the item, with what the headers of kept blocks say. A copy that is no output is none.
+-- an answer as an item
+abbrev pub item_of : Answer → Item
+item_of (Here bytes) = world.Here (bytes_of bytes)
+item_of NoIndex = world.NoIndex
+item_of Missing = world.Missing
+item_of Unknown = world.Unknown
+
+-- What is found is the item, with what the headers of kept blocks say.
 abbrev pub IsFound : (ℕ → Option Header) → ℕ → Item → Lookup → Type 0
-IsFound headers epoch_length item (Here bytes) = item ≡ world.Here (bytes_of bytes)
+IsFound headers epoch_length item (Answered answer) = item ≡ item_of answer
 IsFound headers epoch_length item (InBlock place part) = IsSomeAnd (headers place) (λ h. item ≡ world.Here (header_part epoch_length part h))
-IsFound headers epoch_length item NoIndex = item ≡ world.NoIndex
-IsFound headers epoch_length item Missing = item ≡ world.Missing
-IsFound headers epoch_length item Unknown = item ≡ world.Unknown
-IsFound headers epoch_length item Broken = ⊥
+
+-- a block that is to be read is one of those that are kept
+abbrev pub IsOfKept : ℕ → Lookup → Type 0
+IsOfKept kept (Answered answer) = ⊤
+IsOfKept kept (InBlock place part) = place < kept
 
 -- the damage that a source of blocks has found: how often, and which last
 abbrev pub found_in : Findings → ℕ × Option Damage
@@ -124,3 +134,8 @@ kept_header stored place = option_map (λ it. it.block.header) (slice_get stored
 abbrev pub known_items : ℕ → ResolvedTxValue → GroupValue → Option (List Stored) → Option Items
 known_items epoch_length it group told =
     option_and_then (λ stored. option_map (λ scene. items_of scene group) (scene_shown epoch_length stored it)) told
+
+-- where that is known, the kept blocks are
+pub blocks-known : (epoch_length : ℕ) (it : ResolvedTxValue) (group : GroupValue) (told : Option (List Stored)) → IsSome (known_items epoch_length it group told) → IsSome told
+blocks-known epoch_length it group None known = known
+blocks-known epoch_length it group (Some stored) known = λ i. true

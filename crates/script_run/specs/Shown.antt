@@ -1,7 +1,7 @@
 -- A transaction with what it resolves to, beside the scene that its scripts are shown.
-use Rattle.std.specs.Prelude.{◌≡◌, ℕ, List, map, length, Some, is_some, IsSomeAnd}
+use Rattle.std.specs.Prelude.{◌≡◌, ℕ, List, map, length, Some}
 use Rattle.std.specs.Option.{option_map}
-use Rattle.std.specs.List.{All, AllZip, enumerate_from}
+use Rattle.std.specs.List.{AllZip, enumerate_from}
 use Rattle.codec_defs.specs.Shape.{decoded}
 use Rattle.codec_defs.specs.Schema.{CellOutput, cell_output, Transaction}
 use Rattle.chain_defs.specs.Hashes.{transaction_hash}
@@ -31,17 +31,6 @@ pub record Shows (it : ResolvedTxValue) (scene : Scene) : Type 0 where
   pub deps : AllZip IsShownAs it.deps scene.deps
   pub headers : length scene.headers ≡ length it.headers
 
--- ---- What is tried of it, whatever is known of kept blocks
-
--- a copy is an output, and its row has the hash of a type script just where that has one
-abbrev pub IsTyped : ResolvedValue → Type 0
-IsTyped copy = IsSomeAnd (decoded cell_output copy.output) (λ output. is_some output.type_script ≡ is_some copy.row.type_hash)
-
--- each input has its copy, which is so
-pub record HasItsInputs (it : ResolvedTxValue) : Type 0 where
-  pub whole : length it.inputs ≡ length it.tx.raw.inputs
-  pub typed : All IsTyped it.inputs
-
 -- ---- Rows of outputs
 
 -- the row of an output, as of a cell that no block has made yet
@@ -52,11 +41,12 @@ output_row t (index, output) = row_of 0 (record { output = output; content = dat
 unfoldable pub output_rows : Transaction → List Row
 output_rows t = map (output_row t) (enumerate_from 0 t.raw.outputs)
 
--- the transaction, the rows of its outputs, and how many blocks an epoch has
+-- the transaction, the rows of its outputs, how many blocks an epoch has, and how many are kept
 pub record ShownTxValue : Type 0 where
   pub it : ResolvedTxValue
   pub rows : List Row
   pub epoch_length : ℕ
+  pub kept : ℕ
 
 -- ---- Groups and codes
 

@@ -71,18 +71,22 @@ pub(crate) enum Load {
     Nothing,
 }
 
-/// What comes of a call, as far as no kept block is read.
+/// What a script is answered.
 #[derive(Clone, Copy)]
-pub(crate) enum Lookup<'a> {
+pub(crate) enum Answer<'a> {
     Here(Bytes<'a>),
-    /// It is in the header of the block at a place of the tree.
-    InBlock(u32, HeaderPart),
     /// The source does not have such items, or its end is at the index or before it.
     NoIndex,
     /// The source has the index, and there is no such item.
     Missing,
     /// There is no such source or field.
     Unknown,
-    /// The copy of the cell is no output.
-    Broken,
+}
+
+/// What comes of a call, as far as no kept block is read.
+#[derive(Clone, Copy)]
+pub(crate) enum Lookup<'a> {
+    Answered(Answer<'a>),
+    /// The answer is in the header of the block at a place of the tree.
+    InBlock(u32, HeaderPart),
 }

@@ -1,6 +1,6 @@
 // What a script is shown, as far as no kept block is read (RFC 0009; docs/MACHINE.md, "What a script is shown").
-ghost use Rattle.std.specs.Prelude.{◌≡◌, ℕ, ◌*◌, ◌^◌, List, Option, Some, None, slice_get};
-ghost use Rattle.std.specs.List.{AllZip};
+ghost use Rattle.std.specs.Prelude.{◌≡◌, ℕ, ◌*◌, ◌^◌, ◌<◌, IsTrue, List, Option, Some, None, slice_get};
+ghost use Rattle.std.specs.List.{All, AllZip};
 ghost use Rattle.sys_defs.specs.World.{Here};
 ghost use Rattle.std.specs.Option.{option_map, option_and_then};
 ghost use Rattle.std.specs.Int.{w64, to_le_bytes};
@@ -9,11 +9,13 @@ ghost use Rattle.cell_defs.specs.Cell.{data_of, occupied_by};
 ghost use Rattle.script_defs.specs.Scene.{Scene, ShownCell};
 ghost use Rattle.script_defs.specs.Items as defs;
 ghost use Rattle.script_defs.specs.Items.{OutputWithData, answer, field, cell_fields, header_fields, input_fields, item_at, listed, output_of, whole};
-ghost use Rattle.script_run.specs.Lookups.{HasHashes, IsFound, ShowsHeaders, cell_part, header_among, header_part, input_part, items_of, load_meaning};
+ghost use Rattle.script_run.specs.Fitting.{is_typed};
+ghost use Rattle.script_run.specs.Lookups.{HasHashes, IsFound, IsOfKept, ShowsHeaders, cell_part, header_among, header_part, input_part, item_of, items_of, load_meaning};
 ghost use Rattle.script_run.specs.Places.{place_meaning};
 ghost use Rattle.script_run.specs.Shown.{GroupValue, IsShownAs, Shows, output_rows};
 
-use crate::bytes::{Bytes, CellPart, HeaderPart, InputPart, Load, Lookup};
+use crate::bytes::{Answer, Bytes, CellPart, HeaderPart, InputPart, Load, Lookup};
+use crate::fitting::output_of;
 use crate::groups::Group;
 use crate::shown::{ShownTx, output_at};
 use crate::sources::{Place, Target, target_of};
@@ -25,20 +27,21 @@ const SHANNONS_PER_BYTE: u64 = 100_000_000;
 
 /// What a call asks for. A source or a field that there is not comes first, then an index, then what is missing.
 pub(crate) fn look_up<'a>(tx: &ShownTx<'a>, group: &Group<'a>, call: &Call) -> Lookup<'a>
-    ensures { (headers : ℕ → Option Header) (scene : Scene) → Shows tx.now.it scene → ShowsHeaders headers tx.now.it scene → scene.epoch_length ≡ tx.now.epoch_length
+    ensures found { (headers : ℕ → Option Header) (scene : Scene) → Shows tx.now.it scene → ShowsHeaders headers tx.now.it scene → scene.epoch_length ≡ tx.now.epoch_length
         → IsFound headers tx.now.epoch_length (items_of scene group.now call.now) result }
+    ensures kept { IsOfKept tx.now.kept result }
 {
     let it = tx.it;
     match load_of(call) {
-        Load::Transaction => Lookup::Here(Bytes::Slice(it.tx.bytes())),
-        Load::Script => Lookup::Here(Bytes::Slice(group.script.bytes())),
-        Load::TxHash => Lookup::Here(Bytes::Hash(it.hash)),
-        Load::ScriptHash => Lookup::Here(Bytes::Hash(group.hash)),
-        Load::Cell(part) => cell(tx, group, call, part),
+        Load::Transaction => Lookup::Answered(slice(it.tx.bytes())),
+        Load::Script => Lookup::Answered(slice(group.script.bytes())),
+        Load::TxHash => Lookup::Answered(Answer::Here(Bytes::Hash(it.hash))),
+        Load::ScriptHash => Lookup::Answered(Answer::Here(Bytes::Hash(group.hash))),
+        Load::Cell(part) => Lookup::Answered(cell(tx, group, call, part)),
         Load::Header(part) => header(it, group, call, part),
-        Load::Input(part) => input(it, group, call, part),
-        Load::Witness => witness(it, group, call),
-        Load::Nothing => Lookup::Unknown,
+        Load::Input(part) => Lookup::Answered(input(it, group, call, part)),
+        Load::Witness => Lookup::Answered(witness(it, group, call)),
+        Load::Nothing => Lookup::Answered(Answer::Unknown),
     }
 }
 
@@ -108,17 +111,17 @@ fn input_field(number: u64) -> Option<InputPart>
 // ---- Cells
 
 /// A part of the cell that a call names, where there is such a part.
-fn cell<'a>(tx: &ShownTx<'a>, group: &Group<'_>, call: &Call, part: Option<CellPart>) -> Lookup<'a>
-    ensures { (headers : ℕ → Option Header) (length : ℕ) (scene : Scene) → Shows tx.now.it scene
-        → IsFound headers length (listed scene group.now.group call.now (defs.cell_at scene) (option_map cell_part part)) result }
+fn cell<'a>(tx: &ShownTx<'a>, group: &Group<'_>, call: &Call, part: Option<CellPart>) -> Answer<'a>
+    ensures { (scene : Scene) → Shows tx.now.it scene
+        → listed scene group.now.group call.now (defs.cell_at scene) (option_map cell_part part) ≡ item_of result }
 {
     let Some(part) = part else {
-        return Lookup::Unknown;
+        return Answer::Unknown;
     };
     let it = tx.it;
     match target_of(it, group, call.source, call.index) {
-        Target::NoSource => Lookup::Unknown,
-        Target::NoIndex => Lookup::NoIndex,
+        Target::NoSource => Answer::Unknown,
+        Target::NoIndex => Answer::NoIndex,
         Target::At(place) => cell_at(it, &tx.outputs, place, part),
     }
 }
@@ -128,42 +131,41 @@ fn cell_at<'a>(
     rows: &[CellMeta],
     place: Place,
     part: CellPart,
-) -> Lookup<'a>
-    requires { rows.now ≡ output_rows tx.now.tx }
-    ensures { (headers : ℕ → Option Header) (length : ℕ) (scene : Scene) → Shows tx.now scene
-        → IsFound headers length (item_at (defs.cell_at scene) (cell_part part) (Some (place_meaning place))) result }
+) -> Answer<'a>
+    requires rows { rows.now ≡ output_rows tx.now.tx }
+    requires inputs { All (λ copy. IsTrue (is_typed copy)) tx.now.inputs }
+    requires deps { All (λ copy. IsTrue (is_typed copy)) tx.now.deps }
+    ensures { (scene : Scene) → Shows tx.now scene
+        → item_at (defs.cell_at scene) (cell_part part) (Some (place_meaning place)) ≡ item_of result }
 {
     match place {
         Place::Input(i) => part_of_copy(&tx.inputs, i, part),
         Place::Output(i) => part_of_output(&tx.tx, rows, i, part),
         Place::CellDep(i) => part_of_copy(&tx.deps, i, part),
-        Place::HeaderDep(_) => Lookup::NoIndex,
+        Place::HeaderDep(_) => Answer::NoIndex,
     }
 }
 
 /// A part of the cell at a place of a list of copies.
-fn part_of_copy<'a>(copies: &'a [Resolved], i: usize, part: CellPart) -> Lookup<'a>
-    ensures { (headers : ℕ → Option Header) (length : ℕ) (cells : List ShownCell) → AllZip IsShownAs copies.now cells
-        → IsFound headers length (answer (option_map (λ cell. cell_part part (output_of cell)) (slice_get cells i))) result }
+fn part_of_copy<'a>(copies: &'a [Resolved], i: usize, part: CellPart) -> Answer<'a>
+    requires { All (λ copy. IsTrue (is_typed copy)) copies.now }
+    ensures { (cells : List ShownCell) → AllZip IsShownAs copies.now cells
+        → answer (option_map (λ cell. cell_part part (output_of cell)) (slice_get cells i)) ≡ item_of result }
 {
     if i >= copies.len() {
-        return Lookup::NoIndex;
+        return Answer::NoIndex;
     }
     let copy = &copies[i];
-    match OutputView::read(&copy.output) {
-        None => Lookup::Broken,
-        Some(output) => part_of(&output, &copy.content, &copy.meta, part),
-    }
+    part_of(&output_of(copy), &copy.content, &copy.meta, part)
 }
 
 /// A part of an output of a transaction.
-fn part_of_output<'a>(tx: &TxView<'a>, rows: &[CellMeta], i: usize, part: CellPart) -> Lookup<'a>
+fn part_of_output<'a>(tx: &TxView<'a>, rows: &[CellMeta], i: usize, part: CellPart) -> Answer<'a>
     requires { rows.now ≡ output_rows tx.now }
-    ensures { (headers : ℕ → Option Header) (length : ℕ)
-        → IsFound headers length (answer (option_map (λ output. cell_part part (record { output = output; content = data_of tx.now i })) (slice_get tx.now.raw.outputs i))) result }
+    ensures { answer (option_map (λ output. cell_part part (record { output = output; content = data_of tx.now i })) (slice_get tx.now.raw.outputs i)) ≡ item_of result }
 {
     if i >= rows.len() {
-        return Lookup::NoIndex;
+        return Answer::NoIndex;
     }
     let output = output_at(tx, i);
     part_of(&output, data_at(tx, i), &rows[i], part)
@@ -175,44 +177,44 @@ fn part_of<'a>(
     content: &'a [u8],
     row: &CellMeta,
     part: CellPart,
-) -> Lookup<'a>
-    ensures { (headers : ℕ → Option Header) (length : ℕ) (cell : OutputWithData) → output.now ≡ cell.output → content.now ≡ cell.content → HasHashes row.now cell
-        → IsFound headers length (answer (Some (cell_part part cell))) result }
+) -> Answer<'a>
+    ensures { (cell : OutputWithData) → output.now ≡ cell.output → content.now ≡ cell.content → HasHashes row.now cell
+        → answer (Some (cell_part part cell)) ≡ item_of result }
 {
     match part {
         CellPart::Output => slice(output.bytes()),
         CellPart::Data => slice(content),
         CellPart::Capacity => number(output.capacity()),
-        CellPart::DataHash => Lookup::Here(Bytes::Hash(row.data_hash)),
+        CellPart::DataHash => Answer::Here(Bytes::Hash(row.data_hash)),
         CellPart::Lock => slice(output.lock().bytes()),
-        CellPart::LockHash => Lookup::Here(Bytes::Hash(row.lock_hash)),
+        CellPart::LockHash => Answer::Here(Bytes::Hash(row.lock_hash)),
         CellPart::TypeScript => match output.type_script() {
-            None => Lookup::Missing,
+            None => Answer::Missing,
             Some(script) => slice(script.bytes()),
         },
         CellPart::TypeHash => match row.type_hash {
-            None => Lookup::Missing,
-            Some(hash) => Lookup::Here(Bytes::Hash(hash)),
+            None => Answer::Missing,
+            Some(hash) => Answer::Here(Bytes::Hash(hash)),
         },
         CellPart::Occupied => occupied(output, content),
     }
 }
 
-fn slice(bytes: &[u8]) -> Lookup<'_>
-    ensures { (headers : ℕ → Option Header) (length : ℕ) → IsFound headers length (Here bytes.now) result }
+fn slice(bytes: &[u8]) -> Answer<'_>
+    ensures { Here bytes.now ≡ item_of result }
 {
-    Lookup::Here(Bytes::Slice(bytes))
+    Answer::Here(Bytes::Slice(bytes))
 }
 
-fn number<'a>(n: u64) -> Lookup<'a>
-    ensures { (headers : ℕ → Option Header) (length : ℕ) → IsFound headers length (Here (to_le_bytes w64 n)) result }
+fn number<'a>(n: u64) -> Answer<'a>
+    ensures { Here (to_le_bytes w64 n) ≡ item_of result }
 {
-    Lookup::Here(Bytes::Number(n.to_le_bytes()))
+    Answer::Here(Bytes::Number(n.to_le_bytes()))
 }
 
 /// What an output occupies with its data, in shannons, of which the lowest 64 bits are shown.
-fn occupied<'a>(output: &OutputView<'_>, content: &[u8]) -> Lookup<'a>
-    ensures { (headers : ℕ → Option Header) (length : ℕ) → IsFound headers length (Here (to_le_bytes w64 (occupied_by output.now content.now))) result }
+fn occupied<'a>(output: &OutputView<'_>, content: &[u8]) -> Answer<'a>
+    ensures { Here (to_le_bytes w64 (occupied_by output.now content.now)) ≡ item_of result }
 {
     number(occupied_bytes(output, content).wrapping_mul(SHANNONS_PER_BYTE))
 }
@@ -237,26 +239,28 @@ fn header<'a>(
     call: &Call,
     part: Option<HeaderPart>,
 ) -> Lookup<'a>
-    ensures { (headers : ℕ → Option Header) (length : ℕ) (scene : Scene) → Shows tx.now scene → ShowsHeaders headers tx.now scene
+    ensures found { (headers : ℕ → Option Header) (length : ℕ) (scene : Scene) → Shows tx.now scene → ShowsHeaders headers tx.now scene
         → IsFound headers length (listed scene group.now.group call.now (defs.header_at scene) (option_map (λ part h. Some (header_part length part h)) part)) result }
+    ensures kept { (kept : ℕ) → All (λ place. place < kept) tx.now.headers → IsOfKept kept result }
 {
     let Some(part) = part else {
-        return Lookup::Unknown;
+        return Lookup::Answered(Answer::Unknown);
     };
     match target_of(tx, group, call.source, call.index) {
-        Target::NoSource => Lookup::Unknown,
-        Target::NoIndex => Lookup::NoIndex,
+        Target::NoSource => Lookup::Answered(Answer::Unknown),
+        Target::NoIndex => Lookup::Answered(Answer::NoIndex),
         Target::At(place) => header_at(tx, place, part),
     }
 }
 
 fn header_at<'a>(tx: &ResolvedTx<'_>, place: Place, part: HeaderPart) -> Lookup<'a>
-    ensures { (headers : ℕ → Option Header) (length : ℕ) (scene : Scene) → ShowsHeaders headers tx.now scene
+    ensures found { (headers : ℕ → Option Header) (length : ℕ) (scene : Scene) → ShowsHeaders headers tx.now scene
         → IsFound headers length (item_at (defs.header_at scene) (λ h. Some (header_part length part h)) (Some (place_meaning place))) result }
+    ensures kept { (kept : ℕ) → All (λ place. place < kept) tx.now.headers → IsOfKept kept result }
 {
     match place {
         Place::Input(i) => header_of_copy(&tx.headers, &tx.inputs, i, part),
-        Place::Output(_) => Lookup::NoIndex,
+        Place::Output(_) => Lookup::Answered(Answer::NoIndex),
         Place::CellDep(i) => header_of_copy(&tx.headers, &tx.deps, i, part),
         Place::HeaderDep(i) => header_of_dep(&tx.headers, i, part),
     }
@@ -265,18 +269,19 @@ fn header_at<'a>(tx: &ResolvedTx<'_>, place: Place, part: HeaderPart) -> Lookup<
 /// A part of the header of the block that made the cell at a place of a list of copies, where the block is among those
 /// of the header deps.
 fn header_of_copy<'a>(places: &[u32], copies: &[Resolved], i: usize, part: HeaderPart) -> Lookup<'a>
-    ensures { (headers : ℕ → Option Header) (length : ℕ) (cells : List ShownCell) (shown : List Header) → AllZip (λ place it. headers place ≡ Some it) places.now shown
+    ensures found { (headers : ℕ → Option Header) (length : ℕ) (cells : List ShownCell) (shown : List Header) → AllZip (λ place it. headers place ≡ Some it) places.now shown
         → AllZip (λ copy cell. cell.header ≡ header_among places.now headers copy.row.block) copies.now cells
         → IsFound headers length (answer (option_map (λ cell. option_and_then (λ h. Some (header_part length part h)) cell.header) (slice_get cells i))) result }
+    ensures kept { (kept : ℕ) → All (λ place. place < kept) places.now → IsOfKept kept result }
 {
     if i >= copies.len() {
-        return Lookup::NoIndex;
+        return Lookup::Answered(Answer::NoIndex);
     }
     let place = made_in(&copies[i]);
     if places.contains(&place) {
         Lookup::InBlock(place, part)
     } else {
-        Lookup::Missing
+        Lookup::Answered(Answer::Missing)
     }
 }
 
@@ -289,11 +294,12 @@ fn made_in(copy: &Resolved) -> u32
 
 /// A part of the header of a header dep.
 fn header_of_dep<'a>(places: &[u32], i: usize, part: HeaderPart) -> Lookup<'a>
-    ensures { (headers : ℕ → Option Header) (length : ℕ) (shown : List Header) → AllZip (λ place it. headers place ≡ Some it) places.now shown
+    ensures found { (headers : ℕ → Option Header) (length : ℕ) (shown : List Header) → AllZip (λ place it. headers place ≡ Some it) places.now shown
         → IsFound headers length (answer (option_map (λ h. Some (header_part length part h)) (slice_get shown i))) result }
+    ensures kept { (kept : ℕ) → All (λ place. place < kept) places.now → IsOfKept kept result }
 {
     if i >= places.len() {
-        return Lookup::NoIndex;
+        return Lookup::Answered(Answer::NoIndex);
     }
     Lookup::InBlock(places[i], part)
 }
@@ -306,20 +312,20 @@ fn input<'a>(
     group: &Group<'_>,
     call: &Call,
     part: Option<InputPart>,
-) -> Lookup<'a>
-    ensures { (headers : ℕ → Option Header) (length : ℕ) (scene : Scene) → Shows tx.now scene
-        → IsFound headers length (listed scene group.now.group call.now (defs.input_at scene) (option_map input_part part)) result }
+) -> Answer<'a>
+    ensures { (scene : Scene) → Shows tx.now scene
+        → listed scene group.now.group call.now (defs.input_at scene) (option_map input_part part) ≡ item_of result }
 {
     let Some(part) = part else {
-        return Lookup::Unknown;
+        return Answer::Unknown;
     };
     match target_of(tx, group, call.source, call.index) {
-        Target::NoSource => Lookup::Unknown,
-        Target::NoIndex => Lookup::NoIndex,
+        Target::NoSource => Answer::Unknown,
+        Target::NoIndex => Answer::NoIndex,
         Target::At(Place::Input(i)) => part_of_input(&tx.tx, i, part),
-        Target::At(Place::Output(_)) => Lookup::NoIndex,
-        Target::At(Place::CellDep(_)) => Lookup::NoIndex,
-        Target::At(Place::HeaderDep(_)) => Lookup::NoIndex,
+        Target::At(Place::Output(_)) => Answer::NoIndex,
+        Target::At(Place::CellDep(_)) => Answer::NoIndex,
+        Target::At(Place::HeaderDep(_)) => Answer::NoIndex,
     }
 }
 
@@ -335,11 +341,11 @@ pub(crate) fn input_at<'a>(tx: &TxView<'a>, i: usize) -> Option<InputView<'a>>
     }
 }
 
-fn part_of_input<'a>(tx: &TxView<'a>, i: usize, part: InputPart) -> Lookup<'a>
-    ensures { (headers : ℕ → Option Header) (length : ℕ) → IsFound headers length (answer (option_map (input_part part) (slice_get tx.now.raw.inputs i))) result }
+fn part_of_input<'a>(tx: &TxView<'a>, i: usize, part: InputPart) -> Answer<'a>
+    ensures { answer (option_map (input_part part) (slice_get tx.now.raw.inputs i)) ≡ item_of result }
 {
     let Some(input) = input_at(tx, i) else {
-        return Lookup::NoIndex;
+        return Answer::NoIndex;
     };
     match part {
         InputPart::Whole => slice(input.bytes()),
@@ -349,25 +355,25 @@ fn part_of_input<'a>(tx: &TxView<'a>, i: usize, part: InputPart) -> Lookup<'a>
 }
 
 /// The witness at the place of the input or output that a call names.
-fn witness<'a>(tx: &ResolvedTx<'a>, group: &Group<'_>, call: &Call) -> Lookup<'a>
-    ensures { (headers : ℕ → Option Header) (length : ℕ) (scene : Scene) → Shows tx.now scene
-        → IsFound headers length (listed scene group.now.group call.now (defs.witness_at scene) (whole (λ witness. witness))) result }
+fn witness<'a>(tx: &ResolvedTx<'a>, group: &Group<'_>, call: &Call) -> Answer<'a>
+    ensures { (scene : Scene) → Shows tx.now scene
+        → listed scene group.now.group call.now (defs.witness_at scene) (whole (λ witness. witness)) ≡ item_of result }
 {
     match target_of(tx, group, call.source, call.index) {
-        Target::NoSource => Lookup::Unknown,
-        Target::NoIndex => Lookup::NoIndex,
+        Target::NoSource => Answer::Unknown,
+        Target::NoIndex => Answer::NoIndex,
         Target::At(Place::Input(i)) => witness_at(&tx.tx, i),
         Target::At(Place::Output(i)) => witness_at(&tx.tx, i),
-        Target::At(Place::CellDep(_)) => Lookup::NoIndex,
-        Target::At(Place::HeaderDep(_)) => Lookup::NoIndex,
+        Target::At(Place::CellDep(_)) => Answer::NoIndex,
+        Target::At(Place::HeaderDep(_)) => Answer::NoIndex,
     }
 }
 
-fn witness_at<'a>(tx: &TxView<'a>, i: usize) -> Lookup<'a>
-    ensures { (headers : ℕ → Option Header) (length : ℕ) → IsFound headers length (answer (option_map Some (slice_get tx.now.witnesses i))) result }
+fn witness_at<'a>(tx: &TxView<'a>, i: usize) -> Answer<'a>
+    ensures { answer (option_map Some (slice_get tx.now.witnesses i)) ≡ item_of result }
 {
     if i >= tx.witnesses_count() {
-        return Lookup::NoIndex;
+        return Answer::NoIndex;
     }
     slice(tx.witnesses_item(i))
 }

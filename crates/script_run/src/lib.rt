@@ -9,6 +9,7 @@
 
 mod bytes;
 mod codes;
+mod fitting;
 mod groups;
 mod items;
 mod running;

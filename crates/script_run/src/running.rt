@@ -1,6 +1,7 @@
 // All script groups of a transaction, one after the other.
-ghost use Rattle.std.specs.Prelude.{◌≡◌, ◌^◌, ◌<◌, ◌≤◌, List, map, Some, None, Err, IfOk, length};
+ghost use Rattle.std.specs.Prelude.{◌≡◌, ◌^◌, ◌<◌, ◌≤◌, List, map, Some, None, Err, IfOk, IfSome, IsSome, length};
 ghost use Rattle.std.specs.List.{All, AllZip};
+ghost use Rattle.outside.specs.declared.disk.Area.TheVariants.{Log};
 ghost use Rattle.outside.specs.declared.disk.Damage.{Damage};
 ghost use Rattle.outside.specs.declared.disk.ReadStop.TheVariants.{Damaged};
 ghost use Rattle.program_run.specs.Program.{execution_of};
@@ -8,9 +9,10 @@ ghost use Rattle.chain_tree.specs.Told.{Stored};
 ghost use Rattle.chain_tree.specs.Reading.{HasRead};
 ghost use Rattle.script_defs.specs.Scene.{Scene};
 ghost use Rattle.script_defs.specs.Outcome as defs;
+ghost use Rattle.script_run.specs.Fitting as fitting;
 ghost use Rattle.script_run.specs.Running.{ExitsWithin, IsOutcome, answer_of, read_stop_of};
 ghost use Rattle.script_run.specs.Showing.{scene_shown};
-ghost use Rattle.script_run.specs.Shown.{HasItsHash, HasItsInputs, IsShownAs};
+ghost use Rattle.script_run.specs.Shown.{HasItsHash, IsShownAs};
 ghost use Rattle.script_run.specs.declared.stop.ScriptStop.TheVariants.{Read};
 
 use crate::codes::{Codes, Located};
@@ -111,21 +113,19 @@ fn run_group<B: Blocks>(
     alloc: Global,
     tx: &ShownTx<'_>,
     codes: &Codes<'_>,
-    tree: &Tree,
     blocks: &mut B,
     group: &Group<'_>,
     place: u32,
     left: u64,
 ) -> Result<u64, ScriptStop>
     requires left { left ≤ 2 ^ 40 }
-    requires counts { B.count blocks.old ≡ length tree.now.entries }
+    requires counts { B.count blocks.old ≡ tx.now.kept }
     requires codes { codes.now ≡ tx.now.it.deps }
     ensures read { HasRead B.told B.count B.loans_of B.faults B.damages blocks.old blocks.new (read_stop_of result) }
     ensures within { IfOk result (λ cycles. cycles ≤ left) }
     ensures exact { (stored : List Stored) (scene : Scene) → B.told blocks.old ≡ Some stored → scene_shown tx.now.epoch_length stored tx.now.it ≡ Some scene
         → HasItsHash group.now → IsOutcome (defs.run_group scene left place group.now.group) result }
-    ensures undamaged { (stored : List Stored) (scene : Scene) → B.told blocks.old ≡ Some stored → scene_shown tx.now.epoch_length stored tx.now.it ≡ Some scene
-        → (damage : Damage) → read_stop_of result ≡ Some (Damaged damage) → ⊥ }
+    ensures undamaged { IsSome (B.told blocks.old) → (damage : Damage) → result ≡ Err (Read (Damaged damage)) → ⊥ }
 {
     if is_type_id(&group.script) {
         let it = tx.it;
@@ -134,7 +134,7 @@ fn run_group<B: Blocks>(
     match codes.find(&group.script) {
         Located::NoCode => Err(ScriptStop::Failed(Failure::NoCode(place))),
         Located::ManyCodes => Err(ScriptStop::Failed(Failure::ManyCodes(place))),
-        Located::At(code) => match run_code(alloc, tx, group, tree, blocks, code, left) {
+        Located::At(code) => match run_code(alloc, tx, group, blocks, code, left) {
             Ok(came) => answered(executed(place, came, left)),
             Err(stop) => Err(ScriptStop::Read(stop)),
         },
@@ -146,26 +146,24 @@ fn run_each<B: Blocks>(
     alloc: Global,
     tx: &ShownTx<'_>,
     codes: &Codes<'_>,
-    tree: &Tree,
     blocks: &mut B,
     groups: &[Group<'_>],
     budget: u64,
 ) -> Result<u64, ScriptStop>
     requires few { length groups.now < 2 ^ 32 }
     requires budget { budget ≤ 2 ^ 40 }
-    requires counts { B.count blocks.old ≡ length tree.now.entries }
+    requires counts { B.count blocks.old ≡ tx.now.kept }
     requires codes { codes.now ≡ tx.now.it.deps }
     ensures read { HasRead B.told B.count B.loans_of B.faults B.damages blocks.old blocks.new (read_stop_of result) }
     ensures within { IfOk result (λ cycles. cycles ≤ budget) }
     ensures exact { (stored : List Stored) (scene : Scene) → B.told blocks.old ≡ Some stored → scene_shown tx.now.epoch_length stored tx.now.it ≡ Some scene
         → All HasItsHash groups.now → IsOutcome (defs.run_from scene budget 0 (map (λ it. it.group) groups.now)) result }
-    ensures undamaged { (stored : List Stored) (scene : Scene) → B.told blocks.old ≡ Some stored → scene_shown tx.now.epoch_length stored tx.now.it ≡ Some scene
-        → (damage : Damage) → read_stop_of result ≡ Some (Damaged damage) → ⊥ }
+    ensures undamaged { IsSome (B.told blocks.old) → (damage : Damage) → result ≡ Err (Read (Damaged damage)) → ⊥ }
 {
     let mut used = 0;
     'groups: for i in 0..groups.len() {
         let left = budget - used;
-        match run_group(alloc, tx, codes, tree, blocks, &groups[i], i as u32, left) {
+        match run_group(alloc, tx, codes, blocks, &groups[i], i as u32, left) {
             Ok(cycles) => used += cycles,
             Err(stop) => return Err(stop),
         }
@@ -179,36 +177,31 @@ fn run_shown<'a, B: Blocks>(
     alloc: Global,
     tx: &'a ShownTx<'a>,
     codes: &Codes<'_>,
-    tree: &Tree,
     blocks: &mut B,
     budget: u64,
 ) -> Result<u64, ScriptStop>
     requires budget { budget ≤ 2 ^ 40 }
-    requires counts { B.count blocks.old ≡ length tree.now.entries }
+    requires counts { B.count blocks.old ≡ tx.now.kept }
     requires codes { codes.now ≡ tx.now.it.deps }
     ensures read { HasRead B.told B.count B.loans_of B.faults B.damages blocks.old blocks.new (read_stop_of result) }
     ensures within { IfOk result (λ cycles. cycles ≤ budget) }
     ensures exact { (stored : List Stored) (scene : Scene) → B.told blocks.old ≡ Some stored → scene_shown tx.now.epoch_length stored tx.now.it ≡ Some scene
         → IsOutcome (defs.outcome_of scene budget) result }
-    ensures inputs { read_stop_of result ≡ None → HasItsInputs tx.now.it }
-    ensures undamaged { (stored : List Stored) (scene : Scene) → B.told blocks.old ≡ Some stored → scene_shown tx.now.epoch_length stored tx.now.it ≡ Some scene
-        → (damage : Damage) → read_stop_of result ≡ Some (Damaged damage) → ⊥ }
+    ensures undamaged { IsSome (B.told blocks.old) → (damage : Damage) → result ≡ Err (Read (Damaged damage)) → ⊥ }
 {
     let groups = match groups_of(alloc, tx) {
         Ok(groups) => groups,
-        Err(stop) => {
-            blocks.report(stop);
-            return Err(ScriptStop::Read(stop));
-        }
+        Err(NoMemory) => return Err(ScriptStop::Read(ReadStop::NoMemory)),
     };
     if let Some(failure) = first_without_code(codes, &groups) {
         return Err(ScriptStop::Failed(failure));
     }
-    run_each(alloc, tx, codes, tree, blocks, &groups, budget)
+    run_each(alloc, tx, codes, blocks, &groups, budget)
 }
 
 /// Runs the script groups of a transaction within a budget in cycles: `Ok` has the cycles that they take. No group runs
-/// where the code of one is not found. Damaged, in LOG, where a copy is no output, or a header dep's block is none.
+/// where the code of one is not found, and nothing is asked of the blocks where what it resolves to does not fit, which is
+/// damage.
 pub fn run_groups<B: Blocks>(
     alloc: Global,
     spec: &Spec,
@@ -222,22 +215,28 @@ pub fn run_groups<B: Blocks>(
     ensures read { HasRead B.told B.count B.loans_of B.faults B.damages blocks.old blocks.new (read_stop_of result) }
     ensures within { IfOk result (λ cycles. cycles ≤ budget) }
 
-    // Over any source of blocks: each input has its copy, or nothing is answered of the scripts.
-    ensures inputs { read_stop_of result ≡ None → HasItsInputs tx.now }
+    // Over any source of blocks: what does not fit is damage where its block lies, and nothing else is answered.
+    ensures unfit { IfSome (fitting.unfit tree.now.entries tx.now) (λ at. result ≡ Err (Read (Damaged (record { area = Log; at = at })))) }
 
     // Over kept blocks that are known, where it shows a scene.
     ensures exact { (stored : List Stored) (scene : Scene) → B.told blocks.old ≡ Some stored → scene_shown spec.now.epoch_length stored tx.now ≡ Some scene
         → IsOutcome (defs.outcome_of scene budget) result }
     ensures undamaged { (stored : List Stored) (scene : Scene) → B.told blocks.old ≡ Some stored → scene_shown spec.now.epoch_length stored tx.now ≡ Some scene
         → (damage : Damage) → result ≡ Err (Read (Damaged damage)) → ⊥ }
+
+    // Over kept blocks that are known what fits is not damaged.
+    ensures fit { IsSome (B.told blocks.old) → fitting.unfit tree.now.entries tx.now ≡ None → (damage : Damage) → result ≡ Err (Read (Damaged damage)) → ⊥ }
 {
-    let shown = match ShownTx::of(alloc, tx, spec.epoch_length) {
+    let shown = match ShownTx::of(alloc, tx, tree, spec.epoch_length) {
         Ok(shown) => shown,
-        Err(NoMemory) => return Err(ScriptStop::Read(ReadStop::NoMemory)),
+        Err(stop) => {
+            blocks.report(stop);
+            return Err(ScriptStop::Read(stop));
+        }
     };
     let codes = match Codes::of(alloc, &tx.deps) {
         Ok(codes) => codes,
         Err(NoMemory) => return Err(ScriptStop::Read(ReadStop::NoMemory)),
     };
-    run_shown(alloc, &shown, &codes, tree, blocks, budget)
+    run_shown(alloc, &shown, &codes, blocks, budget)
 }

@@ -1,47 +1,68 @@
 // A transaction as its scripts are shown it.
-ghost use Rattle.std.specs.Prelude.{◌≡◌, ◌<◌, Some, IfOk, length, slice_get};
+ghost use Rattle.std.specs.Prelude.{◌≡◌, ◌<◌, Some, None, Err, IfOk, IfErr, IfSome, length, slice_get};
+ghost use Rattle.outside.specs.declared.disk.Area.TheVariants.{Log};
+ghost use Rattle.outside.specs.declared.disk.ReadStop.TheVariants.{Damaged, NoMemory as no_memory};
+ghost use Rattle.script_run.specs.Fitting as fitting;
 ghost use Rattle.script_run.specs.Shown.{output_rows};
 
+use crate::fitting::unfit;
 use cell_model::{CellMeta, ResolvedTx, data_at, meta_of};
+use chain_tree::Tree;
 use mol_schema::{OutputView, TxView};
-use outside::NoMemory;
+use outside::{Area, Damage, NoMemory, ReadStop};
 use std::alloc::Global;
 use std::marker::Model;
 
-/// A transaction with what it resolves to, the rows of its outputs, so that each is hashed once, and how many blocks an
-/// epoch has.
+/// A transaction with what it resolves to, which fits, the rows of its outputs, so that each is hashed once, how many
+/// blocks an epoch has, and how many are kept.
 #[derive(Drop)]
 pub(crate) struct ShownTx<'a> {
     pub(crate) it: &'a ResolvedTx<'a>,
     pub(crate) outputs: Vec<CellMeta>,
     pub(crate) epoch_length: u32,
+    pub(crate) kept: u32,
 }
 
 impl<'a> Model for ShownTx<'a> {
-    ghost use Rattle.std.specs.Prelude.{◌≡◌};
+    ghost use Rattle.std.specs.Prelude.{◌≡◌, ◌^◌, ◌<◌, length};
+    ghost use Rattle.script_run.specs.Fitting.{Fits};
     ghost use Rattle.script_run.specs.Shown.{ShownTxValue, output_rows};
 
     ghost Value = { ShownTxValue };
 
-    ghost view = { λ shown. record { it = shown.it.now; rows = shown.outputs.items; epoch_length = shown.epoch_length } };
+    ghost view = { λ shown. record { it = shown.it.now; rows = shown.outputs.items; epoch_length = shown.epoch_length; kept = shown.kept } };
 
-    ghost invariant = { λ shown. shown.outputs.items ≡ output_rows shown.it.now.tx };
+    ghost invariant = { λ shown. (shown.outputs.items ≡ output_rows shown.it.now.tx) × Fits shown.kept shown.it.now × (length shown.it.now.inputs < 2 ^ 32) };
 }
 
 impl<'a> ShownTx<'a> {
+    /// Damaged where what it resolves to does not fit, which is found before memory is asked for.
     pub(crate) fn of(
         alloc: Global,
         it: &'a ResolvedTx<'a>,
+        tree: &Tree,
         epoch_length: u32,
-    ) -> Result<ShownTx<'a>, NoMemory>
+    ) -> Result<ShownTx<'a>, ReadStop>
+        ensures unfit { IfSome (fitting.unfit tree.now.entries it.now) (λ at. result ≡ Err (Damaged (record { area = Log; at = at }))) }
+        ensures fit { fitting.unfit tree.now.entries it.now ≡ None → IfErr result (λ stop. stop ≡ no_memory) }
         ensures it { IfOk result (λ shown. shown.it ≡ it.now) }
         ensures epoch_length { IfOk result (λ shown. shown.epoch_length ≡ epoch_length) }
+        ensures kept { IfOk result (λ shown. shown.kept ≡ length tree.now.entries) }
     {
-        let outputs = rows_of(alloc, &it.tx)?;
+        if let Some(at) = unfit(it, tree) {
+            return Err(ReadStop::Damaged(Damage {
+                area: Area::Log,
+                at,
+            }));
+        }
+        let Ok(outputs) = rows_of(alloc, &it.tx) else {
+            return Err(ReadStop::NoMemory);
+        };
         Ok(ShownTx {
             it,
             outputs,
             epoch_length,
+            kept: tree.len(),
         })
     }
 }

@@ -1,9 +1,5 @@
 // Why the scripts of a transaction were not run to a good end.
-ghost use Rattle.std.specs.Prelude.{◌≡◌};
-ghost use Rattle.outside.specs.declared.disk.Area.TheVariants.{Log};
-ghost use Rattle.outside.specs.declared.disk.ReadStop.TheVariants.{Damaged};
-
-use outside::{Area, Damage, ReadStop};
+use outside::ReadStop;
 use script_defs::Failure;
 use std::error::Error;
 use std::fmt;
@@ -27,13 +23,3 @@ impl fmt::Display for ScriptStop {
 }
 
 impl Error for ScriptStop {}
-
-/// A copy of a cell that is not what its row says, or a block that is not what was kept. Where in LOG is not looked for.
-pub(crate) fn damaged() -> ReadStop
-    ensures { result ≡ Damaged (record { area = Log; at = 0 }) }
-{
-    ReadStop::Damaged(Damage {
-        area: Area::Log,
-        at: 0,
-    })
-}

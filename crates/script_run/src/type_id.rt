@@ -1,7 +1,5 @@
 // TYPE_ID, a script that is a rule (RFC 0022, "Type ID").
-ghost use Rattle.std.specs.Prelude.{◌≡◌, ℕ, List, slice_get, Some, ◌<◌, ◌^◌, length};
-ghost use Rattle.std.specs.List.{list_all};
-ghost use Rattle.std.specs.Str.{bytes_eq};
+ghost use Rattle.std.specs.Prelude.{◌≡◌, slice_get, Some, ◌<◌};
 ghost use Rattle.script_defs.specs.Codes as codes;
 ghost use Rattle.script_defs.specs.Scene.{Scene};
 ghost use Rattle.script_defs.specs.TypeId as defs;

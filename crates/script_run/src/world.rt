@@ -1,5 +1,5 @@
 // What surrounds the script of a group, and the run of its code there.
-ghost use Rattle.std.specs.Prelude.{◌≡◌, ◌^◌, ◌*◌, ◌<◌, ◌≤◌, List, Some, Err, IfOk, length, slice_get};
+ghost use Rattle.std.specs.Prelude.{◌≡◌, ◌^◌, ◌*◌, ◌<◌, ◌≤◌, List, Some, Err, IfOk, IsSome, slice_get};
 ghost use Rattle.outside.specs.declared.disk.Damage.{Damage};
 ghost use Rattle.outside.specs.declared.disk.ReadStop.TheVariants.{Damaged};
 ghost use Rattle.vm_defs.specs.Program.{execution};
@@ -17,12 +17,11 @@ ghost use Rattle.script_run.specs.Running.{ExitsWithin};
 ghost use Rattle.script_run.specs.Showing.{scene_shown};
 ghost use Rattle.script_run.specs.Shown.{HasItsHash};
 
-use crate::bytes::{Bytes, HeaderPart, Lookup};
+use crate::bytes::{Answer, Bytes, HeaderPart, Lookup};
 use crate::groups::Group;
 use crate::items::look_up;
 use crate::shown::ShownTx;
-use crate::stop::damaged;
-use chain_tree::{Blocks, Tree};
+use chain_tree::Blocks;
 use mol_schema::{BlockView, HeaderView};
 use outside::ReadStop;
 use program_run::{Execution, Stopped, execute_in};
@@ -35,16 +34,15 @@ pub(crate) struct GroupWorld<'a, 'w, 'b, B: Blocks> {
     blocks: &'b mut B,
     tx: &'w ShownTx<'a>,
     group: &'w Group<'a>,
-    tree: &'w Tree,
     hand: Option<Bytes<'a>>,
-    ghost counts: { B.count blocks.now ≡ length tree.now.entries },
+    ghost counts: { B.count blocks.now ≡ tx.now.kept },
 }
 
 impl<'a, 'w, 'b, B: Blocks> World for GroupWorld<'a, 'w, 'b, B> {
-    ghost use Rattle.std.specs.Prelude.{ℕ, List, Option};
+    ghost use Rattle.std.specs.Prelude.{ℕ, List, Option, IsSome};
     ghost use Rattle.std.specs.Option.{option_map};
     ghost use Rattle.chain_tree.specs.Told.{Stored};
-    ghost use Rattle.script_run.specs.Lookups.{bytes_of, found_in, known_items};
+    ghost use Rattle.script_run.specs.Lookups.{blocks-known, bytes_of, found_in, known_items};
 
     ghost told = { λ world. known_items world.tx.now.epoch_length world.tx.now.it world.group.now (B.told world.blocks.now) };
 
@@ -60,29 +58,31 @@ impl<'a, 'w, 'b, B: Blocks> World for GroupWorld<'a, 'w, 'b, B> {
 
     ghost loans_of = { λ world. (world.blocks.ghost_name, B.loans_of world.blocks.now, B.told world.blocks.now, B.count world.blocks.now) };
 
+    // Over blocks that are known.
+    ghost IsSound = { λ loans. IsSome loans.2 };
+
+    ghost sound_where_told = { λ world known. blocks-known world.tx.now.epoch_length world.tx.now.it world.group.now (B.told world.blocks.now) known };
+
     fn find(&mut self, call: Call) -> Result<Found, ReadStop> {
         let tx = self.tx;
         match look_up(tx, self.group, &call) {
-            Lookup::Here(bytes) => {
-                self.hand = Some(bytes);
-                Ok(Found::Here)
-            }
+            Lookup::Answered(answer) => match answer {
+                Answer::Here(bytes) => {
+                    self.hand = Some(bytes);
+                    Ok(Found::Here)
+                }
+                Answer::NoIndex => Ok(Found::NoIndex),
+                Answer::Missing => Ok(Found::Missing),
+                Answer::Unknown => Ok(Found::Unknown),
+            },
             Lookup::InBlock(place, part) => {
-                match read_header(self.tree, self.blocks, place, part, tx.epoch_length) {
+                match read_header(self.blocks, place, part, tx.epoch_length) {
                     Ok(bytes) => {
                         self.hand = Some(bytes);
                         Ok(Found::Here)
                     }
                     Err(stop) => Err(stop),
                 }
-            }
-            Lookup::NoIndex => Ok(Found::NoIndex),
-            Lookup::Missing => Ok(Found::Missing),
-            Lookup::Unknown => Ok(Found::Unknown),
-            Lookup::Broken => {
-                let stop = damaged();
-                self.blocks.report(stop);
-                Err(stop)
             }
         }
     }
@@ -95,26 +95,19 @@ impl<'a, 'w, 'b, B: Blocks> World for GroupWorld<'a, 'w, 'b, B> {
     }
 }
 
-/// Reads a part of the header of the block at a place. Damaged where no block is kept there.
+/// Reads a part of the header of the block at a place.
 fn read_header<'a, B: Blocks>(
-    tree: &Tree,
     blocks: &mut B,
     place: u32,
     part: HeaderPart,
     epoch_length: u32,
 ) -> Result<Bytes<'a>, ReadStop>
-    requires counts { B.count blocks.old ≡ length tree.now.entries }
+    requires within { place < B.count blocks.old }
     ensures read { HasRead B.told B.count B.loans_of B.faults B.damages blocks.old blocks.new (stop_of result) }
     ensures part { (stored : List Stored) (made : Stored) → B.told blocks.old ≡ Some stored → slice_get stored place ≡ Some made
         → IfOk result (λ bytes. bytes_of bytes ≡ header_part epoch_length part made.block.header) }
-    ensures undamaged { (stored : List Stored) (made : Stored) → B.told blocks.old ≡ Some stored → slice_get stored place ≡ Some made
-        → (damage : Damage) → stop_of result ≡ Some (Damaged damage) → ⊥ }
+    ensures undamaged { IsSome (B.told blocks.old) → (damage : Damage) → result ≡ Err (Damaged damage) → ⊥ }
 {
-    if place >= tree.len() {
-        let stop = damaged();
-        blocks.report(stop);
-        return Err(stop);
-    }
     match blocks.bring(place) {
         Ok(()) => {}
         Err(stop) => return Err(stop),
@@ -166,31 +159,27 @@ fn epoch_of(number: u64, epoch_length: u32) -> u64
     }
 }
 
-/// Runs the code of a group within a budget in cycles, over what the group is shown. Damaged where a copy is no output,
-/// or a header dep's block is none.
+/// Runs the code of a group within a budget in cycles, over what the group is shown.
 pub(crate) fn run_code<'a, 'w, B: Blocks>(
     alloc: Global,
     tx: &'w ShownTx<'a>,
     group: &'w Group<'a>,
-    tree: &'w Tree,
     blocks: &mut B,
     code: &[u8],
     budget: u64,
 ) -> Result<Execution, ReadStop>
     requires budget { budget ≤ 2 ^ 40 }
-    requires counts { B.count blocks.old ≡ length tree.now.entries }
+    requires counts { B.count blocks.old ≡ tx.now.kept }
     ensures read { HasRead B.told B.count B.loans_of B.faults B.damages blocks.old blocks.new (stop_of result) }
     ensures came { (stored : List Stored) (scene : Scene) → B.told blocks.old ≡ Some stored → scene_shown tx.now.epoch_length stored tx.now.it ≡ Some scene
         → HasItsHash group.now → IfOk result (λ came. execution_of came ≡ execution (syscall (items scene group.now.group)) budget code.now) }
     ensures within { IfOk result (ExitsWithin budget) }
-    ensures undamaged { (stored : List Stored) (scene : Scene) → B.told blocks.old ≡ Some stored → scene_shown tx.now.epoch_length stored tx.now.it ≡ Some scene
-        → (damage : Damage) → stop_of result ≡ Some (Damaged damage) → ⊥ }
+    ensures undamaged { IsSome (B.told blocks.old) → (damage : Damage) → result ≡ Err (Damaged damage) → ⊥ }
 {
     let mut world = GroupWorld {
         blocks,
         tx,
         group,
-        tree,
         hand: None,
     };
     let came = execute_in(alloc, code, budget, &mut world);

@@ -1,7 +1,6 @@
 use Rattle.std.proofs.Common.{◌≡◌, ◌<◌, List, [], Option, Some, length, map, take, ap, sym, ◌∙◌, arith}
 use Rattle.std.proofs.lemmas.List.{take_all}
 use Rattle.std.proofs.lemmas.Option.{slice_get_within}
-use Rattle.std.proofs.lemmas.Result.{err_from_is_err_and}
 use Rattle.codec_defs.specs.Schema.{Script}
 use Rattle.script_defs.specs.Scene.{ShownCell}
 use Rattle.script_run.specs.Grouping.{grouped}
@@ -28,16 +27,10 @@ inputs-preserved c = record {
       ∙ ap (λ (l : List (Option Script)). grouped l []) (map-more given cells c.inputs.i at.other at.there);
 }
 
-pub returns-clause-groups : goal.returns-clause-groups
-returns-clause-groups c cells zip =
-    let long : length c.args.copies.now ≡ length cells = zip-long IsShownAs c.args.copies.now cells zip in
-    c.inputs.invariant.groups cells zip
-    ∙ ap (λ (l : List ShownCell). grouped (map given l) []) (take_all c.inputs.i cells (omega (arith, long, c.inputs-test.false)))
-
-pub returns-in_err-join_lock-clause-undamaged : goal.returns-in_err-join_lock-clause-undamaged
-returns-in_err-join_lock-clause-undamaged c cells zip =
-    let at : Beside IsShownAs c.index-copies-i.result cells c.inputs.i =
-    beside IsShownAs c.args.copies.now cells c.inputs.i c.index-copies-i.result zip c.inputs-test.true c.index-copies-i.is in
-    let want = c.in_err-join_lock.ensures.undamaged at.other at.holds in
-    let p = err_from_is_err_and c.from_residual.result c.from_residual.ensures.1 in
-    rw (p.1, p.2) want
+pub returns : goal.returns
+returns c = record {
+  groups = λ cells zip.
+      let long : length c.args.copies.now ≡ length cells = zip-long IsShownAs c.args.copies.now cells zip in
+      c.inputs.invariant.groups cells zip
+      ∙ ap (λ (l : List ShownCell). grouped (map given l) []) (take_all c.inputs.i cells (omega (arith, long, c.inputs-test.false)));
+}

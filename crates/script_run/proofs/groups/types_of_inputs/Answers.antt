@@ -1,14 +1,10 @@
-use Rattle.std.proofs.Common.{◌≡◌, ◌<◌, List, [], Option, length, map, take, ap, sym, ◌∙◌, subst, arith}
-use Rattle.std.specs.List.{All}
+use Rattle.std.proofs.Common.{◌≡◌, ◌<◌, List, [], Option, length, map, take, ap, sym, ◌∙◌, arith}
 use Rattle.std.proofs.lemmas.List.{take_all}
-use Rattle.std.proofs.lemmas.List.Elements.{All-nil, All-more}
 use Rattle.std.proofs.lemmas.Option.{slice_get_within}
-use Rattle.std.proofs.lemmas.Result.{err_from_is_err_and}
 use Rattle.codec_defs.specs.Schema.{Script}
-use Rattle.cell_model.specs.Copies.{ResolvedValue}
 use Rattle.script_defs.specs.Scene.{ShownCell}
 use Rattle.script_run.specs.Grouping.{grouped}
-use Rattle.script_run.specs.Shown.{IsShownAs, IsTyped}
+use Rattle.script_run.specs.Shown.{IsShownAs}
 use Rattle.script_run.proofs.GroupLemmas.{grouped-none}
 use Rattle.script_run.proofs.WalkLemmas.{Beside, beside, zip-long, map-more, map-taken}
 use Rattle.script_run.proofs.groups.types_of_inputs.Goals as goal
@@ -20,7 +16,6 @@ pub inputs-init : goal.inputs-init
 inputs-init c = record {
   known = c.new-grouping.ensures.known;
   groups = λ cells zip. c.new-grouping.ensures.groups ∙ sym grouped-none;
-  typed = All-nil IsTyped;
 }
 
 pub inputs-preserved : goal.inputs-preserved
@@ -33,8 +28,6 @@ inputs-preserved c = record {
       c.in_ok-join_type.ensures.groups at.other (map given (take c.inputs.i cells)) at.holds (c.inputs.invariant.groups cells zip)
       (map-taken given cells c.inputs.i (omega (arith, within)))
       ∙ ap (λ (l : List (Option Script)). grouped l []) (map-more given cells c.inputs.i at.other at.there);
-  typed = All-more IsTyped c.args.copies.now c.inputs.i c.index-copies-i.result c.inputs-test.true c.inputs.invariant.typed
-      (subst IsTyped c.index-copies-i.is c.in_ok-join_type.ensures.typed);
 }
 
 pub returns-clause-groups : goal.returns-clause-groups
@@ -42,14 +35,3 @@ returns-clause-groups c cells zip =
     let long : length c.args.copies.now ≡ length cells = zip-long IsShownAs c.args.copies.now cells zip in
     c.inputs.invariant.groups cells zip
     ∙ ap (λ (l : List ShownCell). grouped (map given l) []) (take_all c.inputs.i cells (omega (arith, long, c.inputs-test.false)))
-
-pub returns-clause-typed : goal.returns-clause-typed
-returns-clause-typed c = subst (λ (l : List ResolvedValue). All IsTyped l) (take_all c.inputs.i c.args.copies.now (omega (arith, c.inputs-test.false))) c.inputs.invariant.typed
-
-pub returns-in_err-join_type-clause-undamaged : goal.returns-in_err-join_type-clause-undamaged
-returns-in_err-join_type-clause-undamaged c cells zip =
-    let at : Beside IsShownAs c.index-copies-i.result cells c.inputs.i =
-    beside IsShownAs c.args.copies.now cells c.inputs.i c.index-copies-i.result zip c.inputs-test.true c.index-copies-i.is in
-    let want = c.in_err-join_type.ensures.undamaged at.other at.holds in
-    let p = err_from_is_err_and c.from_residual.result c.from_residual.ensures.1 in
-    rw (p.1, p.2) want

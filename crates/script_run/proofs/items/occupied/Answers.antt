@@ -1,9 +1,10 @@
 use Rattle.std.proofs.Common.{◌*◌, ap, sym, ◌∙◌}
 use Rattle.std.specs.Int.{w64, to_le_bytes}
 use Rattle.sys_defs.specs.World.{Here}
-use Rattle.script_run.proofs.LookLemmas.{found, low-bytes}
+use Rattle.script_run.proofs.LookLemmas.{low-bytes}
 use Rattle.script_run.proofs.items.occupied.Goals as goal
 
 pub returns : goal.returns
-returns c headers length =
-    found headers length _ _ c.number.result (ap Here (ap (to_le_bytes w64) (sym c.occupied_bytes.ensures) ∙ sym (low-bytes (c.occupied_bytes.result * 100000000)))) (c.number.ensures headers length)
+returns c =
+    ap Here (ap (to_le_bytes w64) (sym c.occupied_bytes.ensures) ∙ sym (low-bytes (c.occupied_bytes.result * 100000000)))
+    ∙ c.number.ensures

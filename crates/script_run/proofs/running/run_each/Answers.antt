@@ -1,5 +1,8 @@
-use Rattle.std.proofs.Common.{refl, ◌∙◌, arith}
+use Rattle.std.proofs.Common.{List, Option, refl, ap, sym, subst, ◌∙◌, arith}
+use Rattle.std.specs.Prelude.{IsSome}
+use Rattle.chain_tree.specs.Told.{Stored}
 use Rattle.chain_tree.proofs.ReadLemmas.{read_on}
+use Rattle.script_run.specs.Running.{read_stop_of}
 use Rattle.script_run.proofs.ReadLemmas.{not-there}
 use Rattle.script_run.proofs.RunningLemmas.{its-hash, ran-one, ran-each, ran-to-stop}
 use Rattle.script_run.proofs.running.run_each.Goals as goal
@@ -13,7 +16,7 @@ returns-in-Err g c = record {
       ran-to-stop scene c.args.budget c.groups.used c.args.groups.now c.groups.i c.index-groups-i.result _ c.in-Err.stop
       (c.groups.invariant.ran stored scene tells shown hashes) c.groups-test.true c.index-groups-i.is
       (c.in-Err.ensures.exact stored scene (c.groups.invariant.read.told ∙ tells) shown its);
-  undamaged = λ stored scene tells shown. c.in-Err.ensures.undamaged stored scene (c.groups.invariant.read.told ∙ tells) shown;
+  undamaged = λ told. c.in-Err.ensures.undamaged (subst (λ (o : Option (List Stored)). IsSome o) (sym c.groups.invariant.read.told) told);
 }
 
 pub groups-preserved : goal.groups-preserved
@@ -32,5 +35,5 @@ returns g c = record {
   within = c.groups.invariant.within;
   exact = λ stored scene tells shown hashes.
       ran-each scene c.args.budget c.groups.used c.args.groups.now c.groups.i _ (c.groups.invariant.ran stored scene tells shown hashes) (omega arith);
-  undamaged = λ stored scene tells shown damage is. not-there _ _ refl is;
+  undamaged = λ told damage is. not-there _ _ refl (ap read_stop_of is);
 }

@@ -1,10 +1,11 @@
-use Rattle.std.proofs.Common.{◌≡◌, refl, sym, ap, ◌∙◌}
+use Rattle.std.proofs.Common.{◌≡◌, Err, refl, sym, ap, ◌∙◌}
 use Rattle.cell_model.specs.Copies.{ResolvedTxValue}
 use Rattle.script_defs.specs.Codes.{NoCode, ManyCodes, code_of, is_type_id}
 use Rattle.script_run.specs.Shown.{GroupValue, ShownTxValue}
 use Rattle.script_run.proofs.ShowingLemmas.{shown-over}
 use Rattle.chain_tree.proofs.ReadLemmas.{unread, read_so}
-use Rattle.script_run.proofs.ReadLemmas.{not-there}
+use Rattle.script_run.specs.Running.{read_stop_of}
+use Rattle.script_run.proofs.ReadLemmas.{not-there, some-stop}
 use Rattle.script_run.proofs.RunningLemmas.{answer-within, as-expected, deps-shown, no-read-stop, of-code, of-execution, of-type-id}
 use Rattle.script_run.proofs.running.run_group.Goals as goal
 
@@ -21,7 +22,7 @@ returns-then-is_type_id g c = record {
       (ap is_type_id (sym script) ∙ sym c.is_type_id.ensures ∙ c.if-is_type_id.true)
       (c.run_type_id.ensures.exact scene ((shown-over _ stored _ scene shown).shows.transaction ∙ sym tx)))
       c.answered.ensures;
-  undamaged = λ stored scene tells shown damage is. not-there _ _ (no-read-stop c.run_type_id.result c.answered.result c.answered.ensures) is;
+  undamaged = λ told damage is. not-there _ _ (no-read-stop c.run_type_id.result c.answered.result c.answered.ensures) (ap read_stop_of is);
 }
 
 pub returns-in-NoCode : goal.returns-in-NoCode
@@ -33,7 +34,7 @@ returns-in-NoCode g c = record {
       of-code scene c.args.left c.args.place c.args.group.now.group NoCode
       (ap is_type_id (sym script) ∙ sym c.is_type_id.ensures ∙ c.if-is_type_id.false)
       (c.in-NoCode.ensures scene.deps (deps-shown scene _ _ c.requires.codes (shown-over _ stored _ scene shown).shows.deps) ∙ ap (code_of scene.deps) script);
-  undamaged = λ stored scene tells shown damage is. not-there _ _ refl is;
+  undamaged = λ told damage is. not-there _ _ refl (ap read_stop_of is);
 }
 
 pub returns-in-ManyCodes : goal.returns-in-ManyCodes
@@ -45,7 +46,7 @@ returns-in-ManyCodes g c = record {
       of-code scene c.args.left c.args.place c.args.group.now.group ManyCodes
       (ap is_type_id (sym script) ∙ sym c.is_type_id.ensures ∙ c.if-is_type_id.false)
       (c.in-ManyCodes.ensures scene.deps (deps-shown scene _ _ c.requires.codes (shown-over _ stored _ scene shown).shows.deps) ∙ ap (code_of scene.deps) script);
-  undamaged = λ stored scene tells shown damage is. not-there _ _ refl is;
+  undamaged = λ told damage is. not-there _ _ refl (ap read_stop_of is);
 }
 
 pub returns-in-Ok : goal.returns-in-Ok
@@ -61,7 +62,7 @@ returns-in-Ok g c = record {
       (c.in-Ok.ensures.came stored scene tells shown its_hash)
       c.executed.ensures.exact)
       c.answered-in-Ok.ensures;
-  undamaged = λ stored scene tells shown damage is. not-there _ _ (no-read-stop c.executed.result c.answered-in-Ok.result c.answered-in-Ok.ensures) is;
+  undamaged = λ told damage is. not-there _ _ (no-read-stop c.executed.result c.answered-in-Ok.result c.answered-in-Ok.ensures) (ap read_stop_of is);
 }
 
 pub returns-in-Err : goal.returns-in-Err
@@ -69,5 +70,5 @@ returns-in-Err g c = record {
   read = c.in-Err.ensures.read;
   within = tt;
   exact = λ stored scene tells shown its_hash. tt;
-  undamaged = c.in-Err.ensures.undamaged;
+  undamaged = λ told damage is. c.in-Err.ensures.undamaged told damage (ap Err (some-stop _ _ (ap read_stop_of is)));
 }

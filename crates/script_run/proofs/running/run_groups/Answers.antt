@@ -1,14 +1,19 @@
-use Rattle.std.proofs.Common.{◌≡◌, ℕ, List, Some, refl, ap, sym, subst, ◌∙◌}
-use Rattle.outside.specs.declared.disk.ReadStop.TheVariants.{NoMemory}
+use Rattle.std.proofs.Common.{◌≡◌, ℕ, List, Option, Some, length, refl, ap, sym, subst, ◌∙◌}
+use Rattle.std.specs.Prelude.{IfSome, IsSome}
 use Rattle.chain_tree.specs.Told.{Stored}
 use Rattle.time_defs.specs.Specification.{Specification}
 use Rattle.script_defs.specs.Scene.{Scene}
-use Rattle.script_run.specs.Running.{read_stop_of}
 use Rattle.script_run.specs.Showing.{scene_shown}
-use Rattle.script_run.specs.Shown.{HasItsInputs}
 use Rattle.chain_tree.proofs.ReadLemmas.{unread, read_short}
-use Rattle.script_run.proofs.ReadLemmas.{not-there, wanted-no-damage}
+use Rattle.script_run.proofs.FitLemmas.{shown-fits}
+use Rattle.script_run.proofs.ReadLemmas.{fit-no-damage, there-fits, unfit-answered, unfit-in-log, unfit-no-fault, wanted-no-damage}
 use Rattle.script_run.proofs.running.run_groups.Goals as goal
+
+pub report-requires : goal.report-requires
+report-requires g c = record {
+  area = unfit-in-log _ _ _ c.in-Err.ensures.unfit c.in-Err.ensures.fit;
+  no_fault = unfit-no-fault _ _ _ c.in-Err.ensures.unfit c.in-Err.ensures.fit;
+}
 
 pub returns : goal.returns
 returns g c =
@@ -19,25 +24,31 @@ returns g c =
     record {
       read = c.run_shown.ensures.read;
       within = c.run_shown.ensures.within;
-      inputs = λ none. subst HasItsInputs c.in-Ok.ensures.it (c.run_shown.ensures.inputs none);
+      unfit = there-fits _ _ _ c.in-Ok.ensures.unfit;
       exact = λ stored scene tells there. c.run_shown.ensures.exact stored scene tells (there_too stored scene there);
-      undamaged = λ stored scene tells there damage is. c.run_shown.ensures.undamaged stored scene tells (there_too stored scene there) damage (ap read_stop_of is);
+      undamaged = λ stored scene tells there. c.run_shown.ensures.undamaged (subst (λ (o : Option (List Stored)). IsSome o) (sym tells) refl);
+      fit = λ told fits. c.run_shown.ensures.undamaged told;
     }
 
 pub returns-in-Err : goal.returns-in-Err
 returns-in-Err g c = record {
-  read = read_short (unread c.args.blocks.now);
+  read = c.report.ensures.read;
   within = tt;
-  inputs = λ none. absurd (not-there _ NoMemory (sym none) refl);
+  unfit = unfit-answered _ _ _ _ c.in-Err.ensures.unfit;
   exact = λ stored scene tells there. tt;
-  undamaged = λ stored scene tells there. wanted-no-damage;
+  undamaged = λ stored scene tells there.
+      let long : length stored ≡ length c.args.tree.now.entries =
+      subst (λ (told : Option (List Stored)). IfSome told (λ all. length all ≡ g.B.Blocks.count c.args.blocks.now)) tells (g.met.B.Blocks.told_all c.args.blocks.now) ∙ c.requires.counts in
+      fit-no-damage _ (c.in-Err.ensures.fit (shown-fits c.args.tree.now.entries c.args.spec.now.epoch_length stored c.args.tx.now scene long there));
+  fit = λ told fits. fit-no-damage _ (c.in-Err.ensures.fit fits);
 }
 
 pub returns-in-Err-of : goal.returns-in-Err-of
 returns-in-Err-of g c = record {
   read = read_short (unread c.args.blocks.now);
   within = tt;
-  inputs = λ none. absurd (not-there _ NoMemory (sym none) refl);
+  unfit = there-fits _ _ _ c.in-Ok.ensures.unfit;
   exact = λ stored scene tells there. tt;
   undamaged = λ stored scene tells there. wanted-no-damage;
+  fit = λ told fits. wanted-no-damage;
 }

@@ -42,5 +42,4 @@ returns c =
       groups = λ inputs start.
           c.outputs.invariant.groups inputs start
           ∙ ap (λ (l : List CellOutput). grouped inputs (map typed l)) (take_all c.outputs.i outputs (omega (arith, count, c.outputs-test.false)));
-      undamaged = tt;
     }

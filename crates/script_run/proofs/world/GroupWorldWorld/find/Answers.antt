@@ -1,14 +1,15 @@
-use Rattle.std.proofs.Common.{◌≡◌, ℕ, refl, sym, ap, ◌∙◌}
+use Rattle.std.proofs.Common.{◌≡◌, refl, sym, ap, ◌∙◌}
 use Rattle.std.specs.Prelude.{Err}
 use Rattle.outside.specs.declared.disk.ReadStop.TheVariants.{NoMemory}
 use Rattle.sys_defs.specs.World.{Here, NoIndex, Missing, Unknown}
+use Rattle.script_run.specs.declared.bytes.Answer.TheVariants as answer
 use Rattle.script_run.specs.declared.bytes.Lookup.TheVariants as look
 use Rattle.script_run.specs.Lookups.{bytes_of, header_part, known_items}
 use Rattle.chain_tree.specs.Reading.{stop_of}
 use Rattle.vm_sys.proofs.Exits.{finds-none}
 use Rattle.script_run.specs.Shown.{ShownTxValue}
-use Rattle.script_run.proofs.ReadLemmas.{counted-as, counted-stop, damage-no-fault, damage-no-want, damage-of-log, no-error, none-counted, not-there, some-stop, world-finds}
-use Rattle.script_run.proofs.WorldLemmas.{block-told, by-look, here-or-unknown, kept, not-broken, not-wanted}
+use Rattle.script_run.proofs.ReadLemmas.{counted-as, counted-stop, no-error, none-counted, not-there, some-stop, world-finds}
+use Rattle.script_run.proofs.WorldLemmas.{by-look, here-or-unknown, kept, not-wanted}
 use Rattle.script_run.proofs.world.GroupWorldWorld.find.Goals as goal
 
 pub returns-in-Here : goal.returns-in-Here
@@ -18,7 +19,7 @@ returns-in-Here g c =
       told = refl;
       loans = refl;
       here = λ _. refl;
-      found = by-look world.tx.now.epoch_length world.tx.now.it world.group.now (g.B.Blocks.told world.blocks.now) c.args.call c.look_up.result (look.Here c.in-Here.bytes) c.look_up.ensures c.in-Here.is
+      found = by-look world.tx.now.epoch_length world.tx.now.it world.group.now (g.B.Blocks.told world.blocks.now) c.args.call c.look_up.result (look.Answered (answer.Here c.in-Here.bytes)) c.look_up.ensures.found (c.in-Answered.is ∙ ap look.Answered c.in-Here.is)
           (λ items. items c.args.call ≡ Here (bytes_of c.in-Here.bytes)) (λ stored scene told is. is);
       known = not-wanted (known_items world.tx.now.epoch_length world.tx.now.it world.group.now (g.B.Blocks.told world.blocks.now)) c.args.call _ (no-error _ _);
       cause = none-counted _ _ (no-error _ _);
@@ -34,7 +35,7 @@ returns-in-NoIndex g c =
       told = refl;
       loans = refl;
       here = λ is. absurd (cc);
-      found = by-look world.tx.now.epoch_length world.tx.now.it world.group.now (g.B.Blocks.told world.blocks.now) c.args.call c.look_up.result look.NoIndex c.look_up.ensures c.in-NoIndex.is
+      found = by-look world.tx.now.epoch_length world.tx.now.it world.group.now (g.B.Blocks.told world.blocks.now) c.args.call c.look_up.result (look.Answered answer.NoIndex) c.look_up.ensures.found (c.in-Answered.is ∙ ap look.Answered c.in-NoIndex.is)
           (λ items. items c.args.call ≡ NoIndex) (λ stored scene told is. is);
       known = not-wanted (known_items world.tx.now.epoch_length world.tx.now.it world.group.now (g.B.Blocks.told world.blocks.now)) c.args.call _ (no-error _ _);
       cause = none-counted _ _ (no-error _ _);
@@ -50,7 +51,7 @@ returns-in-Missing g c =
       told = refl;
       loans = refl;
       here = λ is. absurd (cc);
-      found = by-look world.tx.now.epoch_length world.tx.now.it world.group.now (g.B.Blocks.told world.blocks.now) c.args.call c.look_up.result look.Missing c.look_up.ensures c.in-Missing.is
+      found = by-look world.tx.now.epoch_length world.tx.now.it world.group.now (g.B.Blocks.told world.blocks.now) c.args.call c.look_up.result (look.Answered answer.Missing) c.look_up.ensures.found (c.in-Answered.is ∙ ap look.Answered c.in-Missing.is)
           (λ items. items c.args.call ≡ Missing) (λ stored scene told is. is);
       known = not-wanted (known_items world.tx.now.epoch_length world.tx.now.it world.group.now (g.B.Blocks.told world.blocks.now)) c.args.call _ (no-error _ _);
       cause = none-counted _ _ (no-error _ _);
@@ -66,36 +67,13 @@ returns-in-Unknown g c =
       told = refl;
       loans = refl;
       here = λ is. absurd (cc);
-      found = by-look world.tx.now.epoch_length world.tx.now.it world.group.now (g.B.Blocks.told world.blocks.now) c.args.call c.look_up.result look.Unknown c.look_up.ensures c.in-Unknown.is
+      found = by-look world.tx.now.epoch_length world.tx.now.it world.group.now (g.B.Blocks.told world.blocks.now) c.args.call c.look_up.result (look.Answered answer.Unknown) c.look_up.ensures.found (c.in-Answered.is ∙ ap look.Answered c.in-Unknown.is)
           (λ items. items c.args.call ≡ Unknown) (λ stored scene told is. is);
       known = not-wanted (known_items world.tx.now.epoch_length world.tx.now.it world.group.now (g.B.Blocks.told world.blocks.now)) c.args.call _ (no-error _ _);
       cause = none-counted _ _ (no-error _ _);
       answered = finds-none _ (λ damage. no-error _ _);
       undamaged = λ _ damage is. no-error _ _ is;
       damage = λ damage is. absurd (no-error _ _ is);
-    }
-
-pub report-requires : goal.report-requires
-report-requires g c = record {
-  area = λ damage is. damage-of-log {T = ℕ} c.damaged-stop.result damage c.damaged-stop.ensures (ap Err is);
-  no_fault = λ is. damage-no-fault {T = ℕ} c.damaged-stop.result _ c.damaged-stop.ensures (ap Err is);
-}
-
-pub returns-in-Broken : goal.returns-in-Broken
-returns-in-Broken g c =
-    let world = c.args.self.now in
-    let read = c.report.ensures.read in
-    record {
-      told = ap (known_items world.tx.now.epoch_length world.tx.now.it world.group.now) read.told;
-      loans = λ t. (world.blocks.ghost_name, read.loans t, read.told t, read.count t);
-      here = tt;
-      found = tt;
-      known = not-wanted (known_items world.tx.now.epoch_length world.tx.now.it world.group.now (g.B.Blocks.told world.blocks.now)) c.args.call _ (damage-no-want c.damaged-stop.result _ c.damaged-stop.ensures);
-      cause = counted-stop _ _ c.damaged-stop.result read.cause;
-      answered = world-finds (λ damage is. ap Err (some-stop _ _ is)) (λ damage is. ap stop_of is) read.found;
-      undamaged = λ some damage is.
-          not-broken world.tx.now.epoch_length world.tx.now.it world.group.now (g.B.Blocks.told world.blocks.now) c.args.call c.look_up.result c.look_up.ensures c.in-Broken.is some;
-      damage = λ damage is. damage-of-log c.damaged-stop.result damage c.damaged-stop.ensures is;
     }
 
 pub returns-in-Ok : goal.returns-in-Ok
@@ -108,7 +86,7 @@ returns-in-Ok g c =
       told = ap (known_items world.tx.now.epoch_length world.tx.now.it world.group.now) read.told;
       loans = λ t. (world.blocks.ghost_name, read.loans t, read.told t, read.count t);
       here = λ _. refl;
-      found = by-look world.tx.now.epoch_length world.tx.now.it world.group.now (g.B.Blocks.told world.blocks.now) c.args.call c.look_up.result (look.InBlock place part) c.look_up.ensures c.in-InBlock.is
+      found = by-look world.tx.now.epoch_length world.tx.now.it world.group.now (g.B.Blocks.told world.blocks.now) c.args.call c.look_up.result (look.InBlock place part) c.look_up.ensures.found c.in-InBlock.is
           (λ items. items c.args.call ≡ Here (bytes_of c.in-Ok.bytes))
           (λ stored scene told is.
           let k = kept stored place _ is in
@@ -131,13 +109,11 @@ returns-in-Err g c =
       loans = λ t. (world.blocks.ghost_name, read.loans t, read.told t, read.count t);
       here = tt;
       found = tt;
-      known = by-look world.tx.now.epoch_length world.tx.now.it world.group.now (g.B.Blocks.told world.blocks.now) c.args.call c.look_up.result (look.InBlock place part) c.look_up.ensures c.in-InBlock.is
+      known = by-look world.tx.now.epoch_length world.tx.now.it world.group.now (g.B.Blocks.told world.blocks.now) c.args.call c.look_up.result (look.InBlock place part) c.look_up.ensures.found c.in-InBlock.is
           (λ items. items c.args.call ≡ Unknown → Err c.in-Err.stop ≡ Err NoMemory → ⊥)
           (λ stored scene told is unknown no_memory. let k = kept stored place _ is in here-or-unknown _ _ k.holds unknown);
       cause = counted-stop _ _ c.in-Err.stop read.cause;
       answered = world-finds (λ damage is. ap Err (some-stop _ _ is)) (λ damage is. ap stop_of is) read.found;
-      undamaged = λ some damage is.
-          let t = block-told world.tx.now.epoch_length world.tx.now.it world.group.now (g.B.Blocks.told world.blocks.now) c.args.call c.look_up.result place part c.look_up.ensures c.in-InBlock.is some in
-          c.in-Err.ensures.undamaged t.stored t.made t.told_are t.there damage (ap stop_of is);
+      undamaged = λ sound damage is. c.in-Err.ensures.undamaged sound damage (ap Err (some-stop _ _ (ap stop_of is)));
       damage = λ damage is. read.damage damage (ap stop_of is);
     }
