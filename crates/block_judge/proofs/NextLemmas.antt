@@ -25,6 +25,7 @@ use Rattle.script_defs.specs.Rules.{script_rules}
 use Rattle.block_defs.specs.Transactions.{is_proposed, transaction_rules, left_after, rules_from, rules_of_transactions}
 use Rattle.block_defs.specs.Ext.{rows_spent, spent_from, ext_of}
 use Rattle.block_defs.specs.Rules.{broken_in_dry_run}
+use Rattle.block_judge.specs.Appending.{appended_rules}
 use Rattle.block_judge.specs.Progress.{AreProposed}
 use Rattle.block_judge.proofs.ExtLemmas.{rows-spent}
 use Rattle.block_judge.proofs.RestLemmas.{fees-more, fees-all, spent-more, spent-all, rules-more, rules-broken, rules-end}
@@ -38,12 +39,6 @@ by-proposed site left t proposed ids id hash answer hash_is id_is asked are is =
     ap (λ (b : Bool). first_failing (form_rules t ++ (19, b) ∷ cell_rules site t ++ script_rules (scene_of site t) left))
     (sym (asked ∙ ap (λ (l : List ℕ). list_any (bytes_eq l) ids) (id_is ∙ ap (take 10) hash_is) ∙ are (take 10 (transaction_hash t))))
     ∙ is
-
--- the same of one whose id is known to be proposed
-pub rules-asked : (site : Site) (left : ℕ) (t : Transaction) → IsTrue (is_proposed site.spec site.branch t)
-    → form_rules t ++ (19, true) ∷ cell_rules site t ++ script_rules (scene_of site t) left ≡ transaction_rules site left t
-rules-asked site left t proposed =
-    ap (λ (b : Bool). form_rules t ++ (19, b) ∷ cell_rules site t ++ script_rules (scene_of site t) left) (sym proposed)
 
 pub proposed-here : (spec : Specification) (on : List Block) (ids : List (List ℕ)) (height : ℕ)
     → ((id : List ℕ) → list_any (bytes_eq id) ids ≡ is_some (earliest spec on id height)) → height ≡ length on → AreProposed spec on ids
@@ -134,6 +129,18 @@ unasked : (form : Bool) (rest : List (ℕ × Bool)) → first_failing ((18, form
 unfolding first_failing
 unasked true rest = refl
 unasked false rest = refl
+
+-- after those that stand in a block so far
+pub next-judged : (site : Site) (left : ℕ) (t : Transaction)
+    → first_failing (form_rules t ++ (19, true) ∷ cell_rules site t ++ script_rules (scene_of site t) left) ≡ first_failing (appended_rules site left t)
+next-judged site left t = unasked (has_form t) (cell_rules site t ++ script_rules (scene_of site t) left)
+
+-- where its id is proposed J19 is kept too
+pub next-proposed : (site : Site) (left : ℕ) (t : Transaction) → IsTrue (is_proposed site.spec site.branch t)
+    → first_failing (appended_rules site left t) ≡ first_failing (transaction_rules site left t)
+next-proposed site left t proposed =
+    sym (next-judged site left t)
+    ∙ ap (λ (b : Bool). first_failing (form_rules t ++ (19, b) ∷ cell_rules site t ++ script_rules (scene_of site t) left)) (sym proposed)
 
 pub alone-judged : (spec : Specification) (on : List Block) (t : Transaction) (cycles : ℕ) (answer : Option ℕ) → cycles ≡ spec.max_cycles
     → first_failing (form_rules t ++ (19, true) ∷ cell_rules (site_after spec on) t ++ script_rules (scene_of (site_after spec on) t) cycles) ≡ answer

@@ -26,6 +26,7 @@ use Rattle.rule_names.specs.declared.rule.Rule.{Rule}
 use Rattle.block_judge.specs.declared.stop.JudgeStop.{JudgeStop}
 use Rattle.block_judge.specs.declared.stop.JudgeStop.TheVariants.{Broken, Read}
 use Rattle.block_judge.specs.ByRows.{StopsByForm}
+use Rattle.block_judge.specs.Standing.{rules_left}
 
 -- ---- At sight
 
@@ -149,8 +150,7 @@ kept-head n true later kept = refl
 kept-head n false later kept = absurd (none-some n (sym kept ∙ first_failing-fails n false later refl))
 
 -- It is judged by J17 over the live cells, and then by the rules after it.
-passed : (spec : Specification) (on : List Block) (b : Block) → broken_at_sight spec on b ≡ None
-    → first_broken spec on b ≡ first_failing ((17, forms_cellbase (live_cell on) b) ∷ (rules_of_transactions spec on b ++ end_rules spec on b))
+pub passed : (spec : Specification) (on : List Block) (b : Block) → broken_at_sight spec on b ≡ None → first_broken spec on b ≡ first_failing (rules_left spec on b)
 unfolding first_broken all_rules broken_at_sight
 passed spec on b kept =
     let header : List (ℕ × Bool) = header_rules spec on b in
@@ -166,26 +166,23 @@ passed spec on b kept =
     ∙ first_failing-append-holds body (uncle_and_cellbase_rules spec on b ++ last) ((finds_none body).0 (kept-first body (uncle_and_cellbase_rules_over no_cell spec on b) others))
     ∙ leaves-17 (live_cell on) spec on b last uncles cellbase
 
-pub first-cellbase : (spec : Specification) (on : List Block) (b : Block) → broken_at_sight spec on b ≡ None → forms_cellbase (live_cell on) b ≡ false
-    → first_broken spec on b ≡ Some 17
-first-cellbase spec on b kept form =
-    passed spec on b kept ∙ first_failing-fails 17 (forms_cellbase (live_cell on) b) (rules_of_transactions spec on b ++ end_rules spec on b) form
+pub first-cellbase : (spec : Specification) (on : List Block) (b : Block) → forms_cellbase (live_cell on) b ≡ false → first_failing (rules_left spec on b) ≡ Some 17
+first-cellbase spec on b form = first_failing-fails 17 (forms_cellbase (live_cell on) b) (rules_of_transactions spec on b ++ end_rules spec on b) form
 
-past-cellbase : (spec : Specification) (on : List Block) (b : Block) → broken_at_sight spec on b ≡ None → forms_cellbase (live_cell on) b ≡ true
-    → first_broken spec on b ≡ first_failing (rules_of_transactions spec on b ++ end_rules spec on b)
-past-cellbase spec on b kept form =
-    passed spec on b kept ∙ first_failing-holds 17 (forms_cellbase (live_cell on) b) (rules_of_transactions spec on b ++ end_rules spec on b) form
+past-cellbase : (spec : Specification) (on : List Block) (b : Block) → forms_cellbase (live_cell on) b ≡ true
+    → first_failing (rules_left spec on b) ≡ first_failing (rules_of_transactions spec on b ++ end_rules spec on b)
+past-cellbase spec on b form = first_failing-holds 17 (forms_cellbase (live_cell on) b) (rules_of_transactions spec on b ++ end_rules spec on b) form
 
-pub first-transaction : (spec : Specification) (on : List Block) (b : Block) (rule : ℕ) → broken_at_sight spec on b ≡ None → forms_cellbase (live_cell on) b ≡ true
-    → first_failing (rules_of_transactions spec on b) ≡ Some rule → first_broken spec on b ≡ Some rule
-first-transaction spec on b rule kept form is =
-    past-cellbase spec on b kept form ∙ first_failing-append-fails rule (rules_of_transactions spec on b) (end_rules spec on b) is
+pub first-transaction : (spec : Specification) (on : List Block) (b : Block) (rule : ℕ) → forms_cellbase (live_cell on) b ≡ true
+    → first_failing (rules_of_transactions spec on b) ≡ Some rule → first_failing (rules_left spec on b) ≡ Some rule
+first-transaction spec on b rule form is =
+    past-cellbase spec on b form ∙ first_failing-append-fails rule (rules_of_transactions spec on b) (end_rules spec on b) is
 
 -- One that keeps those before is judged by the last ones.
-pub at-end : (spec : Specification) (on : List Block) (b : Block) → broken_at_sight spec on b ≡ None → forms_cellbase (live_cell on) b ≡ true
-    → first_failing (rules_of_transactions spec on b) ≡ None → first_broken spec on b ≡ first_failing (end_rules spec on b)
-at-end spec on b kept form judged =
-    past-cellbase spec on b kept form
+pub at-end : (spec : Specification) (on : List Block) (b : Block) → forms_cellbase (live_cell on) b ≡ true
+    → first_failing (rules_of_transactions spec on b) ≡ None → first_failing (rules_left spec on b) ≡ first_failing (end_rules spec on b)
+at-end spec on b form judged =
+    past-cellbase spec on b form
     ∙ first_failing-append-holds (rules_of_transactions spec on b) (end_rules spec on b) ((finds_none (rules_of_transactions spec on b)).0 judged)
 
 -- ---- Answers over any source of blocks

@@ -1,25 +1,28 @@
 -- The rules on a transaction, tried one group after another.
-use Rattle.std.proofs.Common.{◌≡◌, ℕ, inl, inr, Bool, true, List, [], ◌∷◌, ◌++◌, map, Some, None, Result, Err, refl, sym, ap, ◌∙◌, subst, arith}
+use Rattle.std.proofs.Common.{◌≡◌, ℕ, inl, inr, Bool, true, List, [], ◌∷◌, ◌++◌, map, Option, Some, None, Result, Err, refl, sym, ap, ◌∙◌, subst, arith}
 use Rattle.std.specs.Prelude.{IsErrAnd}
-use Rattle.std.specs.List.{AllZip}
+use Rattle.std.specs.List.{All, AllZip}
+use Rattle.std.proofs.lemmas.List.Elements.{All-nil, All-cons, All-head, All-tail}
 use Rattle.codec_defs.specs.Schema.{OutPoint, Block, Transaction}
 use Rattle.fold_defs.specs.First.{first_failing}
 use Rattle.fold_defs.proofs.FirstLemmas.{first_failing-append-fails, first_failing-append-holds, finds_none}
 use Rattle.outside.specs.declared.disk.ReadStop.{ReadStop}
+use Rattle.chain_tree.specs.Told.{Stored}
 use Rattle.cell_defs.specs.Row.{Row}
 use Rattle.cell_model.specs.Copies.{ResolvedValue, ResolvedTxValue}
 use Rattle.tx_defs.specs.Site.{Site, Found}
 use Rattle.tx_defs.specs.Resolving.{inputs}
 use Rattle.tx_defs.specs.Rules.{form_rules, cell_rules}
-use Rattle.tx_rules.specs.At.{found_row}
-use Rattle.tx_rules.specs.Copying.{row_in}
-use Rattle.tx_rules.specs.Outcome.{Copies, IsResolved, IsTried, rules_to_27}
+use Rattle.tx_rules.specs.At.{AtValue, found_row}
+use Rattle.tx_rules.specs.Copying.{CopiesItsRow, HoldsOutput, row_in}
+use Rattle.tx_rules.specs.Outcome.{Copies, IsFormed, IsResolved, IsTried, rules_to_27}
 use Rattle.tx_rules.specs.declared.resolving.TxStop.{TxStop}
 use Rattle.tx_rules.specs.declared.resolving.TxStop.TheVariants as resolving
 use Rattle.rule_names.specs.Number.{rule_number}
 use Rattle.rule_names.specs.declared.rule.Rule.{Rule}
 use Rattle.block_judge.specs.declared.stop.JudgeStop.{JudgeStop}
 use Rattle.block_judge.specs.declared.stop.JudgeStop.TheVariants.{Broken, Read}
+use Rattle.block_judge.specs.Inputs.{AreInputsOf}
 use Rattle.block_judge.specs.Standing.{IsTriedAlone, IsTriedOnTransaction}
 use Rattle.block_judge.specs.Stops.{of_resolving}
 use Rattle.block_judge.proofs.Exits.{not_both}
@@ -108,3 +111,18 @@ pub spent-rows : {its resolved : ResolvedTxValue} (kept : List Block) (parent : 
     → IsResolved kept parent site t resolved → map row_in its.inputs ≡ map (found_row kept parent) (inputs site t)
 spent-rows {resolved = resolved} kept parent site t same is =
     ap (λ (it : ResolvedTxValue). map row_in it.inputs) same ∙ rows-same kept parent (inputs site t) resolved.inputs is.inputs_are
+
+-- ---- The cells of its inputs, over any source of blocks
+
+all-first : {X : Type 0} (P : X → Type 0) (xs ys : List X) → All P (xs ++ ys) → All P xs
+all-first P [] ys all = All-nil P
+all-first P (x ∷ xs) ys all = All-cons P x xs (All-head P x (xs ++ ys) all) (all-first P xs ys (All-tail P x (xs ++ ys) all))
+
+pub inputs-of : {its resolved : ResolvedTxValue} (told : Option (List Stored)) (at : AtValue) (t : Transaction) → its ≡ resolved → IsFormed at.entries t resolved
+    → All (CopiesItsRow told at) (resolved.inputs ++ resolved.deps) → AreInputsOf told at t its.inputs
+inputs-of {resolved = resolved} told at t same formed each =
+    subst (λ (it : ResolvedTxValue). AreInputsOf told at t it.inputs) (sym same) (record {
+      out_points = formed.inputs;
+      outputs = all-first HoldsOutput resolved.inputs resolved.deps formed.outputs;
+      of_rows = all-first (CopiesItsRow told at) resolved.inputs resolved.deps each;
+    })

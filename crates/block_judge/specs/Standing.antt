@@ -1,9 +1,12 @@
 -- What a block is judged over, and what that stands for.
-use Rattle.std.specs.Prelude.{◌≡◌, ◌⊎◌, ℕ, ◌≤◌, List, Option, Some, None, IsTrue, IsSome}
+use Rattle.std.specs.Prelude.{◌≡◌, ◌⊎◌, ℕ, ◌≤◌, Bool, ◌∷◌, ◌++◌, List, Option, Some, None, IsTrue, IsSome}
 use Rattle.codec_defs.specs.Schema.{OutPoint, Block}
 use Rattle.time_defs.specs.Specification.{Specification}
 use Rattle.chain_defs.specs.Branch.{branch}
+use Rattle.family_defs.specs.Cellbase.{forms_cellbase}
+use Rattle.block_defs.specs.Transactions.{rules_of_transactions}
 use Rattle.block_defs.specs.Rules.{broken_at_sight}
+use Rattle.reward_defs.specs.Rules.{end_rules}
 use Rattle.chain_tree.specs.declared.entry.Entry.{Entry}
 use Rattle.chain_tree.specs.Blocks.{IndexesBlocks}
 use Rattle.chain_tree.specs.Told.{Stored, blocks_of}
@@ -58,6 +61,10 @@ StandsForAll stored on = StandsWhole on.spec stored on.entries on.parent on.rows
 -- A block has passed at sight: over these kept blocks it breaks none of the rules that ask for no live cell.
 abbrev pub PassesAtSight : List Block → ContextValue → Block → Type 0
 PassesAtSight kept on b = broken_at_sight on.spec (branch kept on.parent) b ≡ None
+
+-- The rules that are left of such a block: J17, over the live cells, and those after it.
+abbrev pub rules_left : Specification → List Block → Block → List (ℕ × Bool)
+rules_left spec branch b = (17, forms_cellbase (live_cell branch) b) ∷ (rules_of_transactions spec branch b ++ end_rules spec branch b)
 
 -- the rules that are tried on a block that has passed at sight
 abbrev pub IsTried : ℕ → Type 0

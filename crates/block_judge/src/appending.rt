@@ -1,5 +1,5 @@
 // J18 and J20 to J30: a transaction put at the end of those that stand in a block so far.
-ghost use Rattle.std.specs.Prelude.{◌≡◌, ◌<◌, ◌≤◌, ◌^◌, List, None, Some, Err, IfOk, IsTrue, length, map, nat_abs};
+ghost use Rattle.std.specs.Prelude.{◌≡◌, ◌<◌, ◌≤◌, ◌^◌, List, None, Some, Err, IfOk, length, map, nat_abs};
 ghost use Rattle.fold_defs.specs.First.{first_failing};
 ghost use Rattle.outside.specs.declared.disk.Damage.{Damage};
 ghost use Rattle.outside.specs.declared.disk.ReadStop.TheVariants.{Damaged};
@@ -10,16 +10,18 @@ ghost use Rattle.chain_tree.specs.Told.{Stored, blocks_of};
 ghost use Rattle.chain_tree.specs.Reading.{HasRead};
 ghost use Rattle.tx_defs.specs.Capacity as capacity;
 ghost use Rattle.tx_defs.specs.Resolving.{inputs};
-ghost use Rattle.tx_rules.specs.At.{found_row};
+ghost use Rattle.tx_defs.specs.Rules.{has_form};
+ghost use Rattle.tx_rules.specs.At.{found_row, spends_rows};
 ghost use Rattle.tx_rules.specs.Copying.{row_in};
-ghost use Rattle.block_defs.specs.Transactions.{is_proposed, transaction_rules};
 ghost use Rattle.reward_defs.specs.Field.{freed_by};
 ghost use Rattle.script_defs.specs.Scene.{scene_of};
 ghost use Rattle.script_defs.specs.Rules.{cycles_of};
 ghost use Rattle.rule_names.specs.Number.{rule_number};
 ghost use Rattle.rule_names.specs.declared.rule.Rule.{Rule};
 ghost use Rattle.block_judge.specs.declared.stop.JudgeStop.TheVariants.{Broken, Read};
-ghost use Rattle.block_judge.specs.Appending.{SeesSoFar, next_site};
+ghost use Rattle.block_judge.specs.Appending.{SeesSoFar, appended_rules, at_next, next_site};
+ghost use Rattle.block_judge.specs.ByRows.{SaysByRows};
+ghost use Rattle.block_judge.specs.Inputs.{AreInputsOf};
 ghost use Rattle.block_judge.specs.Standing.{IsTriedAlone, seen};
 ghost use Rattle.block_judge.specs.Stops.{read_stop_of};
 
@@ -55,14 +57,16 @@ pub fn judge_appended<C: Cells, S: Cells, B: Blocks>(
     ensures interest_fits { IfOk result (λ passed. nat_abs passed.interest < 2 ^ 96) }
     ensures freed_fits { IfOk result (λ passed. passed.freed < 2 ^ 96) }
 
-    // Over kept blocks that are known, with the cells after the transactions so far. J19 is kept where its id is proposed.
+    // Over any source of blocks: J18 and J20, and the cells of its inputs.
+    ensures by_rows { SaysByRows (has_form tx.now) (spends_rows (S.rows cells.now) tx.now) result }
+    ensures copied { IfOk result (λ passed. AreInputsOf (B.told blocks.old) (at_next (seen C.rows context.now) so_far.now) tx.now passed.inputs.items) }
+
+    // Over kept blocks that are known, with the cells after the transactions so far.
     ensures broken { (stored : List Stored) → B.told blocks.old ≡ Some stored → SeesSoFar stored (seen C.rows context.now) so_far.now (S.rows cells.now)
-        → IsTrue (is_proposed context.now.spec.now (branch (blocks_of stored) context.now.parent) tx.now)
         → (rule : Rule) → result ≡ Err (Broken rule)
-        → first_failing (transaction_rules (next_site context.now.spec.now (branch (blocks_of stored) context.now.parent) so_far.now) left tx.now) ≡ Some (rule_number rule) }
+        → first_failing (appended_rules (next_site context.now.spec.now (branch (blocks_of stored) context.now.parent) so_far.now) left tx.now) ≡ Some (rule_number rule) }
     ensures unbroken { (stored : List Stored) → B.told blocks.old ≡ Some stored → SeesSoFar stored (seen C.rows context.now) so_far.now (S.rows cells.now)
-        → IsTrue (is_proposed context.now.spec.now (branch (blocks_of stored) context.now.parent) tx.now)
-        → IfOk result (λ _. first_failing (transaction_rules (next_site context.now.spec.now (branch (blocks_of stored) context.now.parent) so_far.now) left tx.now) ≡ None) }
+        → IfOk result (λ _. first_failing (appended_rules (next_site context.now.spec.now (branch (blocks_of stored) context.now.parent) so_far.now) left tx.now) ≡ None) }
     ensures fee { (stored : List Stored) → B.told blocks.old ≡ Some stored → SeesSoFar stored (seen C.rows context.now) so_far.now (S.rows cells.now)
         → IfOk result (λ passed. passed.fee ≡ capacity.fee (next_site context.now.spec.now (branch (blocks_of stored) context.now.parent) so_far.now) tx.now) }
     ensures interest { (stored : List Stored) → B.told blocks.old ≡ Some stored → SeesSoFar stored (seen C.rows context.now) so_far.now (S.rows cells.now)

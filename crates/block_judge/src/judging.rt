@@ -1,5 +1,6 @@
 // A block judged by all rules, and a transaction judged alone.
-ghost use Rattle.std.specs.Prelude.{◌≡◌, ◌-◌, ◌<◌, List, Option, None, Some, Err, IfOk, IsTrue, length, map};
+ghost use Rattle.std.specs.Prelude.{◌≡◌, ◌-◌, ◌<◌, ◌≤◌, List, Option, None, Some, Err, IfOk, IsTrue, length, map};
+ghost use Rattle.fold_defs.specs.First.{first_failing};
 ghost use Rattle.outside.specs.declared.disk.Damage.{Damage};
 ghost use Rattle.outside.specs.declared.disk.ReadStop.TheVariants.{Damaged};
 ghost use Rattle.codec_defs.specs.Schema.{OutPoint};
@@ -22,7 +23,7 @@ ghost use Rattle.tx_defs.specs.Site.{site_after};
 ghost use Rattle.rule_names.specs.Number.{rule_number};
 ghost use Rattle.block_judge.specs.declared.stop.JudgeStop.TheVariants.{Broken, Read};
 ghost use Rattle.block_judge.specs.ByRows.{SaysByForm, SaysByRows, AgreeOnLive};
-ghost use Rattle.block_judge.specs.Standing.{PassesAtSight, IsTried, IsTriedAlone, StandsFor, StandsForAll, seen};
+ghost use Rattle.block_judge.specs.Standing.{PassesAtSight, IsTried, IsTriedAlone, StandsFor, StandsForAll, rules_left, seen};
 ghost use Rattle.block_judge.specs.Stops.{read_stop_of};
 
 use crate::all_transactions::judge_transactions;
@@ -62,7 +63,12 @@ pub fn judge<C: Cells, B: Blocks>(
     ensures fees { IfOk result (λ ext. length ext.fees ≡ length block.now.transactions - 1) }
     ensures rated { IfOk result (λ _. IsTrue (is_rated block.now.header.dao)) }
 
-    // Over kept blocks that are known with their own fees, with the cells of the parent's branch.
+    // Over kept blocks that are known with their own fees, with the cells of the parent's branch: J17 to J32, which are all rules on one that has passed at sight.
+    ensures broken_left { (stored : List Stored) → B.told blocks.old ≡ Some stored → StandsForAll stored (seen C.rows context.now)
+        → (rule : Rule) → result ≡ Err (Broken rule)
+        → first_failing (rules_left context.now.spec.now (branch (blocks_of stored) context.now.parent) block.now) ≡ Some (rule_number rule) }
+    ensures unbroken_left { (stored : List Stored) → B.told blocks.old ≡ Some stored → StandsForAll stored (seen C.rows context.now)
+        → IfOk result (λ _. first_failing (rules_left context.now.spec.now (branch (blocks_of stored) context.now.parent) block.now) ≡ None) }
     ensures broken { (stored : List Stored) → B.told blocks.old ≡ Some stored
         → StandsForAll stored (seen C.rows context.now) → PassesAtSight (blocks_of stored) (seen C.rows context.now) block.now
         → (rule : Rule) → result ≡ Err (Broken rule)
@@ -105,8 +111,9 @@ pub fn dry_run<C: Cells, B: Blocks>(
     ensures read { HasRead B.told B.count B.loans_of B.faults B.damages blocks.old blocks.new (read_stop_of result) }
     ensures tried { (rule : Rule) → result ≡ Err (Broken rule) → IsTriedAlone (rule_number rule) }
 
-    // Over any source of blocks: J18 and J20.
+    // Over any source of blocks: J18 and J20, and no more cycles than those of a block.
     ensures by_rows { SaysByRows (has_form tx.now) (spends_rows (C.rows context.now.cells.now) tx.now) result }
+    ensures within { IfOk result (λ it. it.1 ≤ context.now.spec.now.max_cycles) }
 
     // Over kept blocks that are known, with the cells of the parent's branch.
     ensures broken { (stored : List Stored) → B.told blocks.old ≡ Some stored → StandsFor stored (seen C.rows context.now)

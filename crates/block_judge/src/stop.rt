@@ -1,6 +1,6 @@
 // Why a block or a transaction is not taken.
 ghost use Rattle.std.specs.Prelude.{◌≡◌};
-ghost use Rattle.outside.specs.declared.disk.ReadStop.TheVariants.{Damaged, NoMemory as no_memory};
+ghost use Rattle.outside.specs.declared.disk.ReadStop.TheVariants.{NoMemory as no_memory};
 ghost use Rattle.block_judge.specs.declared.stop.JudgeStop.TheVariants.{Read};
 
 use outside::{Damage, NoMemory, ReadStop};

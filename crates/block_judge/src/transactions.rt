@@ -1,5 +1,5 @@
 // J18 to J30: one transaction.
-ghost use Rattle.std.specs.Prelude.{◌≡◌, ◌^◌, ◌<◌, ◌≤◌, ◌++◌, ◌∷◌, ℕ, nat_abs, true, List, None, Some, Err, IfOk, length, map};
+ghost use Rattle.std.specs.Prelude.{◌≡◌, ◌^◌, ◌<◌, ◌≤◌, ◌++◌, ◌∷◌, nat_abs, true, List, None, Some, Err, IfOk, length, map};
 ghost use Rattle.std.specs.List.{sum_by};
 ghost use Rattle.fold_defs.specs.First.{first_failing};
 ghost use Rattle.outside.specs.declared.disk.Damage.{Damage};
@@ -20,6 +20,7 @@ ghost use Rattle.rule_names.specs.Number.{rule_number};
 ghost use Rattle.rule_names.specs.declared.rule.Rule.{Rule};
 ghost use Rattle.block_judge.specs.declared.stop.JudgeStop.TheVariants.{Broken, Read};
 ghost use Rattle.block_judge.specs.ByRows.{SaysByRows};
+ghost use Rattle.block_judge.specs.Inputs.{AreInputsOf};
 ghost use Rattle.block_judge.specs.Standing.{IsTriedAlone, IsTriedOnTransaction};
 ghost use Rattle.block_judge.specs.Stops.{of_resolving, read_stop_of};
 
@@ -87,8 +88,9 @@ pub(crate) fn judge_transaction<C: Cells, B: Blocks>(
     ensures interest_fits { IfOk result (λ passed. nat_abs passed.interest < 2 ^ 96) }
     ensures freed_fits { IfOk result (λ passed. passed.freed < 2 ^ 96) }
     ensures rule { (rule : Rule) → result ≡ Err (Broken rule) → IsTriedOnTransaction (rule_number rule) }
-    // J18 and J20 over any source of blocks.
+    // J18 and J20, and the cells of its inputs, over any source of blocks.
     ensures by_rows { proposed ≡ true → SaysByRows (has_form tx.now) (spends_rows (C.rows cells.now) tx.now) result }
+    ensures copied { IfOk result (λ passed. AreInputsOf (B.told blocks.old) at.now tx.now passed.inputs.items) }
     ensures alone { proposed ≡ true → (rule : Rule) → result ≡ Err (Broken rule) → IsTriedAlone (rule_number rule) }
     ensures broken { (stored : List Stored) (site : Site) → B.told blocks.old ≡ Some stored → IsSiteOf stored at.now (C.rows cells.now) site
         → (rule : Rule) → result ≡ Err (Broken rule)

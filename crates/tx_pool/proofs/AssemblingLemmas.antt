@@ -27,7 +27,7 @@ use Rattle.pool_defs.specs.Assembly.{assembly, assembled}
 use Rattle.pool_defs.specs.Laws.{IsFounded, breakable}
 use Rattle.pool_defs.proofs.JoiningLaws.{breaks-few, unbroken-joins}
 use Rattle.pool_defs.specs.Size.{most_bytes}
-use Rattle.tx_pool.specs.Assembling.{IsAssembled, IsMade, chain_on}
+use Rattle.tx_pool.specs.Assembling.{IsAssembled, IsMade, assembled_on, chain_on}
 use Rattle.tx_pool.specs.Draft.{DraftValue, Fits, IsSoFar}
 use Rattle.tx_pool.specs.Sealing.{Fills}
 use Rattle.tx_pool.specs.declared.assembling.Assembled.{Assembled}
@@ -50,15 +50,6 @@ founded kept entries parent indexes within =
     let long = len-same kept entries indexes in
     record { is_kept = indexes.is_kept; some = omega (arith, long, within); genesis = indexes.genesis }
 
--- over kept blocks, after a branch of them
-abbrev assembled_on : Specification → List Block → List Block → CellbaseWitness → List (List ℕ) → pool.Assembled
-assembled_on spec kept on witness items = record {
-  lines = (pool.assembly spec on witness items).lines;
-  block = sealed spec on (pool.assembly spec on witness items).block;
-  broken = cond (is_some (place_of kept (block_hash (sealed spec on (pool.assembly spec on witness items).block)))) (Some 2)
-      (first_broken spec on (sealed spec on (pool.assembly spec on witness items).block));
-}
-
 best-is : (kept : List Block) (parent : ℕ) → tip_place kept ≡ Some parent → best_branch kept ≡ branch kept parent
 best-is kept parent top = ap (λ (place : Option ℕ). elim place [ None ↦ [] | Some it ↦ branch kept it ]) top
 
@@ -69,6 +60,18 @@ assembled-is spec kept parent witness items top = ap (λ (on : List Block). asse
 
 -- ---- An answer
 
+module _ (spec : Specification) (kept : List Block) (parent : ℕ) (witness : CellbaseWitness) (items : List (List ℕ)) (answer : Assembled)
+    (made : IsMade spec (branch kept parent) (pool.assembly spec (branch kept parent) witness items) answer.lines.items answer.block.items)
+    (broken : (b : Block) → IsA schema.block answer.block.items b
+    → answer.broken ≡ cond (is_some (place_of kept (block_hash b))) (Some 2) (first_broken spec (branch kept parent) b)) where
+  pub answer-on : IsAssembled (assembled_on spec kept (branch kept parent) witness items) answer
+  answer-on = record {
+    lines_are = made.lines_are;
+    block_is = made.block_is.encoding;
+    broken_is = broken (sealed spec (branch kept parent) (pool.assembly spec (branch kept parent) witness items).block) made.block_is;
+  }
+
+-- after the best branch
 module _ (spec : Specification) (kept : List Block) (parent : ℕ) (witness : CellbaseWitness) (items : List (List ℕ)) (top : tip_place kept ≡ Some parent)
     (answer : Assembled)
     (made : IsMade spec (branch kept parent) (pool.assembly spec (branch kept parent) witness items) answer.lines.items answer.block.items)
@@ -83,17 +86,14 @@ module _ (spec : Specification) (kept : List Block) (parent : ℕ) (witness : Ce
   block-is : all.block ≡ sealed spec (branch kept parent) (pool.assembly spec (branch kept parent) witness items).block
   block-is = ap (λ (it : pool.Assembled). it.block) is
 
+  on-branch : IsAssembled (assembled_on spec kept (branch kept parent) witness items) answer
+  on-branch = answer-on spec kept parent witness items answer made broken
+
   broken-is : answer.broken ≡ all.broken
-  broken-is =
-      broken (sealed spec (branch kept parent) (pool.assembly spec (branch kept parent) witness items).block) made.block_is
-      ∙ sym (ap (λ (it : pool.Assembled). it.broken) is)
+  broken-is = on-branch.broken_is ∙ sym (ap (λ (it : pool.Assembled). it.broken) is)
 
   pub answer-is : IsAssembled all answer
-  answer-is = record {
-    lines_are = made.lines_are ∙ sym (ap (λ (it : pool.Assembled). it.lines) is);
-    block_is = made.block_is.encoding ∙ ap (encoded schema.block) (sym block-is);
-    broken_is = broken-is;
-  }
+  answer-is = subst (λ (it : pool.Assembled). IsAssembled it answer) (sym is) on-branch
 
   pub answer-joins : (b : Block) → b ≡ all.block → IsFounded kept → length kept < kept_limit → answer.broken ≡ None
       → verdict_over (chain_on spec kept) answer.block.items ≡ Joined b.header.number (block_hash b)

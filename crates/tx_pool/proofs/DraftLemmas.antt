@@ -25,11 +25,12 @@ use Rattle.script_defs.specs.Scene.{scene_of}
 use Rattle.script_defs.specs.Rules.{cycles_of}
 use Rattle.block_defs.specs.Transactions.{is_proposed, transaction_rules}
 use Rattle.block_judge.specs.Appending as appending
-use Rattle.block_judge.specs.Appending.{SeesSoFar}
+use Rattle.block_judge.specs.Appending.{SeesSoFar, appended_rules}
 use Rattle.block_judge.specs.Progress.{AreMoved, AreProposed, CanMove}
 use Rattle.block_judge.specs.Standing.{ContextValue, StandsFor}
 use Rattle.block_judge.specs.declared.transactions.PassedTransaction.{PassedTransaction}
 use Rattle.block_judge.proofs.MovedLemmas.{can-move-none}
+use Rattle.block_judge.proofs.NextLemmas.{next-proposed}
 use Rattle.pool_defs.specs.Size.{size_with}
 use Rattle.pool_defs.specs.Start as start
 use Rattle.pool_defs.specs.Start.{cellbase}
@@ -402,24 +403,27 @@ module _ (stored : List Stored) (on : ContextValue) (so_far : Assembly) (draft :
   site-as : appending.next_site on.spec branch_on txs ≡ pool.next_site on.spec branch_on so_far.block
   site-as = ap (appending.next_site on.spec branch_on) (same ∙ is.fills.transactions_are)
 
-  pub judged-as : (answer : Option ℕ) → first_failing (transaction_rules (appending.next_site on.spec branch_on txs) draft.left t) ≡ answer
+  -- J19 is kept by one that is proposed
+  pub judged-as : (answer : Option ℕ) → IsTrue (is_proposed on.spec branch_on t)
+      → first_failing (appended_rules (appending.next_site on.spec branch_on txs) draft.left t) ≡ answer
       → first_failing (transaction_rules (pool.next_site on.spec branch_on so_far.block) so_far.left t) ≡ answer
-  judged-as answer judged =
+  judged-as answer proposed judged =
       ap (λ (site : Site). first_failing (transaction_rules site so_far.left t)) (sym site-as)
       ∙ ap (λ (left : ℕ). first_failing (transaction_rules (appending.next_site on.spec branch_on txs) left t)) (sym is.left_is)
+      ∙ sym (next-proposed (appending.next_site on.spec branch_on txs) draft.left t proposed)
       ∙ judged
 
-  pub refused-so-far : (rule number : ℕ) → number ≡ rule
-      → first_failing (transaction_rules (appending.next_site on.spec branch_on txs) draft.left t) ≡ Some rule
+  pub refused-so-far : (rule number : ℕ) → number ≡ rule → IsTrue (is_proposed on.spec branch_on t)
+      → first_failing (appended_rules (appending.next_site on.spec branch_on txs) draft.left t) ≡ Some rule
       → IsSoFar stored on (pool.judge on.spec branch_on so_far t (first_failing (transaction_rules (pool.next_site on.spec branch_on so_far.block) so_far.left t)))
       (with_line draft (Refused number))
-  refused-so-far rule number numbered broken = so-far-answered stored on so_far _ draft (Refused number)
-      (ap (pool.judge on.spec branch_on so_far t) (judged-as (Some rule) broken) ∙ ap (λ (n : ℕ). pool.with_line so_far (Refused n)) (sym numbered)) is
+  refused-so-far rule number numbered proposed broken = so-far-answered stored on so_far _ draft (Refused number)
+      (ap (pool.judge on.spec branch_on so_far t) (judged-as (Some rule) proposed broken) ∙ ap (λ (n : ℕ). pool.with_line so_far (Refused n)) (sym numbered)) is
 
-  pub judged-commits : first_failing (transaction_rules (appending.next_site on.spec branch_on txs) draft.left t) ≡ None
+  pub judged-commits : IsTrue (is_proposed on.spec branch_on t) → first_failing (appended_rules (appending.next_site on.spec branch_on txs) draft.left t) ≡ None
       → pool.judge on.spec branch_on so_far t (first_failing (transaction_rules (pool.next_site on.spec branch_on so_far.block) so_far.left t))
       ≡ pool.commit on.spec branch_on so_far t
-  judged-commits unbroken = ap (pool.judge on.spec branch_on so_far t) (judged-as None unbroken)
+  judged-commits proposed unbroken = ap (pool.judge on.spec branch_on so_far t) (judged-as None proposed unbroken)
 
   pub comes-as : (passed : PassedTransaction) → passed.fee ≡ capacity.fee (appending.next_site on.spec branch_on txs) t
       → passed.cycles ≡ cycles_of (scene_of (appending.next_site on.spec branch_on txs) t) draft.left

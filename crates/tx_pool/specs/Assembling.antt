@@ -1,9 +1,11 @@
 -- What is assembled, as the code answers it.
-use Rattle.std.specs.Prelude.{◌≡◌, ℕ, List}
+use Rattle.std.specs.Prelude.{◌≡◌, ℕ, List, Some, is_some, if◌then◌else◌}
 use Rattle.codec_defs.specs.Shape.{IsA, encoded}
 use Rattle.codec_defs.specs.Schema as schema
-use Rattle.codec_defs.specs.Schema.{Block}
+use Rattle.codec_defs.specs.Schema.{Block, CellbaseWitness}
 use Rattle.time_defs.specs.Specification.{Specification}
+use Rattle.chain_defs.specs.Kept.{block_hash, place_of}
+use Rattle.block_defs.specs.Rules.{first_broken}
 use Rattle.verdict_defs.specs.Chain.{Chain}
 use Rattle.pool_defs.specs.Start.{sealed}
 use Rattle.pool_defs.specs.Assembly as pool
@@ -23,3 +25,13 @@ pub record IsMade (spec : Specification) (on : List Block) (all : pool.Assembly)
 
 abbrev pub chain_on : Specification → List Block → Chain
 chain_on spec blocks = record { spec = spec; blocks = blocks }
+
+-- What is assembled after a branch of kept blocks, be it the best one or another.
+abbrev pub assembled_on : Specification → List Block → List Block → CellbaseWitness → List (List ℕ) → pool.Assembled
+assembled_on spec kept on witness items =
+    let all : pool.Assembly = pool.assembly spec on witness items in
+    let b : Block = sealed spec on all.block in record {
+      lines = all.lines;
+      block = b;
+      broken = if is_some (place_of kept (block_hash b)) then Some 2 else first_broken spec on b;
+    }

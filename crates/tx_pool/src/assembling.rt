@@ -21,7 +21,7 @@ ghost use Rattle.pool_defs.specs.Assembly as pool;
 ghost use Rattle.pool_defs.specs.Laws.{breakable};
 ghost use Rattle.pool_defs.specs.Size.{most_items, most_bytes};
 ghost use Rattle.tx_pool.specs.Draft.{Fits, IsSoFar, draft_of};
-ghost use Rattle.tx_pool.specs.Assembling.{IsAssembled, IsMade, chain_on};
+ghost use Rattle.tx_pool.specs.Assembling.{IsAssembled, IsMade, assembled_on, chain_on};
 
 use crate::cellbase::cellbase_after;
 use crate::draft::Draft;
@@ -106,6 +106,7 @@ fn filled<'c, 'a, C: Cells, B: Blocks>(
     requires bytes { All (λ item. length item.items ≤ most_bytes) items.now }
     ensures read { HasRead B.told B.count B.loans_of B.faults B.damages blocks.old blocks.new (stop_of result) }
     ensures fits { IfOk result (λ draft. Fits (draft_of C.rows draft)) }
+    ensures lines { IfOk result (λ draft. length draft.lines.items ≡ length items.now) }
     ensures taken { (stored : List Stored) (witness : schema.CellbaseWitness) → B.told blocks.old ≡ Some stored → StandsForAll stored (seen C.rows context.now)
         → IsA schema.transaction cellbase.now (start.cellbase context.now.spec.now (branch (blocks_of stored) context.now.parent) witness)
         → IfOk result (λ draft. IsSoFar stored (seen C.rows context.now)
@@ -154,6 +155,7 @@ fn make_block<C: Cells, B: Blocks>(
     requires bytes { All (λ item. length item.items ≤ most_bytes) items.now }
     requires witness { length (encoded schema.cellbase_witness witness.now) ≤ most_bytes }
     ensures read { HasRead B.told B.count B.loans_of B.faults B.damages blocks.old blocks.new (stop_of result) }
+    ensures lines { IfOk result (λ made. length made.0.items ≡ length items.now) }
     ensures canonical { IfOk result (λ made. (b : schema.Block) × IsA schema.block made.1.items b) }
     ensures made { (stored : List Stored) → B.told blocks.old ≡ Some stored → StandsForAll stored (seen C.rows context.now)
         → IfOk result (λ made. IsMade context.now.spec.now (branch (blocks_of stored) context.now.parent)
@@ -211,7 +213,16 @@ pub fn assemble<C: Cells, B: Blocks>(
     requires witness { length (encoded schema.cellbase_witness witness.now) ≤ most_bytes }
     ensures read { HasRead B.told B.count B.loans_of B.faults B.damages blocks.old blocks.new (stop_of result) }
 
-    // Over kept blocks that are known with their own fees, of which the parent is the tip, with the cells of its branch.
+    // Over any source of blocks: a line for each item, and a canonical block.
+    ensures lines { IfOk result (λ made. length made.lines.items ≡ length items.now) }
+    ensures canonical { IfOk result (λ made. (b : schema.Block) × IsA schema.block made.block.items b) }
+
+    // Over kept blocks that are known with their own fees, with the cells of the parent's branch.
+    ensures assembled_on { (stored : List Stored) → B.told blocks.old ≡ Some stored → StandsForAll stored (seen C.rows context.now)
+        → IfOk result (IsAssembled (assembled_on context.now.spec.now (blocks_of stored) (branch (blocks_of stored) context.now.parent) witness.now
+        (map (λ item. item.items) items.now))) }
+
+    // And where the parent is the tip.
     ensures assembled { (stored : List Stored) → B.told blocks.old ≡ Some stored → StandsForAll stored (seen C.rows context.now)
         → tip_place (blocks_of stored) ≡ Some context.now.parent
         → IfOk result (IsAssembled (pool.assembled (chain_on context.now.spec.now (blocks_of stored)) witness.now (map (λ item. item.items) items.now))) }

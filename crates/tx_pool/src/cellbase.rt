@@ -1,5 +1,5 @@
 // The cellbase of the block that is assembled.
-ghost use Rattle.std.specs.Prelude.{◌≡◌, ◌<◌, ◌^◌, ℕ, List, [], length, Some, Err, IfOk, IfErr};
+ghost use Rattle.std.specs.Prelude.{◌≡◌, ◌<◌, ◌^◌, List, [], length, Some, Err, IfOk, IfErr};
 ghost use Rattle.outside.specs.declared.disk.Damage.{Damage};
 ghost use Rattle.outside.specs.declared.disk.ReadStop.TheVariants.{Damaged, NoMemory as no_memory};
 ghost use Rattle.codec_defs.specs.Shape.{IsA, encoded};

@@ -1,5 +1,5 @@
 // The block so far, and what one item more comes to.
-ghost use Rattle.std.specs.Prelude.{◌≡◌, ◌+◌, ◌<◌, ◌≤◌, ◌^◌, ◌||◌, ◌++◌, ◌∷◌, [], ℕ, true, List, None, Some, Err, IfOk, OnOk, IsTrue, length, map, take};
+ghost use Rattle.std.specs.Prelude.{◌≡◌, ◌+◌, ◌<◌, ◌≤◌, ◌^◌, ◌||◌, [], List, None, Some, Err, IfOk, OnOk, IsTrue, length, map, take};
 ghost use Rattle.std.specs.List.{All};
 ghost use Rattle.std.specs.Str.{bytes_eq};
 ghost use Rattle.std.specs.HashSet.{contains};
@@ -358,6 +358,7 @@ impl<'c, 'a, C: Cells> Draft<'c, 'a, C> {
         requires sizes { All (λ item. length item.items ≤ most_bytes) items.now }
         ensures read { HasRead B.told B.count B.loans_of B.faults B.damages blocks.old blocks.new (stop_of result) }
         ensures fits { OnOk result (Fits (draft_of C.rows self.new)) }
+        ensures lines { OnOk result (length self.new.lines.items ≡ length items.now) }
         ensures taken { (stored : List Stored) (so_far : pool.Assembly) → B.told blocks.old ≡ Some stored
             → AreProposed context.now.spec.now (branch (blocks_of stored) context.now.parent) proposed.now
             → IsSoFar stored (seen C.rows context.now) so_far (draft_of C.rows self.old)

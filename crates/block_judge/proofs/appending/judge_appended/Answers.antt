@@ -1,13 +1,14 @@
-use Rattle.std.proofs.Common.{◌≡◌, ℕ, Bool, List, Some, None, refl, sym, ap, ◌∙◌, subst}
+use Rattle.std.proofs.Common.{◌≡◌, ℕ, List, Option, Some, None, refl, sym, ap, ◌∙◌, subst}
 use Rattle.std.specs.Prelude.{IfOk}
-use Rattle.fold_defs.specs.First.{first_failing}
+use Rattle.codec_defs.specs.Schema.{Block}
 use Rattle.chain_defs.specs.Branch.{branch}
 use Rattle.chain_tree.specs.Told.{Stored, blocks_of}
 use Rattle.tx_rules.specs.At.{AtValue}
 use Rattle.block_judge.specs.Appending.{SeesSoFar, next_site}
+use Rattle.block_judge.specs.Inputs.{AreInputsOf}
 use Rattle.block_judge.specs.Standing.{seen}
 use Rattle.block_judge.proofs.SiteLemmas.{site-next}
-use Rattle.block_judge.proofs.NextLemmas.{rules-asked}
+use Rattle.block_judge.proofs.NextLemmas.{next-judged}
 use Rattle.block_judge.proofs.appending.judge_appended.Goals as goal
 
 pub returns : goal.returns
@@ -21,12 +22,15 @@ returns g c =
       within = c.judge_transaction.ensures.within;
       interest_fits = c.judge_transaction.ensures.interest_fits;
       freed_fits = c.judge_transaction.ensures.freed_fits;
-      broken = λ stored tells sees proposed rule same.
-          sym (ap first_failing (rules-asked (on stored) c.args.left c.args.tx.now proposed))
-          ∙ c.judge_transaction.ensures.broken stored (on stored) tells (is stored sees) rule same;
-      unbroken = λ stored tells sees proposed.
-          subst (λ (rules : List (ℕ × Bool)). IfOk c.judge_transaction.result (λ _. first_failing rules ≡ None))
-          (rules-asked (on stored) c.args.left c.args.tx.now proposed)
+      by_rows = c.judge_transaction.ensures.by_rows refl;
+      copied =
+          subst (λ (b : Block). IfOk c.judge_transaction.result (λ passed. AreInputsOf (g.B.Blocks.told c.args.blocks.now)
+          (record { spec = c.args.context.now.spec.now; entries = c.args.context.now.tree.now.entries; parent = c.args.context.now.parent; block = Some b })
+          c.args.tx.now passed.inputs.items)) c.so_far.ensures c.judge_transaction.ensures.copied;
+      broken = λ stored tells sees rule same.
+          sym (next-judged (on stored) c.args.left c.args.tx.now) ∙ c.judge_transaction.ensures.broken stored (on stored) tells (is stored sees) rule same;
+      unbroken = λ stored tells sees.
+          subst (λ (first : Option ℕ). IfOk c.judge_transaction.result (λ _. first ≡ None)) (next-judged (on stored) c.args.left c.args.tx.now)
           (c.judge_transaction.ensures.unbroken stored (on stored) tells (is stored sees));
       fee = λ stored tells sees. c.judge_transaction.ensures.fee stored (on stored) tells (is stored sees);
       interest = λ stored tells sees. c.judge_transaction.ensures.interest stored (on stored) tells (is stored sees);

@@ -5,7 +5,6 @@ use Rattle.codec_defs.specs.Schema.{Header}
 use Rattle.time_defs.specs.Dao.{DaoField, next_field, field_bytes}
 use Rattle.time_defs.proofs.RatedLemmas.{rated-parts}
 use Rattle.chain_defs.specs.Branch.{branch}
-use Rattle.reward_defs.specs.Rules.{are_bytes_of}
 use Rattle.reward_defs.proofs.DaoLaws.{rated-next}
 use Rattle.tx_rules.proofs.BranchLemmas.{branch-long}
 use Rattle.block_judge.proofs.EndingLemmas.{next-there}

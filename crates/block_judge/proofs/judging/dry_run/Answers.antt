@@ -1,4 +1,4 @@
-use Rattle.std.proofs.Common.{Some, None, refl, ap, ◌∙◌}
+use Rattle.std.proofs.Common.{◌≤◌, Some, None, refl, ap, ◌∙◌, subst}
 use Rattle.time_defs.specs.Specification.{Specification}
 use Rattle.chain_defs.specs.Branch.{branch}
 use Rattle.chain_tree.specs.Told.{blocks_of}
@@ -18,6 +18,7 @@ returns-in-Err g c =
       read = c.in-Err.ensures.read;
       tried = λ rule same. c.in-Err.ensures.alone refl rule (as_step same);
       by_rows = c.in-Err.ensures.by_rows refl;
+      within = tt;
       broken = λ stored tells stands rule same.
           alone-judged c.args.context.now.spec.now (branch (blocks_of stored) c.args.context.now.parent) c.args.tx.now _ (Some (rule_number rule)) (ap (λ (s : Specification). s.max_cycles) c.spec.view_is)
           (c.in-Err.ensures.broken stored _ tells (site-alone stored at (g.C.Cells.rows c.args.context.now.cells.now) stands) rule (as_step same));
@@ -34,6 +35,7 @@ returns-in-Ok g c =
       read = c.in-Ok.ensures.read;
       tried = λ rule same. absurd (no_error same);
       by_rows = c.in-Ok.ensures.by_rows refl;
+      within = subst (λ (s : Specification). c.in-Ok.passed.cycles ≤ s.max_cycles) c.spec.view_is c.in-Ok.ensures.within;
       broken = λ stored tells stands rule same. absurd (no_error same);
       unbroken = λ stored tells stands.
           alone-judged c.args.context.now.spec.now (branch (blocks_of stored) c.args.context.now.parent) c.args.tx.now _ None (ap (λ (s : Specification). s.max_cycles) c.spec.view_is)

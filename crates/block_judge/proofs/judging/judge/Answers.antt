@@ -5,7 +5,7 @@ use Rattle.cell_defs.specs.Events.{live_cell}
 use Rattle.chain_tree.specs.Told.{blocks_of}
 use Rattle.chain_tree.proofs.ReadLemmas.{unread, read_on}
 use Rattle.block_judge.proofs.Exits.{same_rule, as_step, no_error, no_read}
-use Rattle.block_judge.proofs.SightLemmas.{live-there, first-cellbase, first-transaction, at-end, stops-after}
+use Rattle.block_judge.proofs.SightLemmas.{live-there, passed, first-cellbase, first-transaction, at-end, stops-after}
 use Rattle.block_judge.proofs.judging.judge.Goals as goal
 
 pub returns-then-not-forms_cellbase : goal.returns-then-not-forms_cellbase
@@ -15,11 +15,17 @@ returns-then-not-forms_cellbase g c = record {
   by_rows = λ live tell. inl (refl, sym (c.if-not-forms_cellbase.ensures live tell));
   fees = tt;
   rated = tt;
-  broken = λ stored tells whole passed rule same.
-      first-cellbase c.args.context.now.spec.now (branch (blocks_of stored) c.args.context.now.parent) c.args.block.now passed
+  broken_left = λ stored tells whole rule same.
+      first-cellbase c.args.context.now.spec.now (branch (blocks_of stored) c.args.context.now.parent) c.args.block.now
       (sym (c.if-not-forms_cellbase.ensures (live_cell (branch (blocks_of stored) c.args.context.now.parent))
       (λ o. live-there (blocks_of stored) c.args.context.now.parent o _ (whole.stands.live o)))) ∙ ap Some (same_rule same);
-  unbroken = λ stored tells whole passed. tt;
+  unbroken_left = λ stored tells whole. tt;
+  broken = λ stored tells whole sight rule same.
+      passed c.args.context.now.spec.now (branch (blocks_of stored) c.args.context.now.parent) c.args.block.now sight
+      ∙ first-cellbase c.args.context.now.spec.now (branch (blocks_of stored) c.args.context.now.parent) c.args.block.now
+      (sym (c.if-not-forms_cellbase.ensures (live_cell (branch (blocks_of stored) c.args.context.now.parent))
+      (λ o. live-there (blocks_of stored) c.args.context.now.parent o _ (whole.stands.live o)))) ∙ ap Some (same_rule same);
+  unbroken = λ stored tells whole sight. tt;
   ext = λ stored tells whole. tt;
   undamaged = λ stored tells whole damage same. no_read same;
 }
@@ -33,12 +39,19 @@ returns-in-Err g c = record {
       (λ rule same. let its = c.in-Err.ensures.rule rule (ap Err same) in omega (arith, its.0));
   fees = tt;
   rated = tt;
-  broken = λ stored tells whole passed rule same.
-      first-transaction c.args.context.now.spec.now (branch (blocks_of stored) c.args.context.now.parent) c.args.block.now _ passed
+  broken_left = λ stored tells whole rule same.
+      first-transaction c.args.context.now.spec.now (branch (blocks_of stored) c.args.context.now.parent) c.args.block.now _
       (sym (c.if-not-forms_cellbase.ensures (live_cell (branch (blocks_of stored) c.args.context.now.parent))
       (λ o. live-there (blocks_of stored) c.args.context.now.parent o _ (whole.stands.live o))))
       (c.in-Err.ensures.broken stored tells whole.stands rule (as_step same));
-  unbroken = λ stored tells whole passed. tt;
+  unbroken_left = λ stored tells whole. tt;
+  broken = λ stored tells whole sight rule same.
+      passed c.args.context.now.spec.now (branch (blocks_of stored) c.args.context.now.parent) c.args.block.now sight
+      ∙ first-transaction c.args.context.now.spec.now (branch (blocks_of stored) c.args.context.now.parent) c.args.block.now _
+      (sym (c.if-not-forms_cellbase.ensures (live_cell (branch (blocks_of stored) c.args.context.now.parent))
+      (λ o. live-there (blocks_of stored) c.args.context.now.parent o _ (whole.stands.live o))))
+      (c.in-Err.ensures.broken stored tells whole.stands rule (as_step same));
+  unbroken = λ stored tells whole sight. tt;
   ext = λ stored tells whole. tt;
   undamaged = λ stored tells whole damage same. c.in-Err.ensures.undamaged stored tells whole.stands damage (as_step same);
 }
@@ -52,8 +65,8 @@ returns-in-Err-judge_end g c = record {
       (λ rule same. let its = c.in-Err-judge_end.ensures.tried rule (ap Err same) in omega (arith, its.0));
   fees = tt;
   rated = tt;
-  broken = λ stored tells whole passed rule same.
-      at-end c.args.context.now.spec.now (branch (blocks_of stored) c.args.context.now.parent) c.args.block.now passed
+  broken_left = λ stored tells whole rule same.
+      at-end c.args.context.now.spec.now (branch (blocks_of stored) c.args.context.now.parent) c.args.block.now
       (sym (c.if-not-forms_cellbase.ensures (live_cell (branch (blocks_of stored) c.args.context.now.parent))
       (λ o. live-there (blocks_of stored) c.args.context.now.parent o _ (whole.stands.live o))))
       (c.in-Ok.ensures.unbroken stored tells whole.stands)
@@ -62,7 +75,19 @@ returns-in-Err-judge_end g c = record {
         interest_is = c.in-Ok.ensures.interest stored tells whole.stands;
         freed_is = c.in-Ok.ensures.freed stored tells whole.stands;
       }) rule (as_step same);
-  unbroken = λ stored tells whole passed. tt;
+  unbroken_left = λ stored tells whole. tt;
+  broken = λ stored tells whole sight rule same.
+      passed c.args.context.now.spec.now (branch (blocks_of stored) c.args.context.now.parent) c.args.block.now sight
+      ∙ at-end c.args.context.now.spec.now (branch (blocks_of stored) c.args.context.now.parent) c.args.block.now
+      (sym (c.if-not-forms_cellbase.ensures (live_cell (branch (blocks_of stored) c.args.context.now.parent))
+      (λ o. live-there (blocks_of stored) c.args.context.now.parent o _ (whole.stands.live o))))
+      (c.in-Ok.ensures.unbroken stored tells whole.stands)
+      ∙ c.in-Err-judge_end.ensures.broken stored (c.judge_transactions.ensures.read.told ∙ tells) whole.stands.indexed whole.fees
+      (record {
+        interest_is = c.in-Ok.ensures.interest stored tells whole.stands;
+        freed_is = c.in-Ok.ensures.freed stored tells whole.stands;
+      }) rule (as_step same);
+  unbroken = λ stored tells whole sight. tt;
   ext = λ stored tells whole. tt;
   undamaged = λ stored tells whole damage same.
       c.in-Err-judge_end.ensures.undamaged stored (c.judge_transactions.ensures.read.told ∙ tells) whole.stands.indexed whole.fees damage (as_step same);
@@ -75,9 +100,21 @@ returns-in-Ok-judge_end g c = record {
   by_rows = λ live tell. sym (c.if-not-forms_cellbase.ensures live tell);
   fees = c.in-Ok.ensures.fees;
   rated = c.in-Ok-judge_end.ensures.rated;
-  broken = λ stored tells whole passed rule same. absurd (no_error same);
-  unbroken = λ stored tells whole passed.
-      at-end c.args.context.now.spec.now (branch (blocks_of stored) c.args.context.now.parent) c.args.block.now passed
+  broken_left = λ stored tells whole rule same. absurd (no_error same);
+  unbroken_left = λ stored tells whole.
+      at-end c.args.context.now.spec.now (branch (blocks_of stored) c.args.context.now.parent) c.args.block.now
+      (sym (c.if-not-forms_cellbase.ensures (live_cell (branch (blocks_of stored) c.args.context.now.parent))
+      (λ o. live-there (blocks_of stored) c.args.context.now.parent o _ (whole.stands.live o))))
+      (c.in-Ok.ensures.unbroken stored tells whole.stands)
+      ∙ c.in-Ok-judge_end.ensures.unbroken stored (c.judge_transactions.ensures.read.told ∙ tells) whole.stands.indexed whole.fees
+      (record {
+        interest_is = c.in-Ok.ensures.interest stored tells whole.stands;
+        freed_is = c.in-Ok.ensures.freed stored tells whole.stands;
+      });
+  broken = λ stored tells whole sight rule same. absurd (no_error same);
+  unbroken = λ stored tells whole sight.
+      passed c.args.context.now.spec.now (branch (blocks_of stored) c.args.context.now.parent) c.args.block.now sight
+      ∙ at-end c.args.context.now.spec.now (branch (blocks_of stored) c.args.context.now.parent) c.args.block.now
       (sym (c.if-not-forms_cellbase.ensures (live_cell (branch (blocks_of stored) c.args.context.now.parent))
       (λ o. live-there (blocks_of stored) c.args.context.now.parent o _ (whole.stands.live o))))
       (c.in-Ok.ensures.unbroken stored tells whole.stands)

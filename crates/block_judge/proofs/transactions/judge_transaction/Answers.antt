@@ -1,4 +1,4 @@
-use Rattle.std.proofs.Common.{◌≡◌, ◌<◌, ◌^◌, ℤ, nat_abs, inr, Err, sym, ap, ◌∙◌, subst, arith}
+use Rattle.std.proofs.Common.{◌<◌, ◌^◌, ℤ, nat_abs, inr, Err, sym, ap, ◌∙◌, subst, arith}
 use Rattle.std.specs.List.{sum_by}
 use Rattle.fold_defs.specs.First.{first_failing}
 use Rattle.outside.specs.declared.disk.ReadStop.TheVariants.{Damaged}
@@ -12,7 +12,7 @@ use Rattle.script_defs.specs.Rules.{script_rules, cycles_of}
 use Rattle.block_judge.specs.ByRows.{StopsByRows}
 use Rattle.chain_tree.proofs.ReadLemmas.{read_on}
 use Rattle.block_judge.proofs.Exits.{same_stop, as_step, no_error, read_as, resolving-stop}
-use Rattle.block_judge.proofs.TransactionLemmas.{stops-resolving, reads-resolving, tried-resolving, alone-resolving, leaves-scripts, its-transaction, resolved-own, spent-rows}
+use Rattle.block_judge.proofs.TransactionLemmas.{stops-resolving, reads-resolving, tried-resolving, alone-resolving, leaves-scripts, its-transaction, resolved-own, spent-rows, inputs-of}
 use Rattle.block_judge.proofs.MovedLemmas.{interest-kept, freed-same}
 use Rattle.block_judge.proofs.RowsLemmas.{stops-by-rows, resolved-by-rows, later-by-rows}
 use Rattle.block_judge.proofs.transactions.judge_transaction.Goals as goal
@@ -29,6 +29,7 @@ returns-in-Err g c = record {
       let rows = g.C.Cells.rows c.args.cells.now in
       subst (StopsByRows (has_form c.args.tx.now) (spends_rows rows c.args.tx.now)) (sym c.stopped.ensures)
       (stops-by-rows c.args.proposed rows c.args.tx.now c.in-Err.stop c.resolve.result proposed c.resolve.ensures.by_rows c.resolve.ensures.tried c.in-Err.is);
+  copied = tt;
   alone = λ proposed rule same.
       alone-resolving c.args.proposed c.in-Err.stop rule proposed (λ number its. c.in-Err.ensures.tried number (ap Err its)) (sym c.stopped.ensures ∙ same_stop same);
   broken = λ stored site told is rule same.
@@ -56,6 +57,7 @@ returns-in-Err-run_scripts g c = record {
       later-by-rows _ _ c.in-Err-run_scripts.stop
       (resolved-by-rows c.args.proposed (g.C.Cells.rows c.args.cells.now) c.args.tx.now c.in-Ok.ok c.resolve.result proposed c.resolve.ensures.by_rows c.in-Ok.is)
       (λ rule same. let its = c.in-Err-run_scripts.ensures.rule rule (ap Err same) in omega (arith, its.0));
+  copied = tt;
   alone = λ proposed rule same. let its = c.in-Err-run_scripts.ensures.rule rule (as_step same) in inr (omega (arith, its.0), its.1);
   broken = λ stored site told is rule same.
       let its = ap (λ (ok : TxOk). ok.resolved) c.ok.view_is in
@@ -88,6 +90,8 @@ returns g c = record {
   rule = λ rule same. absurd (no_error same);
   by_rows = λ proposed.
       resolved-by-rows c.args.proposed (g.C.Cells.rows c.args.cells.now) c.args.tx.now c.in-Ok.ok c.resolve.result proposed c.resolve.ensures.by_rows c.in-Ok.is;
+  copied =
+      inputs-of (g.B.Blocks.told c.args.blocks.now) c.args.at.now c.args.tx.now (ap (λ (ok : TxOk). ok.resolved) c.ok.view_is) c.in-Ok.ensures.formed c.in-Ok.ensures.of_rows;
   alone = λ proposed rule same. absurd (no_error same);
   broken = λ stored site told is rule same. absurd (no_error same);
   unbroken = λ stored site told is.

@@ -1,7 +1,7 @@
 use Rattle.std.proofs.Common.{◌∙◌}
 use Rattle.chain_defs.specs.Branch.{branch}
 use Rattle.chain_tree.specs.Told.{blocks_of}
-use Rattle.chain_tree.proofs.ReadLemmas.{read_on, read_short}
+use Rattle.chain_tree.proofs.ReadLemmas.{read_on}
 use Rattle.tx_rules.proofs.BranchLemmas.{branch-long}
 use Rattle.block_judge.proofs.Exits.{as_step}
 use Rattle.block_judge.proofs.NextLemmas.{proposed-here}

@@ -34,6 +34,7 @@ pub returns-in-Err : goal.returns-in-Err
 returns-in-Err g c = record {
   read = read_on c.items.invariant.read c.in-Err.ensures.read;
   fits = tt;
+  lines = tt;
   taken = λ stored so_far tells proposed is. tt;
   undamaged = λ stored so_far tells proposed is damage same.
       c.in-Err.ensures.undamaged stored _ (c.items.invariant.read.told ∙ tells) (c.items.invariant.taken stored so_far tells proposed is) damage (as_step same);
@@ -43,6 +44,7 @@ pub returns : goal.returns
 returns g c = record {
   read = c.items.invariant.read;
   fits = c.items.invariant.fits;
+  lines = omega (arith, c.items.invariant.count, c.items.invariant.within, c.items-test.false);
   taken = λ stored so_far tells proposed is.
       let past = c.items-test.false in
       so-far-as stored (seen g.C.Cells.rows c.args.context.now) _ _ _
