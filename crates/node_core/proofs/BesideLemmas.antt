@@ -1,13 +1,12 @@
 -- A node and its disk after a snapshot was taken: LOG is as it was, and one more area may read otherwise.
-use Rattle.std.proofs.Common.{◌≡◌, ◌⊎◌, true, ℕ, ◌≤◌, List, [], ◌∷◌, ◌++◌, length, Option, Some, None, refl, sym, ap, ◌∙◌, subst, inl, inr, arith}
+use Rattle.std.proofs.Common.{◌≡◌, ◌⊎◌, true, ℕ, ◌≤◌, List, [], Option, Some, None, refl, sym, ap, ◌∙◌, subst, inr}
 use Rattle.std.specs.Prelude.{◌↔◌, IfSome, IsSome, IsOk, Result, Err}
 use Rattle.std.specs.Option.{option_map}
 use Rattle.outside.specs.declared.disk.ReadStop.{ReadStop}
 use Rattle.outside.specs.declared.disk.ReadStop.TheVariants as reads
 use Rattle.outside.specs.declared.disk.WriteStop.{WriteStop}
 use Rattle.outside.specs.declared.disk.WriteStop.TheVariants as writes
-use Rattle.outside.specs.declared.disk.Area.{Area}
-use Rattle.outside.specs.declared.disk.Area.TheVariants.{Log, SnapA, SnapB}
+use Rattle.outside.specs.declared.disk.Area.TheVariants.{Log}
 use Rattle.outside.specs.Image.{Image, content, with_content}
 use Rattle.outside.specs.Disk.{ComesBy, OthersRead, LeavesOnly, AreaKept}
 use Rattle.outside.proofs.Images.{own_content}

@@ -25,7 +25,7 @@ use Rattle.tx_defs.specs.Capacity.{fee}
 use Rattle.script_defs.specs.Scene.{scene_of}
 use Rattle.script_defs.specs.Rules.{cycles_of}
 use Rattle.block_defs.specs.Ext.{ext_of}
-use Rattle.block_defs.specs.Rules.{first_broken, broken_at_sight, broken_in_dry_run}
+use Rattle.block_defs.specs.Rules.{first_broken, broken_in_dry_run}
 use Rattle.tx_defs.specs.Site.{site_after}
 use Rattle.time_defs.specs.Dao.{is_rated}
 use Rattle.block_judge.specs.Standing.{Stands, StandsWhole}

@@ -1,8 +1,7 @@
 -- Which snapshot an opening loads, and what it reads there.
-use Rattle.std.proofs.Common.{◌≡◌, ℕ, zero, suc, ◌+◌, ◌<◌, ◌≤◌, ◌^◌, Bool, true, false, cond, List, ◌∷◌, ◌++◌, length, Option, Some, None, Ok, Err, refl, sym, ap, ◌∙◌, subst, inl, inr, ◌⊎◌, arith}
-use Rattle.std.specs.Prelude.{IfSome, IsSomeAnd, IfOk, Result, IsTrue, nat_lt, slice_get, slice_index_or}
+use Rattle.std.proofs.Common.{◌≡◌, ℕ, ◌+◌, ◌<◌, ◌≤◌, ◌^◌, Bool, true, false, cond, List, ◌++◌, length, Option, Some, None, Ok, Err, refl, sym, ap, ◌∙◌, subst, inl, inr, arith}
+use Rattle.std.specs.Prelude.{IfSome, IsSomeAnd, OnOk, Result, nat_lt, slice_index_or}
 use Rattle.std.specs.List.{All}
-use Rattle.std.specs.Str.{bytes_eq}
 use Rattle.std.proofs.lemmas.List.{length-append}
 use Rattle.std.proofs.lemmas.Option.{same_Some, slice_get_within}
 use Rattle.std.proofs.lemmas.Slice.Eq.{bytes_eq-Decides}
@@ -11,8 +10,8 @@ use Rattle.outside.specs.declared.disk.Area.{Area}
 use Rattle.outside.specs.declared.disk.Area.TheVariants.{Log, SnapA, SnapB}
 use Rattle.outside.specs.declared.disk.Damage.{Damage}
 use Rattle.outside.specs.declared.disk.ReadStop.{ReadStop}
-use Rattle.outside.specs.declared.disk.ReadStop.TheVariants.{DiskFault, NoMemory, Damaged}
-use Rattle.outside.specs.Image.{Image, content}
+use Rattle.outside.specs.declared.disk.ReadStop.TheVariants.{Damaged}
+use Rattle.outside.specs.Image.{Image, content, with_content}
 use Rattle.codec_defs.specs.Schema.{OutPoint, Block}
 use Rattle.chain_defs.specs.Kept.{block_at, block_hash}
 use Rattle.chain_defs.specs.Tip.{tip_place}
@@ -20,8 +19,7 @@ use Rattle.cell_defs.specs.Ext.{count_at}
 use Rattle.cell_defs.specs.Row.{Row}
 use Rattle.cell_state.specs.State.{StateValue, rows}
 use Rattle.chain_tree.specs.declared.entry.Entry.{Entry}
-use Rattle.chain_tree.specs.Entries.{entry_at}
-use Rattle.chain_tree.specs.Blocks.{Describes, IndexesBlocks}
+use Rattle.chain_tree.specs.Blocks.{IndexesBlocks}
 use Rattle.chain_defs.proofs.KeptLaws.{slice_get-below}
 use Rattle.chain_tree.proofs.BlockLemmas.{len-same, described}
 use Rattle.fit_laws.specs.Laws.{AreCanonical}
@@ -32,14 +30,16 @@ use Rattle.reorg_laws.proofs.HeldLaws.{snapshot-rows-are-kept}
 use Rattle.snapshot_defs.specs.Snapshot.{Snapshot, body_bytes, snapshot_bytes, has_open_gate, Holds, IsOfBlocks, IsSoundArea, HoldsSound}
 use Rattle.snapshot_defs.proofs.AreaLaws.{sound-holds-its-own, sound-has-its-number, tells-its-rows}
 use Rattle.snapshot_defs.proofs.Fields.{head_of, head-length, rows_bytes, in-parts}
-use Rattle.snapshot_defs.proofs.SnapshotLaws.{opens-its-gate}
 use Rattle.snapshots.specs.Reading.{AnswersNumber, AnswersSnapshot, IsRead, IsDamaged, IsOfTree, has_hash, has_tip, row_count, AreWithin}
 use Rattle.snapshots.specs.Rows.{IsHeld}
 use Rattle.store_defs.specs.Store.{IsJoined}
 use Rattle.store_defs.specs.SnapshotLaws.{HasSoundAreas}
 use Rattle.node_core.specs.Snapshot.{number_in, area_with, newest, tip_in}
-use Rattle.node_core.specs.Opening.{IsOfArea, IsOfSnapshot}
-use Rattle.node_core.specs.Steps.{distance_to, moves_from, moves_by}
+use Rattle.node_core.specs.Opening.{IsOfArea, IsOfSnapshot, HoldsOneOf, HasNewestOf}
+use Rattle.node_core.specs.Steps.{distance_to, moves_by}
+
+none-some : (area : Area) → None ≡ Some area → ⊥
+none-some area is = cc
 
 true-false : true ≡ false → ⊥
 true-false is = cc
@@ -156,6 +156,43 @@ of-newest now area entries damage is of = by (number_in now.snap_a) (number_in n
     by (Some a) None same = at-a same
     by None (Some b) same = at-b same
     by (Some a) (Some b) same = either (nat_lt a b) same
+
+-- which does not hang on LOG
+pub newest-still : (entries : List Entry) (now : Image) (bytes : List ℕ) → HasNewestOf entries (with_content Log bytes now) → HasNewestOf entries now
+newest-still entries now bytes has area is = by (number_in now.snap_a) (number_in now.snap_b) is (has area is)
+  where
+    at-a : Some SnapA ≡ Some area → HoldsOneOf entries (content area (with_content Log bytes now)) → HoldsOneOf entries (content area now)
+    at-a same holds = subst (λ (x : Area). HoldsOneOf entries (content x now)) (same_Some SnapA area same)
+        (subst (λ (x : Area). HoldsOneOf entries (content x (with_content Log bytes now))) (sym (same_Some SnapA area same)) holds)
+
+    at-b : Some SnapB ≡ Some area → HoldsOneOf entries (content area (with_content Log bytes now)) → HoldsOneOf entries (content area now)
+    at-b same holds = subst (λ (x : Area). HoldsOneOf entries (content x now)) (same_Some SnapB area same)
+        (subst (λ (x : Area). HoldsOneOf entries (content x (with_content Log bytes now))) (sym (same_Some SnapB area same)) holds)
+
+    either : (less : Bool) → cond less (Some SnapB) (Some SnapA) ≡ Some area → HoldsOneOf entries (content area (with_content Log bytes now)) → HoldsOneOf entries (content area now)
+    either true same = at-b same
+    either false same = at-a same
+
+    by : (a b : Option ℕ) → area_with a b ≡ Some area → HoldsOneOf entries (content area (with_content Log bytes now)) → HoldsOneOf entries (content area now)
+    by None None none = absurd (cc)
+    by (Some a) None same = at-a same
+    by None (Some b) same = at-b same
+    by (Some a) (Some b) same = either (nat_lt a b) same
+
+pub newest-none : (entries : List Entry) (reads : Option Image) (now : Image) (found : Option Area) → reads ≡ Some now → IfSome reads (λ image. found ≡ newest image)
+    → found ≡ None → HasNewestOf entries now
+newest-none entries reads now found told is none area some =
+    let at : found ≡ newest now = subst (λ (o : Option Image). IfSome o (λ image. found ≡ newest image)) told is in
+    absurd (none-some area (sym none ∙ at ∙ some))
+
+pub whole-also : {T E : Type 0} {P Q : Type 0} (result : Result T E) → (P → Q) → OnOk result P → OnOk result Q
+whole-also (Ok value) also here = also here
+whole-also (Err stop) also here = tt
+
+-- the area that was found is the newest
+pub newest-found : (entries : List Entry) (now : Image) (area : Area) → newest now ≡ Some area → HoldsOneOf entries (content area now) → HasNewestOf entries now
+newest-found entries now area is holds other same =
+    subst (λ (x : Area). HoldsOneOf entries (content x now)) (same_Some area other (sym is ∙ same)) holds
 
 -- ---- What is read there
 
@@ -292,6 +329,13 @@ module _ (kept : List Block) (area : Area) (entries : List Entry) (reads : Optio
       → (now : Image) → reads ≡ Some now → after + distance_to kept it.1 (tip_place kept) ≤ before + moves_by kept now (Some area)
   loaded-led (number, tip, state) is tells most now told =
       led-from kept area entries reads now before after number tip state told most (subst Tells is tells)
+
+  pub loaded-whole : (it : ℕ × ℕ × StateValue) → found ≡ Some it → Tells found → (now : Image) → reads ≡ Some now → HoldsOneOf entries (content area now)
+  loaded-whole (number, tip, state) is tells now told = from
+      (subst (λ (o : Option Image). IfSome o (λ image. AnswersSnapshot area entries (content area image) before after (Ok (Some (number, tip, state))))) told (subst Tells is tells))
+    where
+      from : AnswersSnapshot area entries (content area now) before after (Ok (Some (number, tip, state))) → HoldsOneOf entries (content area now)
+      from (s, read) = (s, read.holds, read.of_tree)
 
   pub loaded-none : found ≡ None → Tells found → (now : Image) → reads ≡ Some now → newest now ≡ Some area → ⊥
   loaded-none is tells now told newest_is = never-closed area entries reads now before after told newest_is (subst Tells is tells)

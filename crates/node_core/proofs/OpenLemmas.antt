@@ -7,7 +7,6 @@ use Rattle.std.proofs.lemmas.List.{length-map}
 use Rattle.std.proofs.lemmas.Option.{same_Some}
 use Rattle.outside.specs.declared.disk.Area.TheVariants.{Log, SnapA, SnapB}
 use Rattle.outside.specs.declared.disk.Damage.{Damage}
-use Rattle.outside.specs.declared.disk.ReadStop.{ReadStop}
 use Rattle.outside.specs.Image.{Image, with_content}
 use Rattle.outside.specs.Causes.{Rose, CountsFault}
 use Rattle.outside.specs.Disk.{NoneNew, IsDurable, HasOneImage, OthersRead, LeavesOnly, IsAsBefore, IsOnlyRead}
@@ -33,12 +32,13 @@ use Rattle.block_store.specs.Held.{CacheValue, Holds, AgreesWith}
 use Rattle.block_store.specs.Stored.{CanBeKept}
 use Rattle.node_core.specs.Node.{KeptValue, NodeValue, kept_of, node_of, stored_of, CountFees, IsWithin, IsBounded, IsReadBy, IsOf, IsItsOwn, IsSoundNode, IsOnlyImage, IsOn, IsLeftByOpening, AreOfTip, AreOfKept}
 use Rattle.node_core.specs.Gathering.{IsBodyOfUnfit}
-use Rattle.node_core.specs.Opening.{NameItsBodies, IsOfCells, IsNoneFrom, IsNoStoreAt, SaysTheSame, LeavesStore, IsReadFrom}
+use Rattle.node_core.specs.Opening.{NameItsBodies, IsOfCells, IsNoneFrom, IsNoStoreAt, SaysTheSame, LeavesStore, IsReadFrom, HasNewestOf}
 use Rattle.store_defs.specs.SnapshotLaws.{HasSoundAreas}
 use Rattle.codec_defs.specs.Schema.{Block}
 use Rattle.node_core.specs.Snapshot.{number_in, area_with, newest}
 use Rattle.node_core.specs.Steps.{moves_by, moves_over, moves_to_open}
 use Rattle.node_core.proofs.KeepingLemmas.{left_by_opening}
+use Rattle.node_core.proofs.LoadingLemmas.{newest-still}
 use Rattle.node_core.proofs.RecordedLemmas.{paired-kept, same_image}
 use Rattle.node_core.proofs.OpeningLemmas.{joined-log, joined-chain, records-are, can-be-kept, chain-opened, counted-opened, joined-opened, rated-opened}
 
@@ -464,6 +464,11 @@ module _ {D : Type 0} (reads_as : D → Option Image) (images : D → Image → 
   moved_to_open before after most now told =
       subst (λ (s : Store). after ≤ before + moves_over now s) (sym (from_at now told).keeps)
       (subst (λ (n : ℕ). after ≤ before + n) (moves_same kept.chain.blocks now others.0) (most (with_content Log others.0 now) (told_mid now told)))
+
+  -- the snapshot that was loaded is there
+  pub whole_led : ((there : Image) → reads_as mid ≡ Some there → HasNewestOf kept.entries there) → IfSome (reads_as old) (HasNewestOf kept.entries)
+  whole_led has = if_told (HasNewestOf kept.entries) (reads_as old) (λ now told.
+      newest-still kept.entries now others.0 (has (with_content Log others.0 now) (told_mid now told)))
 
   -- the areas of a sound image are sound over what was read
   areas_there : (now : Image) → reads_as old ≡ Some now → IsSound now → HasSoundAreas kept.chain.blocks (with_content Log others.0 now)

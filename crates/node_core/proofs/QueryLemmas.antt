@@ -1,9 +1,11 @@
 -- What queries ask of a node: the block at a height of the best branch, and the live cell with an out-point there.
 use Rattle.std.proofs.Common.{◌≡◌, ℕ, ◌+◌, ◌<◌, List, [], length, Option, Some, None, refl, sym, ap, ◌∙◌, subst, arith}
-use Rattle.std.specs.Prelude.{slice_get, slice_index, IfSome}
+use Rattle.std.specs.Prelude.{slice_get, slice_index, IfSome, IsSomeAnd}
 use Rattle.std.proofs.lemmas.List.{length-map}
 use Rattle.std.specs.Option.{option_map, option_and_then}
 use Rattle.std.proofs.lemmas.Option.{slice_get_within, slice_get_past, slice_get-map, same_Some}
+use Rattle.outside.specs.declared.disk.Area.TheVariants.{Log}
+use Rattle.outside.specs.declared.disk.Damage.{Damage}
 use Rattle.codec_defs.specs.Schema.{OutPoint, Block}
 use Rattle.chain_defs.specs.Kept.{block_at}
 use Rattle.chain_defs.specs.Branch.{branch, branch_places}
@@ -12,6 +14,7 @@ use Rattle.chain_tree.specs.declared.entry.Entry.{Entry}
 use Rattle.chain_defs.proofs.KeptLaws.{slice_get-below}
 use Rattle.chain_defs.proofs.TipLaws.{tip_place-there, tip_place-below}
 use Rattle.chain_tree.specs.Entries.{entry_at}
+use Rattle.chain_tree.specs.Damages.{IsOfBlock}
 use Rattle.chain_tree.specs.Blocks.{IndexesBlocks}
 use Rattle.chain_tree.specs.Told.{Stored, blocks_of}
 use Rattle.chain_tree.proofs.BlockLemmas.{len-same}
@@ -209,3 +212,13 @@ names-of stored o cell row of_row = record {
 
     kept : (it : Stored) × (slice_get stored row.block ≡ Some it) × (it.block ≡ made.0)
     kept = stored-at stored row.block made.0 (ap (block_at (blocks_of stored)) same ∙ place.there)
+
+-- ---- Where a cell is damaged
+
+-- damage where an entry has its body is that of a kept block
+pub of-entry : (entries : List Entry) (place : ℕ) (entry : Entry) (damage : Damage) → entry_at entries place ≡ Some entry
+    → damage ≡ record { area = Log; at = entry.at } → IsOfBlock entries damage
+of-entry entries place entry damage there is = (
+  ap (λ (d : Damage). d.area) is,
+  (place, subst (λ (found : Option Entry). IsSomeAnd found (λ e. damage.at ≡ e.at)) (sym there) (ap (λ (d : Damage). d.at) is)),
+)

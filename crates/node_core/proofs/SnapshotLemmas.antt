@@ -1,5 +1,5 @@
 -- What a snapshot leaves of the disk while it is taken, and after it.
-use Rattle.std.proofs.Common.{◌≡◌, ℕ, ◌<◌, ◌≤◌, List, length, Option, Some, None, refl, sym, ap, ◌∙◌, subst, inl, inr, ◌⊎◌, arith}
+use Rattle.std.proofs.Common.{◌≡◌, ℕ, ◌<◌, ◌≤◌, List, length, Option, Some, None, refl, sym, ap, ◌∙◌, subst, inl, inr}
 use Rattle.std.specs.Prelude.{IfSome, IsSome, IsSomeAnd, Result, Ok, Err, OnOk}
 use Rattle.std.specs.Option.{option_map}
 use Rattle.std.proofs.lemmas.Option.{same_Some}
@@ -10,7 +10,7 @@ use Rattle.outside.specs.Disk.{ComesBy, IsDurable, OthersRead, LeavesOnly, AreaK
 use Rattle.outside.proofs.Images.{own_content}
 use Rattle.outside.proofs.Moments.{leaves_also, leaves_then, now_too}
 use Rattle.codec_defs.specs.Schema.{OutPoint, Block}
-use Rattle.chain_defs.specs.Kept.{block_at, block_hash}
+use Rattle.chain_defs.specs.Kept.{block_at}
 use Rattle.chain_defs.specs.Tip.{tip_place}
 use Rattle.cell_defs.specs.Row.{Row}
 use Rattle.chain_tree.specs.declared.entry.Entry.{Entry}
@@ -18,7 +18,7 @@ use Rattle.chain_tree.specs.Blocks.{Describes}
 use Rattle.verdict_defs.specs.Chain.{Chain}
 use Rattle.snapshot_defs.specs.Snapshot.{Snapshot, Holds, area_of, IsOfBlocks}
 use Rattle.snapshot_defs.proofs.AreaLaws.{none-in-the-log, is-of-its-tip}
-use Rattle.snapshots.specs.Writing.{close_area, IsShut, IsAsItWasOrClosed, IsClosedOr, HasArea, HasAnyArea, IsSnapshotOf, HoldsNew}
+use Rattle.snapshots.specs.Writing.{close_area, IsShut, IsAsItWasOrClosed, IsClosedOr, HasArea, HasAnyArea, HoldsNew}
 use Rattle.store_defs.specs.Store.{StandsFor}
 use Rattle.store_defs.proofs.SnapshotLemmas.{stands_with_closed_area, stands_with_snapshot}
 use Rattle.node_core.specs.Node.{AreOfTip, IsOnlyImage}

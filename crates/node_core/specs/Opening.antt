@@ -11,12 +11,14 @@ use Rattle.chain_tree.specs.Told.{Stored}
 use Rattle.log_defs.specs.Log.{LogContent, log_of, records_of, end_of_log, IsNoLogFrom}
 use Rattle.log_defs.specs.Rest.{IsSettled}
 use Rattle.log_file.specs.Opening.{IsOpened}
-use Rattle.snapshots.specs.Reading.{IsDamaged, damage_in}
+use Rattle.snapshot_defs.specs.Snapshot.{Snapshot, Holds}
+use Rattle.snapshots.specs.Reading.{IsDamaged, IsOfTree, damage_in}
 use Rattle.chain_tree.specs.Damages.{IsOfBlock}
 use Rattle.verdict_defs.specs.Chain.{Chain}
 use Rattle.store_defs.specs.Store.{Keeps, store_of, IsSound, AreJoined}
 use Rattle.node_core.specs.Node.{NodeValue, IsOf, IsLeftByOpening}
 use Rattle.node_core.specs.Gathering.{IsUnfitFrom}
+use Rattle.node_core.specs.Snapshot.{newest}
 
 -- An image has the areas of snapshots that another has, and its log says the same.
 pub record SaysTheSame (now image : Image) : Type 0 where
@@ -52,6 +54,16 @@ IsNoneFrom bytes at = IsNoLogFrom bytes at ⊎ IsUnfitFrom bytes at
 abbrev pub IsNoStoreAt : Image → Damage → Type 0
 IsNoStoreAt now damage = ((damage.area ≡ Log) × IsNoneFrom now.log damage.at)
     ⊎ ((entries : List Entry) × NameItsBodies now.log entries × IsOfCells entries now damage)
+
+-- ---- What is loaded
+
+-- The bytes hold a snapshot of these blocks.
+abbrev pub HoldsOneOf : List Entry → List ℕ → Type 0
+HoldsOneOf entries bytes = (s : Snapshot) × Holds bytes s × IsOfTree entries s
+
+-- So does the area of the open snapshot with the greater number, where one is open.
+abbrev pub HasNewestOf : List Entry → Image → Type 0
+HasNewestOf entries now = (area : Area) → newest now ≡ Some area → HoldsOneOf entries (content area now)
 
 -- ---- What is left
 

@@ -1,5 +1,5 @@
 // What is done to the areas of the snapshots.
-ghost use Rattle.std.specs.Prelude.{◌≡◌, [], length, IfSome, OnOk};
+ghost use Rattle.std.specs.Prelude.{◌≡◌, IfSome, OnOk};
 ghost use Rattle.std.specs.Option.{option_map};
 ghost use Rattle.outside.specs.Causes.{HasCause};
 ghost use Rattle.outside.specs.declared.disk.Area.TheVariants.{SnapA as snap_a_area, SnapB as snap_b_area};

@@ -1,5 +1,5 @@
 // What is to become of an item, over the kept blocks.
-ghost use Rattle.std.specs.Prelude.{◌≡◌, ◌≢◌, ◌≤◌, ◌==◌, ◌+◌, ◌-◌, ◌<◌, ◌^◌, nat_lt, ℕ, true, map, length, Some, None, Err, IfOk, OnOk, IsSome, IsTrue};
+ghost use Rattle.std.specs.Prelude.{◌≡◌, ◌≤◌, ◌==◌, ◌+◌, ◌-◌, ◌<◌, nat_lt, ℕ, true, map, length, Some, None, Err, IfOk, OnOk, IsSome, IsTrue};
 ghost use Rattle.std.specs.List.{All, list_any};
 ghost use Rattle.codec_defs.specs.Schema as schema;
 ghost use Rattle.codec_defs.specs.Shape.{encoded};
@@ -8,7 +8,7 @@ ghost use Rattle.chain_defs.specs.Branch.{branch, distance};
 ghost use Rattle.chain_defs.specs.Tip.{best_branch};
 ghost use Rattle.outside.specs.declared.disk.Damage.{Damage};
 ghost use Rattle.outside.specs.declared.disk.ReadStop.{ReadStop as a_stop};
-ghost use Rattle.outside.specs.declared.disk.ReadStop.TheVariants.{DiskFault, Damaged, NoMemory};
+ghost use Rattle.outside.specs.declared.disk.ReadStop.TheVariants.{Damaged, NoMemory};
 ghost use Rattle.block_defs.specs.Rules.{broken_at_sight};
 ghost use Rattle.rule_names.specs.Number.{rule_number};
 ghost use Rattle.rule_names.specs.declared.rule.Rule.{Rule};

@@ -13,7 +13,7 @@ ghost use Rattle.chain_defs.specs.Branch.{branch};
 ghost use Rattle.cell_defs.specs.Fit.{are_live, AllFit};
 ghost use Rattle.cell_state.specs.State.{rows, Grows};
 ghost use Rattle.reorg.specs.Moves.{AreBelow};
-ghost use Rattle.cell_model.specs.ListBlocks.{IsCanonical, IsExtFor};
+ghost use Rattle.cell_model.specs.ListBlocks.{IsExtFor};
 ghost use Rattle.chain_tree.specs.Blocks.{Describes, IndexesBlocks};
 ghost use Rattle.outside.specs.declared.disk.Area.TheVariants.{Log};
 ghost use Rattle.outside.specs.declared.disk.Damage.{Damage as a_damage};

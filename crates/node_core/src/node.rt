@@ -20,6 +20,7 @@ ghost use Rattle.cell_defs.specs.Ext.{ext_bytes, is_ext, count_at};
 ghost use Rattle.cell_state.specs.State.{rows};
 ghost use Rattle.reorg.specs.Moves.{AreOf};
 ghost use Rattle.chain_tree.specs.Blocks.{Describes, IndexesBlocks};
+ghost use Rattle.chain_tree.specs.Damages.{IsOfBlock};
 ghost use Rattle.chain_tree.specs.Reading.{nothing_found, stop_of};
 ghost use Rattle.rule_names.specs.Number.{rule_number};
 ghost use Rattle.rule_names.specs.declared.rule.Rule.{Rule};
@@ -42,7 +43,7 @@ ghost use Rattle.log_file.specs.Pieces.{after_gate, block_record};
 ghost use Rattle.log_file.specs.declared.stop.LogStop.TheVariants as log_stops;
 ghost use Rattle.log_file.specs.Stops.{OfDamage, IsInLog};
 ghost use Rattle.node_core.specs.Node.{node_of, IsItsOwn, IsSoundNode, IsSoundOn, IsOnlyImage, IsOn, LeavesAll, IsLeftByImport, IsSettledAfter, IsWithin, AreOfFound, AreOfTip, AreOfKept};
-ghost use Rattle.node_core.specs.Opening.{LeavesStore, IsReadFrom, NameItsBodies, IsNoneFrom, IsNoStoreAt};
+ghost use Rattle.node_core.specs.Opening.{LeavesStore, IsReadFrom, NameItsBodies, IsNoneFrom, IsNoStoreAt, HasNewestOf};
 ghost use Rattle.outside.specs.declared.disk.WriteStop.TheVariants as write_stops;
 ghost use Rattle.node_core.specs.Snapshot.{snapshot_at, OthersReadBut, HasSnapshot, LacksSnapshot};
 ghost use Rattle.node_core.specs.Steps.{moves_for, moves_to_open};
@@ -312,6 +313,8 @@ impl Node {
         ensures kept { IfOk result (λ node. IfSome (D.reads_as disk.old) (λ now. store_of now ≡ Keeps node.chain)) }
         ensures not_a_store { IfErr result (OfDamage (λ _. IfSome (D.reads_as disk.old) (λ now. IsSound now → ⊥))) }
         ensures damage { IfErr result (OfDamage (λ damage. IfSome (D.reads_as disk.old) (λ now. IsNoStoreAt now damage))) }
+        // A damaged snapshot is not passed over.
+        ensures whole { IfOk result (λ node. IfSome (D.reads_as disk.old) (HasNewestOf node.entries)) }
         ensures left { LeavesStore D.reads_as D.images D.moment D.left_since disk.old disk.new }
         ensures own { IfOk result (λ node. IsItsOwn node (D.reads_as disk.new) (D.images disk.new)) }
         ensures settled { IfOk result (λ node. IfSome (D.reads_as disk.old) (λ now.
@@ -619,6 +622,7 @@ impl Node {
             → (result ≡ Ok None) × (disk.new ≡ disk.old) }
         ensures undamaged { AreOfTip self.old.chain.blocks (rows self.old.cells) → IsSome (D.reads_as disk.old)
             → (damage : Damage) → result ≡ Err (Damaged damage) → ⊥ }
+        ensures of_block { IsSome (D.reads_as disk.old) → (damage : Damage) → result ≡ Err (Damaged damage) → IsOfBlock self.old.entries damage }
     {
         over_disk::fetch(alloc, disk, &mut self.cache, &self.kept, &self.state, o)
     }

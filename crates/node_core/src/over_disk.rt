@@ -11,7 +11,7 @@ ghost use Rattle.codec_defs.specs.Shape.{encoded};
 ghost use Rattle.chain_defs.specs.Tip.{best_branch};
 ghost use Rattle.chain_tree.specs.Reading.{stop_of};
 ghost use Rattle.cell_state.specs.State.{rows};
-ghost use Rattle.chain_tree.specs.Damages.{IsAtRecord};
+ghost use Rattle.chain_tree.specs.Damages.{IsAtRecord, IsOfBlock};
 ghost use Rattle.reorg.specs.Moves.{AreOf};
 ghost use Rattle.rule_names.specs.Number.{rule_number};
 ghost use Rattle.rule_names.specs.declared.rule.Rule.{Rule};
@@ -204,6 +204,7 @@ pub(crate) fn fetch<D: Disk>(
     ensures none { AreOfTip kept.now.chain.blocks (rows state.now) → IsLiveCell kept.now.chain.blocks o None → (result ≡ Ok None) × (disk.new ≡ disk.old) }
     ensures undamaged { IsSome (D.reads_as disk.old) → AreOfTip kept.now.chain.blocks (rows state.now)
         → (damage : a_damage) → result ≡ Err (Damaged damage) → ⊥ }
+    ensures of_block { IsSome (D.reads_as disk.old) → (damage : a_damage) → result ≡ Err (Damaged damage) → IsOfBlock kept.now.entries damage }
 {
     let mut store = Store::new(alloc, disk, &kept.tree, cache);
     kept.fetch(alloc, &mut store, state, o)

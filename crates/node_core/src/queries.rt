@@ -1,9 +1,8 @@
 // What queries ask of the kept blocks and of the live cells of the tip.
-ghost use Rattle.std.specs.Prelude.{◌≡◌, ◌≢◌, ◌≤◌, ◌<◌, ◌+◌, List, length, None, Some, Ok, Err, IfOk, IsOk, IfSome, IsSome, pos};
+ghost use Rattle.std.specs.Prelude.{◌≡◌, ◌≢◌, ◌≤◌, ◌<◌, ◌+◌, length, None, Some, Ok, Err, IfOk, IfSome, IsSome, pos};
 ghost use Rattle.std.specs.Option.{option_map, option_and_then};
 ghost use Rattle.codec_defs.specs.Shape.{encoded};
 ghost use Rattle.codec_defs.specs.Schema as schema;
-ghost use Rattle.codec_defs.specs.Schema.{Block};
 ghost use Rattle.time_defs.specs.Dao.{as_u64, counted_capacity};
 ghost use Rattle.chain_defs.specs.Kept.{block_at};
 ghost use Rattle.chain_defs.specs.Tip.{best_branch};
@@ -12,6 +11,7 @@ ghost use Rattle.outside.specs.declared.disk.Area.TheVariants.{Log};
 ghost use Rattle.outside.specs.declared.disk.Damage.{Damage as a_damage};
 ghost use Rattle.outside.specs.declared.disk.ReadStop.TheVariants.{DiskFault, Damaged};
 ghost use Rattle.cell_state.specs.State.{rows};
+ghost use Rattle.chain_tree.specs.Damages.{IsOfBlock};
 ghost use Rattle.chain_tree.specs.Reading.{HasRead, stop_of};
 ghost use Rattle.node_core.specs.Node.{stored_of, AreOfTip, AreOfKept};
 ghost use Rattle.node_core.specs.Queries.{IsHeaderAt, IsBlockAt, IsLiveCell, IsFetched};
@@ -209,6 +209,7 @@ impl Kept {
             → (result ≡ Ok None) × (blocks.new ≡ blocks.old) }
         ensures undamaged { B.told blocks.old ≡ Some (stored_of self.now) → AreOfTip self.now.chain.blocks (rows state.now)
             → (damage : a_damage) → result ≡ Err (Damaged damage) → ⊥ }
+        ensures of_block { IsSome (B.told blocks.old) → (damage : a_damage) → result ≡ Err (Damaged damage) → IsOfBlock self.now.entries damage }
     {
         let Some(live) = self.live(state, &o) else {
             return Ok(None);

@@ -1,5 +1,5 @@
 // When a snapshot is taken, and which one is loaded where a store is opened.
-ghost use Rattle.std.specs.Prelude.{◌≡◌, ◌<◌, ◌≤◌, ◌+◌, ℕ, List, Err, Some, None, length, IfOk, IsOk, OnOk, IfSome, IsSome};
+ghost use Rattle.std.specs.Prelude.{◌≡◌, ◌<◌, ◌≤◌, ◌+◌, ℕ, List, Err, Some, None, length, IfOk, IsOk, OnOk, IfSome};
 ghost use Rattle.outside.specs.Causes.{CountsFault};
 ghost use Rattle.outside.specs.Image.{Image, InArea, content};
 ghost use Rattle.outside.specs.Disk.{ComesBy, IsDurable, OthersRead, LeavesOnly, AreaKept};
@@ -18,7 +18,7 @@ ghost use Rattle.store_defs.specs.Store.{StandsFor, AreJoined};
 ghost use Rattle.store_defs.specs.SnapshotLaws.{HasSoundAreas};
 ghost use Rattle.node_core.specs.Node.{IsReadBy, AreOfTip, AreOfKept, IsOnlyImage};
 ghost use Rattle.chain_tree.specs.declared.entry.Entry.{Entry};
-ghost use Rattle.node_core.specs.Opening.{IsOfSnapshot, IsOfCells};
+ghost use Rattle.node_core.specs.Opening.{IsOfSnapshot, IsOfCells, HoldsOneOf, HasNewestOf};
 ghost use Rattle.node_core.specs.Snapshot.{snapshot_at, IsTaken, OnlySnapshotReads, HasSnapshot, area_with, newest};
 ghost use Rattle.node_core.specs.Steps.{distance_to, moves_by};
 
@@ -168,6 +168,7 @@ fn load_from<D: Disk, L: Ledger>(
         → (damage : a_damage) → result ≡ Err (read_stops.Damaged damage) → ⊥ }
     ensures damage { (now : Image) → D.reads_as disk.old ≡ Some now → newest now ≡ Some area
         → (damage : a_damage) → result ≡ Err (read_stops.Damaged damage) → IsOfSnapshot kept.now.entries now damage }
+    ensures whole { (now : Image) → D.reads_as disk.old ≡ Some now → OnOk result (HoldsOneOf kept.now.entries (content area now)) }
     ensures content { D.content_of disk.new ≡ D.content_of disk.old }
     ensures cause { CountsFault (D.faults disk.old) (D.faults disk.new) (result ≡ Err read_stops.DiskFault) }
     ensures led { (now : Image) → D.reads_as disk.old ≡ Some now
@@ -202,6 +203,7 @@ fn load<D: Disk, L: Ledger>(
         → (damage : a_damage) → result ≡ Err (read_stops.Damaged damage) → ⊥ }
     ensures damage { (now : Image) → D.reads_as disk.old ≡ Some now
         → (damage : a_damage) → result ≡ Err (read_stops.Damaged damage) → IsOfSnapshot kept.now.entries now damage }
+    ensures whole { (now : Image) → D.reads_as disk.old ≡ Some now → OnOk result (HasNewestOf kept.now.entries now) }
     ensures content { D.content_of disk.new ≡ D.content_of disk.old }
     ensures cause { CountsFault (D.faults disk.old) (D.faults disk.new) (result ≡ Err read_stops.DiskFault) }
     ensures led { (now : Image) → D.reads_as disk.old ≡ Some now
@@ -241,6 +243,7 @@ pub(crate) fn to_tip<D: Disk, L: Ledger>(
         → AreOf kept.now.chain.blocks 0 (rows genesis) → (damage : a_damage) → result ≡ Err (read_stops.Damaged damage) → ⊥ }
     ensures damage { (now : Image) → D.reads_as disk.old ≡ Some now
         → (damage : a_damage) → result ≡ Err (read_stops.Damaged damage) → IsOfCells kept.now.entries now damage }
+    ensures whole { (now : Image) → D.reads_as disk.old ≡ Some now → OnOk result (HasNewestOf kept.now.entries now) }
     ensures agrees { IfSome (D.reads_as disk.new) (IsReadBy kept.now cache.new.held) }
     ensures content { D.content_of disk.new ≡ D.content_of disk.old }
     ensures found { AnswersFound cache.old.damages cache.new.damages (stop_of result) }

@@ -1,4 +1,4 @@
-use Rattle.std.proofs.Common.{List, Err, refl, sym, ap, ◌∙◌, subst}
+use Rattle.std.proofs.Common.{List, refl, sym, ap, ◌∙◌, subst}
 use Rattle.std.specs.Prelude.{IfSome}
 use Rattle.outside.proofs.Moments.{now_too}
 use Rattle.log_file.proofs.Exits.{fault_counts, stop_counts, counts_on, memory_not_fault, answer_counts, answer_still, damage_also, damage_named, named_no_fault, in_log_also}

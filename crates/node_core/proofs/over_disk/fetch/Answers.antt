@@ -1,4 +1,5 @@
-use Rattle.std.proofs.Common.{sym, ap, ◌∙◌, subst}
+use Rattle.std.proofs.Common.{refl, sym, ap, ◌∙◌, subst}
+use Rattle.std.specs.Prelude.{IsSome}
 use Rattle.outside.proofs.Endings.{after_still}
 use Rattle.chain_tree.specs.Entries.{TreeValue}
 use Rattle.chain_tree.specs.Reading.{stop_of}
@@ -51,3 +52,9 @@ returns-clause-none g c = λ at_tip dead.
     let still = c.fetch.ensures.none at_tip dead in
     let disk = c.disk-1.given.1 (sym c.new-store.ensures.its_disk ∙ sym (ap (λ it. it.disk) c.fetch.ensures.read.loans)) in
     (still.0, disk ∙ ap (λ store. store.disk.now) still.1 ∙ c.new-store.ensures.disk)
+
+pub returns-clause-of_block : goal.returns-clause-of_block
+returns-clause-of_block g c = λ some.
+    let same = ap (λ (t : TreeValue). t.entries) c.new-store.ensures.tree ∙ ap (λ (v : KeptValue). v.entries) c.kept.view_is in
+    c.fetch.ensures.of_block (subst IsSome (sym (tells-kept c.args.kept.now c.new-store.result.tree.now.entries c.args.cache.now.held (g.D.Disk.reads_as c.new-store.result.disk.now)
+    (g.D.Disk.reads_as c.args.disk.now) same (ap g.D.Disk.reads_as c.new-store.ensures.disk) c.requires.own some)) refl)

@@ -4,7 +4,7 @@ use Rattle.outside.specs.declared.disk.Area.{Area}
 use Rattle.chain_defs.specs.Tip.{tip_place}
 use Rattle.log_file.proofs.Exits.{same_stop}
 use Rattle.node_core.specs.Steps.{distance_to, moves_by}
-use Rattle.node_core.proofs.LoadingLemmas.{newest-at}
+use Rattle.node_core.proofs.LoadingLemmas.{newest-at, newest-none, newest-found, whole-also}
 use Rattle.node_core.proofs.snapshot.load.Goals as goal
 
 pub returns-in-Err-clause-undamaged : goal.returns-in-Err-clause-undamaged
@@ -37,3 +37,13 @@ returns-in-None-clause-below g c = λ are. are
 
 pub returns-in-Some-clause-below : goal.returns-in-Some-clause-below
 returns-in-Some-clause-below g c = λ _. c.load_from.ensures.below
+
+pub returns-in-None-clause-whole : goal.returns-in-None-clause-whole
+returns-in-None-clause-whole g c = λ now told.
+    newest-none c.args.kept.now.entries (g.D.Disk.reads_as c.args.disk.now) now c.in-Ok.found told c.in-Ok.ensures.newest c.in-None.is
+
+pub returns-in-Some-clause-whole : goal.returns-in-Some-clause-whole
+returns-in-Some-clause-whole g c = λ now told.
+    whole-also c.load_from.result
+    (newest-found c.args.kept.now.entries now c.in-Some.area (newest-at (g.D.Disk.reads_as c.args.disk.now) now c.in-Ok.found c.in-Some.area told c.in-Ok.ensures.newest c.in-Some.is))
+    (c.load_from.ensures.whole now ((g.met.D.Disk.content_rests c.args.disk.now c.newest_in.new.disk c.newest_in.ensures.content).reads ∙ told))

@@ -1,7 +1,10 @@
-use Rattle.std.proofs.Common.{Err, ap, ◌∙◌}
+use Rattle.std.proofs.Common.{List, Err, ap, ◌∙◌, subst}
+use Rattle.outside.specs.Image.{content}
+use Rattle.chain_tree.specs.declared.entry.Entry.{Entry}
 use Rattle.log_file.proofs.Exits.{same_stop}
+use Rattle.node_core.specs.Opening.{HoldsOneOf}
 use Rattle.node_core.proofs.BelowLemmas.{below-loaded}
-use Rattle.node_core.proofs.LoadingLemmas.{loaded-within, loaded-cells, loaded-led, loaded-none, never-damaged, snapshot-damaged}
+use Rattle.node_core.proofs.LoadingLemmas.{loaded-within, loaded-cells, loaded-led, loaded-none, loaded-whole, never-damaged, snapshot-damaged}
 use Rattle.node_core.proofs.snapshot.load_from.Goals as goal
 
 pub returns-in-Ok-Some-clause-within : goal.returns-in-Ok-Some-clause-within
@@ -34,3 +37,8 @@ pub returns-in-Ok-None-clause-damage : goal.returns-in-Ok-None-clause-damage
 returns-in-Ok-None-clause-damage g c = λ now told is damage e.
     absurd (loaded-none c.args.kept.now.chain.blocks c.args.area c.tree.result.now.entries (g.D.Disk.reads_as c.args.disk.now) c.args.steps.now c.read.new.steps c.in-Ok-None.field-0
     c.in-Ok-None.field-0-is c.in-Ok-None.ensures.snapshot now told is)
+
+pub returns-in-Ok-Some-clause-whole : goal.returns-in-Ok-Some-clause-whole
+returns-in-Ok-Some-clause-whole g c = λ now told.
+    subst (λ (es : List Entry). HoldsOneOf es (content c.args.area now)) c.tree.ensures.entries
+    (loaded-whole c.args.kept.now.chain.blocks c.args.area c.tree.result.now.entries (g.D.Disk.reads_as c.args.disk.now) c.args.steps.now c.read.new.steps c.in-Ok-Some.field-0 c.in-Ok-Some.loaded c.in-Ok-Some.field-0-is c.in-Ok-Some.ensures.snapshot now told)

@@ -1,7 +1,6 @@
-use Rattle.std.proofs.Common.{◌≡◌, ℕ, Err, Option, Some, refl, sym, ap, ◌∙◌, subst, inl, inr, arith}
+use Rattle.std.proofs.Common.{ℕ, Err, refl, sym, ap, ◌∙◌, subst, inl, inr, arith}
 use Rattle.std.specs.Prelude.{IsSome}
 use Rattle.std.proofs.lemmas.Option.{same_Some}
-use Rattle.outside.specs.Image.{Image}
 use Rattle.cell_state.specs.State.{rows}
 use Rattle.chain_tree.proofs.BlockLemmas.{len-same}
 use Rattle.chain_tree.specs.Reading.{stop_of}
@@ -48,3 +47,6 @@ returns-in-Ok-moved-clause-found g c = finds_answers c.in-Ok-moved.ensures.looke
 
 pub returns-in-Err-moved-clause-found : goal.returns-in-Err-moved-clause-found
 returns-in-Err-moved-clause-found g c = finds_answers c.in-Err-moved.ensures.looked.found
+
+pub returns-in-Ok-moved-clause-whole : goal.returns-in-Ok-moved-clause-whole
+returns-in-Ok-moved-clause-whole g c = c.in-Ok.ensures.whole

@@ -2,12 +2,13 @@ use Rattle.std.proofs.Common.{◌≡◌, List, Option, length, refl, sym, ap, �
 use Rattle.outside.proofs.Endings.{handed, no_answer}
 use Rattle.codec_defs.specs.Schema.{Block}
 use Rattle.cell_defs.specs.Row.{Row}
+use Rattle.chain_tree.specs.Damages.{IsOfBlock}
 use Rattle.chain_tree.specs.Told.{blocks_of}
 use Rattle.chain_tree.proofs.BlockLemmas.{len-same}
 use Rattle.chain_tree.proofs.ReadLemmas.{unread}
 use Rattle.node_core.specs.Node.{KeptValue, stored_of}
 use Rattle.node_core.specs.Queries.{LiveValue, IsLiveRow, IsLiveCell}
-use Rattle.node_core.proofs.QueryLemmas.{names-of, not-live}
+use Rattle.node_core.proofs.QueryLemmas.{names-of, not-live, of-entry}
 use Rattle.node_core.proofs.RecordedLemmas.{blocks-told}
 use Rattle.node_core.proofs.kept.Kept.fetch.Goals as goal
 
@@ -36,6 +37,7 @@ returns-in_default g c = record {
   fetched = λ tells at_tip. subst (λ (found : Option LiveValue). IsLiveCell c.args.self.now.chain.blocks c.args.o found) c.in_default.is (c.live.ensures.live at_tip);
   none = λ at_tip dead. (refl, refl);
   undamaged = λ tells at_tip damage same. no_answer _ _ same;
+  of_block = λ tells damage same. absurd (no_answer _ _ same);
 }
 
 pub returns-in-Err : goal.returns-in-Err
@@ -51,6 +53,10 @@ returns-in-Err g c = record {
       (subst (λ (row : Row). IsLiveRow (blocks_of (stored_of c.args.self.now)) c.args.o live.0 row) (sym meta)
       (subst (λ (blocks : List Block). IsLiveRow blocks c.args.o live.0 c.in-Some.live.row) (sym seen) live.1)) in
       c.in-Err.ensures.undamaged (stored_of c.args.self.now) live.0 tells names damage (handed c.in-Err.stop _ same);
+  of_block = λ tells damage same.
+      let is = c.in-Err.ensures.place tells damage (handed c.in-Err.stop _ same) in
+      subst (λ (v : KeptValue). IsOfBlock v.entries damage) c.self.view_is
+      (of-entry c.self.inside.tree.entries _ c.entry.result.now damage c.entry.ensures.entry is);
 }
 
 pub returns-clause-read : goal.returns-clause-read
@@ -75,3 +81,6 @@ returns-clause-fetched g c = λ tells at_tip.
 
 pub returns-clause-none : goal.returns-clause-none
 returns-clause-none g c = λ at_tip dead. absurd (not-live c.args.self.now.chain.blocks c.args.o c.in-Some.live (c.in-Some.ensures.live at_tip) dead)
+
+pub returns-clause-of_block : goal.returns-clause-of_block
+returns-clause-of_block g c = λ tells damage same. absurd (no_answer _ _ same)

@@ -1,6 +1,7 @@
 use Rattle.std.proofs.Common.{sym, subst}
 use Rattle.std.specs.Prelude.{IfOk}
 use Rattle.cell_state.specs.State.{rows}
+use Rattle.chain_tree.specs.Damages.{IsOfBlock}
 use Rattle.node_core.specs.Queries.{IsFetched}
 use Rattle.node_core.specs.Node.{NodeValue, AreOfTip}
 use Rattle.node_core.proofs.RecordedLemmas.{read-here, leaves-all}
@@ -27,3 +28,7 @@ returns-clause-fetched g c = λ live some.
 pub returns-clause-undamaged : goal.returns-clause-undamaged
 returns-clause-undamaged g c = λ live some.
     c.fetch.ensures.undamaged some (subst (λ (node : NodeValue). AreOfTip node.chain.blocks (rows node.cells)) (sym c.self.view_is) live)
+
+pub returns-clause-of_block : goal.returns-clause-of_block
+returns-clause-of_block g c = λ some damage is.
+    subst (λ (node : NodeValue). IsOfBlock node.entries damage) c.self.view_is (c.fetch.ensures.of_block some damage is)

@@ -3,7 +3,7 @@ use Rattle.outside.proofs.Moments.{leaves_also}
 use Rattle.log_file.proofs.Exits.{stop_counts, answer_still, damage_also}
 use Rattle.node_core.specs.Node.{NodeValue}
 use Rattle.node_core.proofs.StayingLemmas.{not_stopped}
-use Rattle.node_core.proofs.OpenLemmas.{leaves_on, stands_while_opened, own_read, keeps_led, settled_led, own_led, one_still, sound_led, on_led, not_led, cells_stopped, no_store_at, moved_to_open, led_counts, no_step, ok_err, same_stop}
+use Rattle.node_core.proofs.OpenLemmas.{leaves_on, stands_while_opened, own_read, keeps_led, settled_led, own_led, one_still, sound_led, on_led, whole_led, not_led, cells_stopped, no_store_at, moved_to_open, led_counts, no_step, ok_err, same_stop}
 use Rattle.node_core.proofs.node.Node.open.Goals as goal
 
 pub returns-in-Err-clause-not_a_store : goal.returns-in-Err-clause-not_a_store
@@ -188,3 +188,15 @@ returns-in-Err-to_tip-clause-damage g c =
     cells_stopped g.D.Disk.reads_as g.D.Disk.images _ _ c.node.inside.kept c.node.inside.log.place c.node.inside.state c.node.inside.cache _ c.node.view_is
     c.read_store.ensures.left.others c.in-Ok.ensures.read c.in-Ok.ensures.cells damage c.in-Ok.ensures.named
     (λ there at. c.to_tip.ensures.damage there at damage (c.in-Err-to_tip.is ∙ ap Err found))) c.stop_of_move.ensures.damaged
+
+pub returns-in-Err-clause-whole : goal.returns-in-Err-clause-whole
+returns-in-Err-clause-whole g c = tt
+
+pub returns-in-Err-to_tip-clause-whole : goal.returns-in-Err-to_tip-clause-whole
+returns-in-Err-to_tip-clause-whole g c = tt
+
+pub returns-in-Ok-to_tip-clause-whole : goal.returns-in-Ok-to_tip-clause-whole
+returns-in-Ok-to_tip-clause-whole g c =
+    whole_led g.D.Disk.reads_as g.D.Disk.images _ _ c.node.inside.kept c.node.inside.log.place c.node.inside.state c.node.inside.cache _ c.node.view_is
+    c.read_store.ensures.left.others c.in-Ok.ensures.read c.in-Ok.ensures.cells
+    c.in-Ok-to_tip.ensures.whole
