@@ -1,8 +1,8 @@
 -- Sessions that all import the same items, one after the other.
-use Rattle.std.proofs.Common.{◌≡◌, ℕ, zero, suc, ◌+◌, ◌-◌, ◌*◌, ◌<◌, ◌≤◌, List, [], ◌∷◌, ◌++◌, length, map, take, max, get_or, replicate, Vec, Global, refl, sym, ap, ◌∙◌, subst, arith}
+use Rattle.std.proofs.Common.{◌≡◌, ℕ, zero, suc, ◌+◌, ◌-◌, ◌*◌, ◌<◌, ◌≤◌, List, [], ◌∷◌, ◌++◌, length, take, max, get_or, replicate, Vec, Global, refl, sym, ap, ◌∙◌, subst, arith}
 use Rattle.std.specs.Prelude.{Result, IfOk}
 use Rattle.std.specs.List.{filter}
-use Rattle.std.proofs.lemmas.List.{take_all, map-append, length-map}
+use Rattle.std.proofs.lemmas.List.{take_all, length-map}
 use Rattle.std.proofs.lemmas.List.FromFn.{length-map-range_with_len}
 use Rattle.std.proofs.lemmas.Result.{IfOk-weaker}
 use Rattle.codec_defs.specs.Shape.{encoded}
@@ -14,7 +14,7 @@ use Rattle.verdict_defs.specs.Chain.{Chain, verdicts_over, chain_over, chain_of_
 use Rattle.gen_defs.specs.Start as start
 use Rattle.gen_defs.specs.Chain.{block_made, blocks_made}
 use Rattle.report_defs.specs.declared.counts.Counts.{Counts}
-use Rattle.report_defs.specs.Simulation.{live_cells, height_of, counts_over, generated_items, generated_counts, HashesDiffer, AreSoakCounts}
+use Rattle.report_defs.specs.Simulation.{live_cells, height_of, counts_over, generated_items, AreSoakCounts}
 use Rattle.soak_laws.specs.Laws.{NamesNoLater, PrefixesReplay, GeneratedNameNoLater, JoinedAreCounted}
 use Rattle.sessions.specs.Sessions.{items_in, IsKeptAfter}
 use Rattle.made_chain.specs.Soak.{last_acked, IsPlayed}

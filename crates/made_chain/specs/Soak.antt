@@ -1,5 +1,5 @@
 -- The sessions in which a generated chain is imported again and again (docs/COMMANDS.md, "soak").
-use Rattle.std.specs.Prelude.{◌≡◌, ℕ, ◌+◌, ◌*◌, ◌^◌, ◌%◌, ◌≤◌, List, [], ◌∷◌, ◌++◌, map, Option, Some, None}
+use Rattle.std.specs.Prelude.{ℕ, ◌+◌, ◌*◌, ◌^◌, ◌%◌, ◌≤◌, List, [], ◌∷◌, ◌++◌, map, Option, Some, None}
 use Rattle.std.specs.List.{range_with_len}
 use Rattle.verdict_defs.specs.Chain.{Chain}
 use Rattle.sessions.specs.declared.plan.Session.{Session}

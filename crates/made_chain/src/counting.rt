@@ -1,5 +1,5 @@
 // The blocks of a generated chain are imported, one after the other, and counted.
-ghost use Rattle.std.specs.Prelude.{◌≡◌, ◌<◌, ◌≤◌, ◌^◌, length, map, IfOk, IsSome, if◌then◌else◌};
+ghost use Rattle.std.specs.Prelude.{◌≡◌, ◌<◌, ◌≤◌, length, map, IfOk, IsSome, if◌then◌else◌};
 ghost use Rattle.std.specs.List.{filter};
 ghost use Rattle.chain_defs.specs.Tip as tips;
 ghost use Rattle.cell_defs.specs.Events.{events};

@@ -5,7 +5,7 @@ ghost use Rattle.node_core.specs.Node.{IsOnlyImage, IsSoundNode};
 ghost use Rattle.sessions.specs.Sessions.{items_in, items_of, AreShort, IsShort, HasSoundImage};
 ghost use Rattle.soak_laws.specs.Laws.{NamesNoLater};
 ghost use Rattle.report_defs.specs.Simulation.{AreSoakCounts, counts_over};
-ghost use Rattle.made_chain.specs.Soak.{Stop, stop_of, stops_of, IsPlayed};
+ghost use Rattle.made_chain.specs.Soak.{stop_of, stops_of, IsPlayed};
 
 use crate::counting::{SIZE_BOUND, counted, open_new};
 use chain_gen::{Made, make};

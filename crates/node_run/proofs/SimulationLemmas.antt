@@ -1,11 +1,11 @@
 -- What was printed of a simulation, or why nothing was.
-use Rattle.std.proofs.Common.{◌≡◌, inl, inr, ℕ, List, [], refl, sym, ◌∙◌, subst, append-nil}
+use Rattle.std.proofs.Common.{inl, inr, ℕ, List, [], refl, sym, ◌∙◌, subst, append-nil}
 use Rattle.std.specs.Prelude.{Option}
 use Rattle.report_defs.specs.declared.command.Simulation.{Simulation}
 use Rattle.report_defs.specs.declared.status.Status.{Status}
 use Rattle.report_defs.specs.declared.status.Status.TheVariants.{Done, NoMemory}
 use Rattle.report_defs.specs.Report.{Report, report_without_lines, IsAnswerToSimulation, IsReportOfSimulation}
-use Rattle.report_defs.specs.Promise.{IsPrefix, IsStoppedBeforeTheSink}
+use Rattle.report_defs.specs.Promise.{IsStoppedBeforeTheSink}
 use Rattle.node_run.specs.Import.{IsStop}
 use Rattle.node_run.specs.Output.{IsWrittenAnswer}
 use Rattle.node_run.specs.Simulation.{IsSimulationPrinted}

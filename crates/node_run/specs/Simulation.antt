@@ -1,5 +1,5 @@
 -- The parts of a simulation.
-use Rattle.std.specs.Prelude.{◌≡◌, ℕ, List, [], Option}
+use Rattle.std.specs.Prelude.{ℕ, List, [], Option}
 use Rattle.report_defs.specs.declared.command.Simulation.{Simulation}
 use Rattle.report_defs.specs.declared.status.Status.{Status}
 use Rattle.report_defs.specs.Report.{IsReportOfSimulation}

@@ -1,5 +1,5 @@
 // The query `dao`: what a live cell of the Nervos DAO counts.
-ghost use Rattle.std.specs.Prelude.{◌≡◌, ◌==◌, ◌≤◌, ◌<◌, ◌&&◌, ℕ, List, Option, Err, Some, None, length, IfOk, string_bytes, if◌then◌else◌, nat_lt, IsTrue};
+ghost use Rattle.std.specs.Prelude.{◌≡◌, ◌==◌, ◌<◌, ◌&&◌, Option, Err, Some, None, length, IfOk, string_bytes, if◌then◌else◌, nat_lt, IsTrue};
 ghost use Rattle.std.specs.List.{list_all};
 ghost use Rattle.cell_defs.specs.Cell.{Cell, holds_its_own};
 ghost use Rattle.chain_defs.specs.Tip.{best_branch};

@@ -1,5 +1,5 @@
 // The command `init`: a new store of a specification and a genesis.
-ghost use Rattle.std.specs.Prelude.{◌≡◌, ◌∷◌, ◌<◌, ◌^◌, ◌++◌, [], Err, Some, length, string_bytes, IfOk, IsSome};
+ghost use Rattle.std.specs.Prelude.{◌≡◌, ◌∷◌, ◌<◌, ◌^◌, [], Err, Some, length, string_bytes, IfOk, IsSome};
 ghost use Rattle.outside.specs.Causes.{CountsFault};
 ghost use Rattle.outside.specs.Disk.{IsAsBefore, IsKnownAsBefore};
 ghost use Rattle.outside.specs.Image.{Image};

@@ -1,5 +1,5 @@
 // Queries: the store is asked, and nothing is read.
-ghost use Rattle.std.specs.Prelude.{◌≡◌, ◌≢◌, ◌+◌, ◌≤◌, slice_index, ◌∷◌, List, ℕ, Option, Err, Some, None, [], IfOk, string_bytes, nat_lt, if◌then◌else◌, IsSome};
+ghost use Rattle.std.specs.Prelude.{◌≡◌, ◌≢◌, ◌+◌, ◌≤◌, slice_index, List, ℕ, Option, Err, Some, None, [], IfOk, string_bytes, nat_lt, if◌then◌else◌, IsSome};
 ghost use Rattle.codec_defs.specs.Schema.{Block};
 ghost use Rattle.chain_defs.specs.Kept.{block_at};
 ghost use Rattle.chain_defs.specs.Tip.{best_branch};

@@ -1,8 +1,7 @@
 // The grammar of a run's words.
-ghost use Rattle.std.specs.Prelude.{◌≡◌, ◌^◌, ◌≤◌, ◌↔◌, ℕ, [], ◌∷◌, map, string_bytes, Some, IfSome};
+ghost use Rattle.std.specs.Prelude.{◌≡◌, ◌≤◌, [], ◌∷◌, map, string_bytes, Some, IfSome};
 ghost use Rattle.std.specs.Option.{option_map};
 ghost use Rattle.std.specs.Str.{bytes_eq};
-ghost use Rattle.std.specs.Fmt.{decimal};
 ghost use Rattle.report_defs.specs.Text as text;
 ghost use Rattle.report_defs.specs.declared.command.Command.TheVariants as commands;
 ghost use Rattle.report_defs.specs.declared.command.Query.TheVariants as queries;

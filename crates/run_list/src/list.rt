@@ -1,5 +1,5 @@
 // A list of runs over a disk that crashes between them.
-ghost use Rattle.std.specs.Prelude.{◌≡◌, List};
+ghost use Rattle.std.specs.Prelude.{List};
 ghost use Rattle.outside.specs.Disk.{IsKnownAsBefore};
 ghost use Rattle.report_defs.specs.Survival.{Run};
 ghost use Rattle.report_defs.specs.Lists.{ArePromised};

@@ -1,5 +1,5 @@
 // A generated chain, imported into nodes that hold different numbers of blocks in memory.
-ghost use Rattle.std.specs.Prelude.{◌≤◌, ◌<◌, ◌^◌, length, IfSome};
+ghost use Rattle.std.specs.Prelude.{◌≤◌, ◌<◌, IfSome};
 ghost use Rattle.node_core.specs.Node.{IsItsOwn};
 
 use chain_gen::{Made, make};

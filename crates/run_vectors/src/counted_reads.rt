@@ -1,5 +1,5 @@
 // A generated chain, imported over a disk that counts what is read of it.
-ghost use Rattle.std.specs.Prelude.{◌≤◌, ◌<◌, ◌^◌, length, IfSome};
+ghost use Rattle.std.specs.Prelude.{◌<◌};
 ghost use Rattle.node_core.specs.Node.{IsItsOwn};
 
 use crate::caches::{import, open_new};

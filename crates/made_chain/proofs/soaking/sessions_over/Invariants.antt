@@ -1,4 +1,4 @@
-use Rattle.std.proofs.Common.{◌≡◌, ◌+◌, ◌*◌, map, length, replicate}
+use Rattle.std.proofs.Common.{◌≡◌, map, replicate}
 use Rattle.std.specs.Prelude.{All}
 use Rattle.std.specs.List.{range_with_len}
 use Rattle.sessions.specs.Sessions.{items_in, items_of, IsShort}

@@ -1,4 +1,4 @@
-use Rattle.std.proofs.Common.{List, ℕ, ◌-◌, length, map, take, drop, ap, sym, ◌∙◌}
+use Rattle.std.proofs.Common.{◌-◌, length, map, take, drop, ap, sym, ◌∙◌}
 use Rattle.std.specs.Prelude.{Err}
 use Rattle.std.proofs.lemmas.List.{take_rest}
 use Rattle.outside.proofs.Endings.{no_answer}

@@ -1,4 +1,4 @@
-use Rattle.std.proofs.Common.{List, ℕ, map, drop, sym, subst, string_bytes}
+use Rattle.std.proofs.Common.{map, drop, sym, subst, string_bytes}
 use Rattle.std.specs.Prelude.{IfOk}
 use Rattle.report_defs.specs.declared.command.Question.{Question}
 use Rattle.node_run.specs.Question.{IsAnswerTo}

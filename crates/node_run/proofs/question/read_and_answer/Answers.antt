@@ -1,4 +1,4 @@
-use Rattle.std.proofs.Common.{◌∷◌, [], refl, ap, ◌∙◌, sym, subst, length, map, arith}
+use Rattle.std.proofs.Common.{◌∷◌, [], refl, ap, subst, length, map, arith}
 use Rattle.std.specs.Prelude.{Ok, Err, string_bytes}
 use Rattle.std.proofs.lemmas.List.{length-map}
 use Rattle.outside.proofs.Endings.{no_fault, counts-as, no_answer}
