@@ -8,7 +8,7 @@ a row of its table; the others have a limit alone. The rows go to standard outpu
 --write each takes the place of the README's row that begins alike, with the day; the
 others stay.
 
-The programs are those that the gate or `./ckbdev` and `rt run` built. A figure whose program is
+The programs are those that the gate or `./ckbdev --build` and `rt run` built. A figure whose program is
 not there, or whose script fails, has no row: that is said on standard error, and the
 status is 1. It is 1 too where a script ends with another status than 0: a limit is passed.
 """

@@ -1,4 +1,4 @@
-"""The script that builds and runs the program, and what the README shows."""
+"""The script that runs the program, its build, and what the README shows."""
 
 import fcntl
 import os
@@ -161,6 +161,7 @@ cp crates/ckbdev/src/program crates/ckbdev/out/ckbdev
 chmod 755 crates/ckbdev/out/ckbdev
 echo 'rt: ckbdev proved'
 '''
+BUILD = ('--build',)
 
 
 class Checkout:
@@ -168,7 +169,7 @@ class Checkout:
 
     def __init__(self, top):
         self.top, self.log = top, os.path.join(top, 'log')
-        for name in ('ckbdev', 'tools/build.py', 'HANDLES'):
+        for name in ('ckbdev', 'HANDLES', *('tools/' + it for it in os.listdir(os.path.join(TOP, 'tools')) if it[-3:] in ('.py', '.sh'))):
             os.makedirs(os.path.dirname(self.at(name)), exist_ok=True)
             shutil.copy(os.path.join(TOP, name), self.at(name))
         self.write('crates.txt', 'low:\nckbdev: low\nother:\n')
@@ -211,11 +212,15 @@ class Checkout:
     def copies(self):
         return [name for name in os.listdir(self.top) if name.startswith('ckbdev-build')]
 
-    def must_run(self, which, builds, what, **how):
-        status, out, err = self.run(**how)
-        must_be(status, 0, what + ': status')
-        must_be(out, b'in elsewhere: program %s\n' % which, what)
+    def must_run(self, which, what):
+        """There is a build of these sources, which runs and has this in its text."""
+        must_be(self.run(), (0, b'in elsewhere: program %s\n' % which, b''), what)
+
+    def must_build(self, which, builds, what):
+        status, out, err = self.run(words=BUILD)
+        must_be((status, out), (0, b''), what)
         must_be(self.builds(), builds, what + ': builds')
+        self.must_run(which, what)
         return err
 
 
@@ -240,30 +245,47 @@ def check_script_answers_words_without_a_build(_):
             must_be(len(lines), 1, 'lines of --help on ' + command)
         status, out, err = it.run(words=['--version'])
         must_be((status, err), (0, b''), '--version')
-        must(out.startswith(b'ckbdev ') and b'not built yet' in out, '--version before a build: %r' % out)
+        must(out.startswith(b'ckbdev ') and b'\nunproved: there is no build; ' in out, '--version before a build: %r' % out)
         must_be(it.builds(), 0, 'builds for words that are answered without one')
-        it.must_run(b'one', 1, 'a run')
+        it.must_build(b'one', 1, 'a build')
         must(it.run(words=['--version'])[1].endswith(b'\nproved with a fake kit\n'), '--version after a build')
         it.write('crates/low/src/lib.rt', LOW % 'changed')
-        must(b'not built yet' in it.run(words=['--version'])[1], '--version after a change')
+        must(b'\nunproved: the build that is there is of other sources; ' in it.run(words=['--version'])[1], '--version after a change')
         must_be(it.builds(), 1, 'builds')
 
 
 def check_script_builds_once(_):
     with new_folder() as top:
         it = Checkout(top)
-        err = it.must_run(b'one', 1, 'the first run')
-        must(err.startswith(b'ckbdev: building: proving the program and the crates below it, 2 in all; about '),
-             'the first run does not begin with what it does and how long that takes')
-        must(b'1 of 2 crates' in err and b'now at ckbdev' in err, 'the first run does not say how far it is')
-        must_be(it.must_run(b'one', 1, 'the second run'), b'', 'standard error of the second run')
+        err = it.must_build(b'one', 1, 'the first build')
+        must(err.startswith(b'ckbdev: building: proving the program and the crates below it, 2 in all, on '),
+             'the first build does not begin with what it does: %r' % err)
+        for line in (rb'about \d+ \w+ where none is kept', rb'1 of 2 crates are proved; about \d+ \w+ left; now at ckbdev\n'):
+            must(re.search(line, err), 'the first build does not say how far it is and how long is left: %r' % err)
+        must_be(it.must_build(b'one', 1, 'a second build'), b'ckbdev: there is a build of these sources\n', 'a second build')
         it.write('crates/other/src/lib.rt', '// changed')
-        it.must_run(b'one', 1, 'after a change of a crate that is not below the program')
+        it.must_run(b'one', 'after a change of a crate that is not below the program')
         it.write('crates/ckbdev/src/program', PROGRAM_OF_A_FAKE % 'two')
-        it.must_run(b'two', 2, 'after a change')
+        it.must_build(b'two', 2, 'after a change')
         os.remove(it.at('build/ckbdev'))
-        it.must_run(b'two', 3, 'after the program was removed')
+        it.must_build(b'two', 3, 'after the program was removed')
         must_be(it.copies(), [], 'what is left of the builds')
+
+
+def check_script_says_how_far_a_build_is(_):
+    """Where no crate gets done, a build still says how far it is, by what the crates took here before."""
+    with new_folder() as top:
+        it = Checkout(top)
+        it.write('build/times.json', '{"check": {"low": 10, "ckbdev": 6000}}')
+        with open(it.at('tools/build.py'), encoding='utf-8') as f:
+            text = f.read()
+        must('\nSAID_EVERY = 30\n' in text, 'tools/build.py has no SAID_EVERY')
+        it.write('tools/build.py', text.replace('\nSAID_EVERY = 30\n', '\nSAID_EVERY = 1\n'))
+        err = it.run(words=BUILD, seconds=4)[2]
+        must_be(it.builds(), 1, 'builds')
+        must(b'about 1.7 hours where none is kept from an earlier run, by what they took here\n' in err, 'how long it takes: %r' % err)
+        lines = re.findall(rb'1 of 2 crates are proved; about (.*) left; now at ckbdev\n', err)
+        must(len(lines) > 2 and set(lines) == {b'1.7 hours'}, 'how long is left: %r' % err)
 
 
 def check_script_waits_for_the_program(_):
@@ -271,6 +293,7 @@ def check_script_waits_for_the_program(_):
     with new_folder() as top:
         it = Checkout(top)
         it.write('crates/ckbdev/src/program', SLOW_TO_END)
+        must_be(it.run(words=BUILD)[0], 0, 'the build')
         process = it.start()
         must_be(line_of(process), b'begun\n', 'what is written first')
         process.send_signal(signal.SIGTERM)
@@ -281,32 +304,32 @@ def check_script_waits_for_the_program(_):
 def check_script_builds_once_for_two(_):
     with new_folder() as top:
         it = Checkout(top)
-        both = [it.start(seconds=2), it.start(seconds=2)]
+        both = [it.start(seconds=2, words=BUILD), it.start(seconds=2, words=BUILD)]
         for process in both:
-            out, _ = process.communicate(timeout=SECONDS)
+            process.communicate(timeout=SECONDS)
             must_be(process.returncode, 0, 'status')
-            must_be(out, b'in elsewhere: program one\n', 'standard output')
-        must_be(it.builds(), 1, 'builds of two runs at once')
+        must_be(it.builds(), 1, 'builds of two at once')
+        it.must_run(b'one', 'after two builds at once')
 
 
 def check_script_survives_a_broken_build(_):
     with new_folder() as top:
         it = Checkout(top)
-        status, out, err = it.run(status=3)
+        status, out, err = it.run(status=3, words=BUILD)
         must_be((status, out), (70, b''), 'a build that fails')
         must(b'the build failed' in err, 'a build that fails says nothing')
-        for number in (signal.SIGTERM, signal.SIGKILL):
+        for number in (signal.SIGINT, signal.SIGTERM, signal.SIGKILL):
             builds, ends = it.builds(), time.monotonic() + SECONDS
-            process = it.start(seconds=3)
+            process = it.start(seconds=10, words=BUILD)
             while it.builds() == builds:
                 must(time.monotonic() < ends, 'no build begins')
                 time.sleep(0.01)
-            build = children_of(process.pid)
-            for pid in (process.pid, *build):
-                os.kill(pid, number)
-            process.communicate(timeout=SECONDS)
+            process.send_signal(number)
+            err = process.communicate(timeout=SECONDS)[1]
+            must_be(process.returncode, -number, 'a build that signal %d ends' % number)
+            must(number == signal.SIGKILL or b'of 2 crates are proved, and ./ckbdev --build goes on' in err, 'what is kept: %r' % err)
             must(not os.path.exists(it.at('build/ckbdev.stamp')), 'a build that was interrupted left a stamp')
-        it.must_run(b'one', it.builds() + 1, 'after broken builds')
+        it.must_build(b'one', it.builds() + 1, 'after broken builds')
         must_be(it.copies(), [], 'what is left of broken builds')
 
 
@@ -322,8 +345,8 @@ def check_script_builds_over_earlier_work(_):
             os.makedirs(it.at('crates/%s/out/incremental' % name))
         it.write('crates/ckbdev/out/ckbdev', PROGRAM_OF_A_FAKE % 'old')
         os.chmod(it.at('crates/ckbdev/out/ckbdev'), 0o755)
-        must_be(it.run(status=1)[:2], (70, b''), 'a build that fails, beside an old program')
-        it.must_run(b'one', 2, 'over earlier work')
+        must_be(it.run(status=1, words=BUILD)[:2], (70, b''), 'a build that fails, beside an old program')
+        it.must_build(b'one', 2, 'over earlier work')
         with open(it.log, encoding='utf-8') as f:
             must_be(f.read(), 'run\nrun\n', 'what was asked of the toolchain')
 
@@ -338,13 +361,14 @@ def check_script_takes_the_build_of_the_gate(_):
         os.chmod(it.at('crates/ckbdev/out/ckbdev'), 0o755)
         it.write('crates/ckbdev/stdout', 'text')
         it.write('crates/ckbdev/out/stdout', 'text')
-        it.must_run(b'one', 1, 'where the gate has not run both builds')
+        it.must_build(b'one', 1, 'where the gate has not run both builds')
         shutil.rmtree(it.at('build'))
         it.write('crates/ckbdev/out/stdout.by-rattle', 'text')
-        it.must_run(b'the gate', 1, 'after the gate')
-        it.must_run(b'the gate', 1, 'a second time after the gate')
+        it.must_run(b'the gate', 'after the gate')
+        it.must_run(b'the gate', 'a second time after the gate')
+        must_be(it.builds(), 1, 'builds after the gate')
         it.write('crates/low/src/lib.rt', LOW % 'changed')
-        it.must_run(b'one', 2, 'after a change since the gate')
+        it.must_build(b'one', 2, 'after a change since the gate')
 
 
 # ------------------------------------------------------------ what is shown

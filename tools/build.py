@@ -1,14 +1,21 @@
 #!/usr/bin/env python3
-"""Builds a program for the script of its name, and says on standard error how far it is.
+"""Proves and builds a program for the script of its name, and says on standard error how far it is.
 
-    tools/build.py [NAME]
+    tools/build.py [--found] [NAME]
 
-NAME is ckbdev or ckbtrace; without a word it is ckbdev. The gate's build is taken where `rt ci` in this checkout made and ran one of these
-sources. Else, where earlier checks left their work in each crate, `rt run` goes on
-from it. Else the crates below the program, without tests and must-fail edits, go
-through `rt ci` in a copy of their own: it proves them from nothing, on all
-processors, and keeps each that is done, so that a build that was cut off is taken
-up again. The program is put in place when it is whole, and its stamp last.
+NAME is ckbdev or ckbtrace; without a word it is ckbdev. The gate's build is taken
+where `rt ci` in this checkout made and ran one of these sources. Else, where earlier
+checks left their work in each crate, `rt run` goes on from it. Else the crates below
+the program, without tests and must-fail edits, go through `rt ci` in a copy of their
+own: it proves them from nothing, on all processors, those first that have the longest
+chain of others behind them. It keeps each that is done, so that a build that was cut
+off goes on from there; a kit that keeps nothing begins again. The program is put in
+place when it is whole, and its stamp last.
+
+With --found nothing is built: the status is 0 where there is a build of these
+sources, and 1 where there is none, or where one is being made. How long is left is
+worked out of what each crate took on this machine, which build/times.json has, or
+else of the table of docs/PROVING.md and the lines of the sources.
 """
 
 import contextlib
@@ -22,11 +29,17 @@ import signal
 import subprocess
 import sys
 import tempfile
+import threading
 import time
+
+import gate_time
+import times
 
 TOP = os.path.dirname(os.path.dirname(os.path.abspath(__file__)))
 PROGRAMS = ('ckbdev', 'ckbtrace')
-NAME = (sys.argv[1:] or PROGRAMS)[0]
+ONLY_FOUND = sys.argv[1:2] == ['--found']
+WORDS = sys.argv[1 + ONLY_FOUND:]
+NAME = (WORDS or PROGRAMS)[0]
 OUT = os.path.join(TOP, 'crates', NAME, 'out')
 BUILD = os.path.join(TOP, 'build')
 PROGRAM, STAMP = os.path.join(BUILD, NAME), os.path.join(BUILD, NAME + '.stamp')
@@ -34,14 +47,22 @@ PROGRAM, STAMP = os.path.join(BUILD, NAME), os.path.join(BUILD, NAME + '.stamp')
 PROVED_WITH = os.path.join(BUILD, NAME + '.proved-with')
 SOURCES = ('src', 'specs', 'proofs')
 STORED_RUN = ('args', 'stdin', 'stdout', 'status')
+# how often, in seconds, it is said how far the build is where no crate gets done
+SAID_EVERY = 30
 
 
 class Failed(Exception):
     pass
 
 
+class Stopped(BaseException):
+    """A signal that asks for the end."""
+
+
 def say(text):
-    print(NAME + ': ' + text, file=sys.stderr, flush=True)
+    # at once and whole: two threads say something, and a signal may end this
+    with contextlib.suppress(OSError):
+        os.write(2, ('%s: %s\n' % (NAME, text)).encode(errors='surrogateescape'))
 
 
 def uses_of_crates():
@@ -201,21 +222,135 @@ def what_failed(log):
     return re.sub(r'(?ms)^== (\w+)\n(?:(?!^== |^rt: ).*?\n)*?rt: \1 proved\n', '', log)
 
 
+def processors():
+    return len(os.sched_getaffinity(0))
+
+
+class Progress:
+    """How far a build is, and how long is left, by what it and earlier ones took here."""
+
+    def __init__(self, crates):
+        self.crates, self.done, self.kept, self.taken = crates, [], [], {}
+        self.begun, self.said = time.monotonic(), 0.0
+        self.known, self.guessed = times.kept().get('check', {}), guessed(crates)
+        self.whole = self.to_do({})
+
+    def weight(self, name):
+        """How many seconds of the processor a crate takes here."""
+        if name in self.known:
+            return self.known[name]
+        pairs = [(self.known[it], self.guessed[it]) for it in self.crates if it in self.known]
+        return self.guessed[name] * (sum(it for it, _ in pairs) / sum(it for _, it in pairs) if pairs else 1)
+
+    def to_do(self, used):
+        """How long the crates that are left take, on all processors, the one with the longest chain behind it first."""
+        left = {name: max(self.weight(name) - used.get(name, 0), 1) for name in self.crates if name not in self.done}
+        behind = {}
+        for name in reversed([*left]):
+            behind[name] = left[name] + max([behind[it] for it in behind if name in self.crates[it]], default=0)
+        lanes, ends, now = processors(), {}, 0.0
+        while len(ends) < len(left):
+            running = [it for it in ends.values() if it > now]
+            ready = [name for name in left if name not in ends
+                     and all(ends.get(it, now + 1) <= now for it in self.crates[name] if it in left)]
+            for name in sorted(ready, key=lambda it: -behind[it])[:lanes - len(running)]:
+                ends[name] = now + left[name]
+            now = min([it for it in ends.values() if it > now], default=now)
+        return max(ends.values(), default=0)
+
+    def left(self, used):
+        """What is left, as long as it takes beside whatever else this machine does."""
+        left, elapsed = self.to_do(used), time.monotonic() - self.begun
+        gone = self.whole - left
+        # not before that says something
+        return left * (min(max(elapsed / max(gone, 1), 0.25), 6) if elapsed > 60 else 1)
+
+    def tell(self, used, running):
+        self.said = time.monotonic()
+        ready = [it for it in self.crates if it not in self.done and set(self.crates[it]) <= {*self.done}]
+        now = [it for it in running if it in self.crates and it not in self.done] or ready
+        say('%d of %d crates are proved%s; about %s left; now at %s'
+            % (len(self.done), len(self.crates), ', %d of them earlier' % len(self.kept) if self.kept else '',
+               times.in_words(self.left(used)), ', '.join(now) or 'the end'))
+
+    def is_done(self, name, was_kept, seconds):
+        before = self.to_do({})
+        self.done.append(name)
+        if was_kept:
+            # it took no time here
+            self.kept.append(name)
+            self.whole -= before - self.to_do({})
+            if len(self.kept) == len(self.done):
+                self.begun = time.monotonic()
+        elif seconds > 1:
+            self.known[name] = seconds
+            times.keep('check', name, seconds)
+
+
+def guessed(crates):
+    """How long each crate takes where none was timed here: its row of docs/PROVING.md, else by its lines."""
+    lines, rows = {}, {}
+    for name in crates:
+        lines[name] = 1
+        for path in files_of(name):
+            with open(path, 'rb') as f:
+                lines[name] += f.read().count(b'\n')
+    with contextlib.suppress(OSError), open(gate_time.PAGE, encoding='utf-8') as f:
+        rows = {name: float(it) for name, it in re.findall(r'(?m)^\| (\w+) \| (\d+) \|', f.read()) if name in crates}
+    # seconds of the processor a line
+    rate = sum(rows.values()) / sum(lines[it] for it in rows) if rows else 0.1
+    return {name: rows.get(name, lines[name] * rate) for name in crates}
+
+
 def run(words, folder, crates=(), status=0):
-    """Runs a command of the kit, and says how many of the crates are done."""
-    log, done, begun = [], [], time.monotonic()
-    with started(words, folder) as process:
-        for line in process.stdout:
-            log.append(line)
-            found = re.match(r'rt: (\w+) (?:proved$|is kept: )', line)
-            if found and found[1] in crates and found[1] not in done:
-                done.append(found[1])
-                ready = [it for it in crates if it not in done and set(crates[it]) <= set(done)]
-                say('%d of %d crates are proved; now at %s' % (len(done), len(crates), ', '.join(ready) or 'the end'))
-        ended = process.wait()
-    if ended != status:
+    """Runs a command of the kit, and says how many of the crates are done, and how long is left."""
+    log, progress, begun, ended = [], Progress(crates) if crates else None, time.monotonic(), threading.Event()
+    turn, seen = threading.Lock(), None
+
+    def used():
+        return {name: it for (name, kind), it in seen.table()[0].items() if kind == 'check'}
+
+    def running():
+        """The crates at which a process is now."""
+        return sorted({it[0] for key, it in seen.what.items() if it and it[1] == 'check' and key in seen.now})
+
+    def watch():
+        while not ended.wait(1):
+            with turn:
+                seen.look()
+                if time.monotonic() - progress.said >= SAID_EVERY:
+                    progress.tell(used(), running())
+
+    def take(line):
+        found = re.match(r'rt: (\w+) (proved$|is kept: )', line)
+        if progress and found and found[1] in crates and found[1] not in progress.done:
+            with turn:
+                progress.is_done(found[1], found[2] != 'proved', used().get(found[1], 0))
+                # what was kept comes many at a time
+                if found[2] == 'proved' or time.monotonic() - progress.said >= SAID_EVERY:
+                    progress.tell(used(), running())
+        elif re.match(r'rt: .*waiting for it$', line):
+            say(line[len('rt: '):].strip())
+
+    try:
+        with started(words, folder) as process:
+            if progress:
+                seen, progress.said = gate_time.Seen(process.pid), begun
+                threading.Thread(target=watch, daemon=True).start()
+            for line in process.stdout:
+                log.append(line)
+                take(line)
+            code = process.wait()
+    except Stopped:
+        if progress:
+            say('stopped: %d of %d crates are proved, and ./%s --build goes on from those that rt ci kept'
+                % (len(progress.done), len(crates), NAME))
+        raise
+    finally:
+        ended.set()
+    if code != status:
         sys.stderr.write(what_failed(''.join(log)))
-        raise Failed('%s ended with status %d' % (' '.join(words), ended))
+        raise Failed('%s ended with status %d' % (' '.join(words), code))
     say('built in %d seconds' % (time.monotonic() - begun))
 
 
@@ -239,15 +374,23 @@ def built_over_work():
 
 def built_anew(uses, room):
     crates = crates_below(uses)
-    say('building: proving the program and the crates below it, %d in all; %s where there are four processors, once'
-        % (len(crates), 'about a quarter of an hour' if NAME == PROGRAMS[0] else 'some minutes'))
+    say('building: proving the program and the crates below it, %d in all, on %d processors; about %s where none is kept '
+        'from an earlier run, by %s' % (len(crates), processors(), times.in_words(Progress(crates).whole),
+                                        'what they took here' if times.kept().get('check') else 'what they took elsewhere'))
     copy_to(room, uses)
     run(['rt', 'ci'], room, crates)
     return os.path.join(room, 'crates', NAME, 'out', NAME)
 
 
+def found(uses, wanted):
+    """A build of these sources that is there, if there is one."""
+    if is_stamped(wanted):
+        return PROGRAM
+    return os.path.join(OUT, NAME) if is_of_the_gate(uses) else None
+
+
 def build():
-    if not shutil.which('rt'):
+    if not shutil.which('rt') and not ONLY_FOUND:
         raise Failed('the command rt of the toolchain is not on the path')
     uses = uses_of_crates()
     wanted = sum_of_sources(uses)
@@ -257,10 +400,11 @@ def build():
         shutil.rmtree(left, ignore_errors=True)
     with tempfile.TemporaryDirectory(prefix=prefix) as room:
         begun = os.stat(room).st_mtime_ns
-        if is_stamped(wanted):
-            made = PROGRAM
-        elif is_of_the_gate(uses):
-            made = os.path.join(OUT, NAME)
+        made = found(uses, wanted)
+        if made:
+            say('there is a build of these sources')
+        elif ONLY_FOUND:
+            return 1
         elif has_work(uses):
             made = built_over_work()
         else:
@@ -268,30 +412,40 @@ def build():
         if sum_of_sources(uses) != wanted:
             raise Failed('a source was changed while it was built: run it again')
         put_in_place(made, wanted, begun)
+    return 0
+
+
+def stop(number, _):
+    for it in (signal.SIGINT, signal.SIGTERM, signal.SIGHUP):
+        signal.signal(it, signal.SIG_IGN)
+    raise Stopped(number)
 
 
 def main():
-    if sys.argv[2:] or NAME not in PROGRAMS:
+    if WORDS[1:] or NAME not in PROGRAMS:
         say('there is no such program')
         return 2
     # so that what was started ends, and the copy goes, where this is stopped
-    for number in (signal.SIGTERM, signal.SIGHUP):
-        signal.signal(number, lambda number, _: sys.exit(128 + number))
-    os.makedirs(BUILD, exist_ok=True)
-    lock = os.open(BUILD, os.O_RDONLY)
+    for number in (signal.SIGINT, signal.SIGTERM, signal.SIGHUP):
+        if signal.getsignal(number) is not signal.SIG_IGN:
+            signal.signal(number, stop)
     try:
-        fcntl.flock(lock, fcntl.LOCK_EX | fcntl.LOCK_NB)
-    except BlockingIOError:
-        say('another run is building; waiting for it')
-        fcntl.flock(lock, fcntl.LOCK_EX)
-    try:
-        build()
+        os.makedirs(BUILD, exist_ok=True)
+        lock = os.open(BUILD, os.O_RDONLY)
+        try:
+            fcntl.flock(lock, fcntl.LOCK_EX | fcntl.LOCK_NB)
+        except BlockingIOError:
+            if ONLY_FOUND:
+                return 1
+            say('another run is building; waiting for it')
+            fcntl.flock(lock, fcntl.LOCK_EX)
+        return build()
     except (Failed, OSError, subprocess.CalledProcessError) as error:
         say('the build failed: %s' % error)
-        return 1
-    except KeyboardInterrupt:
-        return 130
-    return 0
+        return 70
+    except Stopped as stopped:
+        signal.signal(stopped.args[0], signal.SIG_DFL)
+        os.kill(os.getpid(), stopped.args[0])
 
 
 if __name__ == '__main__':

@@ -6,7 +6,8 @@
 runs `rt ci` with these words at the top of the checkout, passes on what it prints,
 and looks four times a second at what the processes below it have used. Then it
 prints a table: of each crate the seconds of the processor that its check, its tests
-and its must-fail edits took. What an earlier run on this machine has passed is kept
+and its must-fail edits took, and below them those of rt itself, whose own time grows
+with the paths down from each crate of crates.txt, and of links and runs. What an earlier run on this machine has passed is kept
 and takes no time: `--anew` as a word proves all. With --write the table takes the
 place of the one in docs/PROVING.md. The status is that of `rt ci`.
 """
@@ -30,7 +31,7 @@ class Seen:
     """What the processes below one have used, each at its last look."""
 
     def __init__(self, root):
-        self.root, self.used, self.what = root, {}, {}
+        self.root, self.used, self.what, self.now = root, {}, {}, set()
 
     def look(self):
         parents, used = {}, {}
@@ -44,8 +45,9 @@ class Seen:
                 parents[int(name)] = int(fields[1])
                 # with the time at which it began, since numbers are used again
                 used[int(name)] = (fields[19], int(fields[11]) + int(fields[12]))
+        self.now = {(pid, begun) for pid, (begun, _) in used.items() if self.is_below(pid, parents)}
         for pid, (begun, ticks) in used.items():
-            if self.is_below(pid, parents):
+            if (pid, begun) in self.now:
                 self.used[pid, begun] = ticks / TICKS
                 if (pid, begun) not in self.what:
                     self.what[pid, begun] = self.what_of(pid, parents)
@@ -71,13 +73,17 @@ class Seen:
         return None
 
     def table(self):
-        total, other = {}, 0.0
-        for key, seconds in self.used.items():
-            if self.what.get(key):
-                total[self.what[key]] = total.get(self.what[key], 0.0) + seconds
+        """What crates took by kind, what the gate's own process took, and what is left: links and runs."""
+        total, own, other = {}, 0.0, 0.0
+        for (pid, begun), seconds in self.used.items():
+            if self.what.get((pid, begun)):
+                what = self.what[pid, begun]
+                total[what] = total.get(what, 0.0) + seconds
+            elif pid == self.root:
+                own += seconds
             else:
                 other += seconds
-        return total, other
+        return total, own, other
 
 
 def edits_of(name):
@@ -85,7 +91,7 @@ def edits_of(name):
     return len([it for it in os.listdir(folder) if it.endswith('.edit')]) if os.path.isdir(folder) else 0
 
 
-def text_of(total, other, elapsed):
+def text_of(total, own, other, elapsed):
     with open(os.path.join(TOP, 'crates.txt'), encoding='utf-8') as f:
         names = re.findall(r'(?m)^(\w+).*:', f.read())
     lines = ['| crate | check | tests | edits | of them | sum |', '| --- | ---: | ---: | ---: | ---: | ---: |']
@@ -95,10 +101,11 @@ def text_of(total, other, elapsed):
         lines.append('| %s | %s | %s | %s | %s | %.0f |' % (name, *cells, edits_of(name) or '', sum(row)))
     sums = [sum(total.get((name, kind), 0.0) for name in names) for kind in KINDS]
     lines.append('| all | %.0f | %.0f | %.0f | %d | %.0f |' % (*sums, sum(map(edits_of, names)), sum(sums)))
+    lines.append('| rt itself | | | | | %.0f |' % own)
+    lines.append('| links and runs | | | | | %.0f |' % other)
     version = subprocess.run(['rt', 'version'], capture_output=True, text=True).stdout.strip()
-    lines.append('\n%.0f processor minutes in all, of which %.1f for links, runs and the gate itself; %.0f minutes '
-                 'on %d processors. Last measured with `%s`.'
-                 % ((sum(sums) + other) / 60, other / 60, elapsed / 60, os.cpu_count(), version))
+    lines.append('\n%.0f processor minutes in all, of which %.1f of rt itself; %.0f minutes on %d processors. Last measured '
+                 'with `%s`.' % ((sum(sums) + own + other) / 60, own / 60, elapsed / 60, os.cpu_count(), version))
     return '\n'.join(lines) + '\n'
 
 
