@@ -1,6 +1,6 @@
 -- A part of the mixing function G that the code names.
 use Rattle.std.specs.Prelude.{ℕ, ◌+◌, List, slice_index}
-use Rattle.hash_defs.specs.CkbHash.{add_at, xor_rotate_at}
+use Rattle.chain_defs.specs.CkbHash.{add_at, xor_rotate_at}
 
 -- half of the mixing function G: what one message word does to the words a, b, c and d of v
 unfoldable pub half_mix : List ℕ → ℕ → ℕ → ℕ → ℕ → ℕ → ℕ → ℕ → List ℕ

@@ -1,6 +1,6 @@
 -- What a contract sees of a `Hasher`, and the message that it has taken in.
 use Rattle.std.specs.Prelude.{◌≡◌, ℕ, zero, suc, ◌+◌, ◌-◌, ◌*◌, ◌/◌, ◌%◌, ◌^◌, false, List, length, take, drop}
-use Rattle.hash_defs.specs.CkbHash.{compress, initial_state}
+use Rattle.chain_defs.specs.CkbHash.{compress, initial_state}
 
 -- the state of a hash: that after some whole blocks, the count of their bytes, and the bytes
 -- after them that wait

@@ -1,7 +1,7 @@
 // The compression function F of BLAKE2b (RFC 7693, 3.1 and 3.2), with all rounds written out.
 
 ghost use Rattle.std.specs.Prelude.{◌≡◌, ◌+◌, ◌<◌, ◌≤◌, length};
-ghost use Rattle.hash_defs.specs.CkbHash.{compress, final_flag, mix, round, rounds, word_at, words, work_vector};
+ghost use Rattle.chain_defs.specs.CkbHash.{compress, final_flag, mix, round, rounds, word_at, words, work_vector};
 ghost use Rattle.blake2b_ckb.specs.Compression.{half_mix};
 
 pub(crate) const BLOCK_LEN: usize = 128;

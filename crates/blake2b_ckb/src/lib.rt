@@ -3,7 +3,7 @@
 //!
 //! The contract of use: where a [`Hasher`] holds a message (`Holds`), `update` makes it hold the
 //! message with the piece at its end, and `finalize` gives `ckbhash` of the message that it holds,
-//! which `hash_defs` defines after RFC 7693. `ckbhash` gives it for bytes that lie in one slice.
+//! which `chain_defs` defines after RFC 7693. `ckbhash` gives it for bytes that lie in one slice.
 #![tactic(auto)]
 
 mod compression;

@@ -4,11 +4,11 @@ use Rattle.std.specs.Prelude.{◌&&◌, ◌||◌, ◌==◌, not, is_some, slice_
 use Rattle.std.specs.List.{list_any}
 use Rattle.std.proofs.lemmas.Bool.{or_left}
 use Rattle.std.proofs.lemmas.Option.{same_Some}
-use Rattle.codec_defs.specs.Schema.{OutPoint, CellInput, CellOutput, Transaction, Block}
+use Rattle.chain_defs.specs.Schema.{OutPoint, CellOutput, Transaction, Block}
 use Rattle.chain_defs.specs.Hashes.{transaction_hash, are_distinct}
 use Rattle.cell_defs.specs.Cell.{Cell}
-use Rattle.fold_defs.proofs.WalkLemmas.{drop-there}
-use Rattle.family_defs.specs.Cellbase.{is_null, is_null_input, is_cellbase, begins_with_cellbase, has_cellbase, is_well_formed_cellbase, is_first_well_formed, forms_cellbase}
+use Rattle.chain_defs.proofs.WalkLemmas.{drop-there}
+use Rattle.rule_defs.specs.Cellbase.{is_cellbase, begins_with_cellbase, has_cellbase, is_well_formed_cellbase, is_first_well_formed, forms_cellbase}
 
 -- what is asked of each output and of each data
 abbrev pub is_untyped : CellOutput → Bool
@@ -18,17 +18,6 @@ abbrev pub is_empty : List ℕ → Bool
 is_empty content = length content == 0
 
 -- ---- The only input
-
-pub only-input : (inputs : List CellInput) (input : CellInput) → length inputs ≡ 1 → slice_get inputs 0 ≡ Some input
-    → is_null input.previous_output ≡ is_null_input inputs
-only-input [] input one there = absurd (cc)
-only-input (first ∷ []) input one there = ap (λ (i : CellInput). is_null i.previous_output) (sym (same_Some first input there))
-only-input (first ∷ other ∷ later) input one there = absurd (omega (arith, one))
-
-pub other-inputs : (inputs : List CellInput) → (length inputs ≡ 1 → ⊥) → false ≡ is_null_input inputs
-other-inputs [] not_one = refl
-other-inputs (first ∷ []) not_one = absurd (not_one refl)
-other-inputs (first ∷ other ∷ later) not_one = refl
 
 -- ---- The first transaction
 

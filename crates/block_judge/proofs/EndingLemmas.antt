@@ -4,11 +4,11 @@ use Rattle.std.specs.Prelude.{slice_get, nat_le, sum_by, IfOk}
 use Rattle.std.specs.Option.{option_and_then}
 use Rattle.std.proofs.lemmas.Bool.{le-ltb, lt-leb, le-leb}
 use Rattle.std.proofs.lemmas.Option.{same_Some, slice_get_within}
-use Rattle.fold_defs.specs.First.{first_failing}
-use Rattle.fold_defs.proofs.FirstLemmas.{first_failing-fails, first_failing-holds, first_failing-none}
-use Rattle.codec_defs.specs.Schema.{Script, CellOutput, Transaction, Block}
-use Rattle.time_defs.specs.Specification.{Specification}
-use Rattle.time_defs.specs.Dao.{DaoField, next_field, field_of_bytes, as_u64}
+use Rattle.chain_defs.specs.First.{first_failing}
+use Rattle.chain_defs.proofs.FirstLemmas.{first_failing-fails, first_failing-holds, first_failing-none}
+use Rattle.chain_defs.specs.Schema.{Script, CellOutput, Transaction, Block}
+use Rattle.chain_defs.specs.Specification.{Specification}
+use Rattle.chain_defs.specs.Dao.{DaoField, next_field, field_of_bytes, as_u64}
 use Rattle.chain_defs.specs.Kept.{block_at}
 use Rattle.chain_defs.specs.Branch.{branch_places, branch}
 use Rattle.chain_defs.proofs.BranchLaws.{branch-last}
@@ -16,11 +16,11 @@ use Rattle.chain_tree.specs.declared.entry.Entry.{Entry}
 use Rattle.chain_tree.specs.Entries.{entry_at}
 use Rattle.chain_tree.specs.Blocks.{IndexesBlocks}
 use Rattle.chain_tree.proofs.BlockLemmas.{DescribedAt, described, len-same}
-use Rattle.reward_defs.specs.Reward.{part, dao_of, field_at}
-use Rattle.reward_defs.specs.Payment.{NoOutput, Pays, Unpayable, occupied_with, owed_to, lock_of, owed_after, are_owed, cellbase_outputs}
-use Rattle.reward_defs.specs.Shares.{primary_at, secondary_at}
-use Rattle.reward_defs.specs.Field.{made_by, movement, next_dao}
-use Rattle.reward_defs.specs.Rules.{pays_reward, are_bytes_of, has_next_dao, end_rules}
+use Rattle.rule_defs.specs.Reward.{part, dao_of, field_at}
+use Rattle.rule_defs.specs.Payment.{NoOutput, Pays, Unpayable, occupied_with, owed_to, lock_of, owed_after, are_owed, cellbase_outputs}
+use Rattle.rule_defs.specs.Shares.{primary_at, secondary_at}
+use Rattle.rule_defs.specs.Field.{made_by, movement, next_dao}
+use Rattle.rule_defs.specs.RewardRules.{pays_reward, are_bytes_of, has_next_dao, end_rules}
 use Rattle.block_judge.specs.Progress.{AreMoved}
 use Rattle.tx_rules.proofs.BranchLemmas.{branch-block}
 use Rattle.tx_rules.proofs.MoneyLemmas.{some-u64, none-u64}

@@ -12,8 +12,8 @@ use Rattle.tx_rules.specs.Reading as resolving
 use Rattle.script_run.specs.declared.stop.ScriptStop.{ScriptStop}
 use Rattle.script_run.specs.declared.stop.ScriptStop.TheVariants as running_stop
 use Rattle.script_run.specs.Running as running
-use Rattle.rule_names.specs.Number.{rule_number}
-use Rattle.rule_names.specs.declared.rule.Rule.{Rule}
+use Rattle.rule_defs.specs.RuleNumber.{rule_number}
+use Rattle.rule_defs.specs.declared.rule.Rule.{Rule}
 use Rattle.block_judge.specs.declared.stop.JudgeStop.{JudgeStop}
 use Rattle.block_judge.specs.declared.stop.JudgeStop.TheVariants.{Broken, Read}
 use Rattle.block_judge.specs.Stops.{of_resolving, AnswersRunning, stop_in}

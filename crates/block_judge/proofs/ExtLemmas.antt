@@ -4,17 +4,17 @@ use Rattle.std.specs.List.{filter, filter_map, cons_option}
 use Rattle.std.proofs.lemmas.Bool.{lt-ltb, le-ltb}
 use Rattle.std.proofs.lemmas.List.{append_assoc, map-append, take_all, take_more}
 use Rattle.std.proofs.lemmas.List.Elements.{All-head, All-tail, filter-append}
-use Rattle.codec_defs.specs.Schema.{OutPoint, Transaction, Block}
+use Rattle.chain_defs.specs.Schema.{OutPoint, Transaction, Block}
 use Rattle.chain_defs.specs.Branch.{branch}
 use Rattle.chain_tree.specs.Told.{Stored, blocks_of}
 use Rattle.cell_defs.specs.Row.{Row, row_of, row_on}
 use Rattle.cell_model.specs.Copies.{ResolvedValue}
-use Rattle.tx_defs.specs.Site.{Site, Found, height_at}
-use Rattle.tx_defs.specs.Resolving.{inputs}
+use Rattle.rule_defs.specs.Site.{Site, Found, height_at}
+use Rattle.rule_defs.specs.Resolving.{inputs}
 use Rattle.tx_rules.specs.At.{AtValue, IsSiteOf, found_row, AreSeen}
 use Rattle.tx_rules.specs.Copying.{row_in}
 use Rattle.tx_rules.proofs.SiteLemmas.{IsKeptRow, IsOwnRow, row-made, inputs-seen}
-use Rattle.block_defs.specs.Ext.{row_before, rows_spent}
+use Rattle.verdict_defs.specs.Ext.{row_before, rows_spent}
 use Rattle.block_judge.proofs.SiteLemmas.{place-below}
 
 -- a row is that of a block below a place

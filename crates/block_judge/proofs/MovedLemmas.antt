@@ -8,15 +8,15 @@ use Rattle.std.proofs.Math.IntN.{+ℤ_idl}
 use Rattle.std.proofs.lemmas.Int.{ints}
 use Rattle.std.proofs.lemmas.List.{drop_all}
 use Rattle.std.proofs.lemmas.List.Sums.{sum_by-cons}
-use Rattle.codec_defs.specs.Schema.{OutPoint, Transaction, Block}
-use Rattle.time_defs.specs.Specification.{Specification}
+use Rattle.chain_defs.specs.Schema.{OutPoint, Transaction, Block}
+use Rattle.chain_defs.specs.Specification.{Specification}
 use Rattle.cell_defs.specs.Row.{Row}
 use Rattle.cell_model.specs.Copies.{ResolvedValue, ResolvedTxValue}
-use Rattle.tx_defs.specs.Site.{Site, Found, site_at}
-use Rattle.tx_defs.specs.Resolving.{inputs}
-use Rattle.tx_defs.specs.Capacity.{interest}
+use Rattle.rule_defs.specs.Site.{Site, Found, site_at}
+use Rattle.rule_defs.specs.Resolving.{inputs}
+use Rattle.rule_defs.specs.Capacity.{interest}
 use Rattle.tx_rules.specs.Outcome.{Copies, IsResolved}
-use Rattle.reward_defs.specs.Field.{occupied_found, freed_by, freed_from, interest_from}
+use Rattle.rule_defs.specs.Field.{occupied_found, freed_by, freed_from, interest_from}
 use Rattle.block_judge.specs.Progress.{CanMove, AreMoved}
 use Rattle.block_judge.proofs.RestLemmas.{rest-next}
 

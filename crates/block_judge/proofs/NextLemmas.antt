@@ -3,28 +3,28 @@ use Rattle.std.proofs.Common.{◌≡◌, ℕ, ◌+◌, ◌≤◌, ◌<◌, Bool,
 use Rattle.std.specs.Prelude.{slice_get, is_some, nat_lt, nat_le, ◌^◌, map, IsTrue}
 use Rattle.std.specs.List.{list_any, filter}
 use Rattle.std.specs.Str.{bytes_eq}
-use Rattle.codec_defs.specs.Schema.{OutPoint, Transaction, Block}
-use Rattle.fold_defs.specs.First.{first_failing}
+use Rattle.chain_defs.specs.Schema.{OutPoint, Transaction, Block}
+use Rattle.chain_defs.specs.First.{first_failing}
 use Rattle.std.proofs.lemmas.Bool.Decides.{nat_tests}
-use Rattle.time_defs.specs.Specification.{Specification, keeps_s5}
+use Rattle.chain_defs.specs.Specification.{Specification, keeps_s5}
 use Rattle.chain_defs.specs.Branch.{branch}
 use Rattle.chain_defs.specs.Hashes.{transaction_hash}
 use Rattle.chain_tree.specs.Told.{Stored, blocks_of}
 use Rattle.tx_rules.specs.At.{AtValue, IsSiteOf, found_row}
 use Rattle.tx_rules.specs.Copying.{row_in}
-use Rattle.tx_defs.specs.Resolving.{inputs}
+use Rattle.rule_defs.specs.Resolving.{inputs}
 use Rattle.cell_model.specs.Copies.{ResolvedValue}
 use Rattle.cell_defs.specs.Row.{Row}
 use Rattle.cell_defs.specs.Ext.{Ext}
-use Rattle.tx_defs.specs.Site.{Site, site_at, site_after}
-use Rattle.window_defs.specs.Window.{earliest}
-use Rattle.tx_defs.specs.Capacity.{fee, fees_from}
-use Rattle.tx_defs.specs.Rules.{has_form, form_rules, cell_rules}
-use Rattle.script_defs.specs.Scene.{scene_of}
-use Rattle.script_defs.specs.Rules.{script_rules}
-use Rattle.block_defs.specs.Transactions.{is_proposed, transaction_rules, left_after, rules_from, rules_of_transactions}
-use Rattle.block_defs.specs.Ext.{rows_spent, spent_from, ext_of}
-use Rattle.block_defs.specs.Rules.{broken_in_dry_run}
+use Rattle.rule_defs.specs.Site.{Site, site_at, site_after}
+use Rattle.rule_defs.specs.Window.{earliest}
+use Rattle.rule_defs.specs.Capacity.{fee, fees_from}
+use Rattle.rule_defs.specs.TransactionRules.{has_form, form_rules, cell_rules}
+use Rattle.verdict_defs.specs.Scene.{scene_of}
+use Rattle.verdict_defs.specs.ScriptRules.{script_rules}
+use Rattle.verdict_defs.specs.Transactions.{is_proposed, transaction_rules, left_after, rules_from, rules_of_transactions}
+use Rattle.verdict_defs.specs.Ext.{rows_spent, spent_from, ext_of}
+use Rattle.verdict_defs.specs.Rules.{broken_in_dry_run}
 use Rattle.block_judge.specs.Appending.{appended_rules}
 use Rattle.block_judge.specs.Progress.{AreProposed}
 use Rattle.block_judge.proofs.ExtLemmas.{rows-spent}

@@ -4,16 +4,16 @@ use Rattle.std.specs.Prelude.{slice_get}
 use Rattle.std.proofs.lemmas.List.{append-nil, append_assoc, drop_all}
 use Rattle.std.proofs.lemmas.Option.{slice_get_within, get_or_from_slice_get}
 use Rattle.std.proofs.Math.Seq.{drop-cons}
-use Rattle.codec_defs.specs.Schema.{OutPoint, Transaction, Block}
-use Rattle.time_defs.specs.Specification.{Specification}
+use Rattle.chain_defs.specs.Schema.{OutPoint, Transaction, Block}
+use Rattle.chain_defs.specs.Specification.{Specification}
 use Rattle.chain_defs.specs.Branch.{branch}
-use Rattle.fold_defs.specs.First.{first_failing}
-use Rattle.fold_defs.proofs.FirstLemmas.{first_failing-none, first_failing-append-holds, first_failing-append-fails, finds_none}
+use Rattle.chain_defs.specs.First.{first_failing}
+use Rattle.chain_defs.proofs.FirstLemmas.{first_failing-none, first_failing-append-holds, first_failing-append-fails, finds_none}
 use Rattle.cell_defs.specs.Row.{Row}
-use Rattle.tx_defs.specs.Capacity.{fee, fees_from}
-use Rattle.block_defs.specs.Transactions.{transaction_rules, left_after, rules_from}
-use Rattle.tx_defs.specs.Site.{site_at}
-use Rattle.block_defs.specs.Ext.{rows_spent, spent_from}
+use Rattle.rule_defs.specs.Capacity.{fee, fees_from}
+use Rattle.verdict_defs.specs.Transactions.{transaction_rules, left_after, rules_from}
+use Rattle.rule_defs.specs.Site.{site_at}
+use Rattle.verdict_defs.specs.Ext.{rows_spent, spent_from}
 
 -- the transaction at a place, and those after it
 pub rest-next : (transactions : List Transaction) (place : ℕ) (t : Transaction) → slice_get transactions place ≡ Some t

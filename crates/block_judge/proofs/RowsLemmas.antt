@@ -1,22 +1,22 @@
 -- J18 and J20 over any source of blocks.
-use Rattle.std.proofs.Common.{◌≡◌, ℕ, zero, suc, ◌+◌, ◌-◌, ◌<◌, inl, inr, Bool, true, false, Result, Ok, Err, refl, sym, ap, ◌∙◌, subst, arith}
+use Rattle.std.proofs.Common.{◌≡◌, ℕ, zero, suc, ◌+◌, ◌-◌, ◌<◌, inl, inr, Bool, true, false, Result, Ok, Err, refl, ap, ◌∙◌, subst, arith}
 use Rattle.std.specs.Prelude.{Option, IsErrAnd}
 use Rattle.outside.specs.declared.disk.ReadStop.TheVariants.{DiskFault, NoMemory, Damaged}
-use Rattle.codec_defs.specs.Schema.{OutPoint, Transaction}
+use Rattle.chain_defs.specs.Schema.{OutPoint, Transaction}
 use Rattle.cell_defs.specs.Row.{Row}
-use Rattle.tx_defs.specs.Rules.{has_form}
+use Rattle.rule_defs.specs.TransactionRules.{has_form}
 use Rattle.tx_rules.specs.At.{spends_rows}
 use Rattle.tx_rules.specs.Outcome.{FollowsRows, IsStopAt, IsTried}
 use Rattle.tx_rules.specs.declared.resolving.TxStop.{TxStop}
 use Rattle.tx_rules.specs.declared.resolving.TxStop.TheVariants as resolving
-use Rattle.rule_names.specs.Number.{rule_number}
-use Rattle.rule_names.specs.declared.rule.Rule.{Rule}
-use Rattle.rule_names.specs.declared.rule.Rule.TheVariants.{TransactionForm, Inputs}
-use Rattle.rule_names.proofs.NumberLemmas.{same-number}
+use Rattle.rule_defs.specs.RuleNumber.{rule_number}
+use Rattle.rule_defs.specs.declared.rule.Rule.{Rule}
+use Rattle.rule_defs.specs.declared.rule.Rule.TheVariants.{TransactionForm, Inputs}
+use Rattle.rule_defs.proofs.NumberLemmas.{same-number}
 use Rattle.block_judge.specs.declared.stop.JudgeStop.{JudgeStop}
 use Rattle.block_judge.specs.declared.stop.JudgeStop.TheVariants.{Broken, Read}
 use Rattle.block_judge.specs.Stops.{of_resolving}
-use Rattle.block_judge.specs.ByRows.{StopsByRows, SaysByRows}
+use Rattle.block_judge.specs.ByRows.{StopsByRows}
 use Rattle.block_judge.proofs.Exits.{not_both}
 
 -- an answer other than these stops follows where both are kept, of one that is proposed
@@ -94,16 +94,3 @@ later-by-rows form spends (Broken rule) kept later = inr (kept.0, inr (later rul
 later-by-rows form spends (Read NoMemory) kept later = tt
 later-by-rows form spends (Read DiskFault) kept later = kept
 later-by-rows form spends (Read (Damaged damage)) kept later = kept
-
--- an answer that is handed on says the same
-pub handed-by-rows : {T U : Type 0} (form spends : Bool) (stop : JudgeStop) (step : Result T JudgeStop) (result : Result U JudgeStop) → step ≡ Err stop
-    → IsErrAnd result (λ it. it ≡ stop) → SaysByRows form spends step → SaysByRows form spends result
-handed-by-rows form spends stop step (Ok it) was is says = absurd is
-handed-by-rows {T = T} form spends stop step (Err given) was is says =
-    subst (λ (r : Result T JudgeStop). SaysByRows form spends r) (was ∙ ap as_error (sym is)) says
-  where
-    as_error : JudgeStop → Result T JudgeStop
-    as_error it = Err it
-
-pub taken-by-rows : {T : Type 0} (form spends : Bool) (ok : T) (step : Result T JudgeStop) → step ≡ Ok ok → SaysByRows form spends step → (form ≡ true) × (spends ≡ true)
-taken-by-rows {T = T} form spends ok step was says = subst (λ (r : Result T JudgeStop). SaysByRows form spends r) was says

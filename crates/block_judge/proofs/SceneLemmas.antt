@@ -9,8 +9,8 @@ use Rattle.std.proofs.lemmas.List.{length-map}
 use Rattle.std.proofs.lemmas.List.Elements.{All-head, All-tail}
 use Rattle.std.proofs.lemmas.Option.{slice_get_within, slice_get-map, same_Some}
 use Rattle.std.proofs.lemmas.Slice.Eq.{bytes_eq-Decides}
-use Rattle.codec_defs.specs.Schema.{OutPoint, Header, CellOutput, Block, CellInput, Transaction}
-use Rattle.time_defs.specs.Specification.{Specification}
+use Rattle.chain_defs.specs.Schema.{OutPoint, Header, CellOutput, Block, CellInput, Transaction}
+use Rattle.chain_defs.specs.Specification.{Specification}
 use Rattle.chain_defs.specs.Hashes.{transaction_hash}
 use Rattle.chain_defs.specs.Kept.{block_at, place_of}
 use Rattle.chain_defs.specs.Branch.{branch, branch_places}
@@ -24,13 +24,13 @@ use Rattle.chain_tree.proofs.BlockLemmas.{len-same}
 use Rattle.cell_defs.specs.Cell.{Cell, script_hash, data_hash}
 use Rattle.cell_defs.specs.Row.{Row, row_of}
 use Rattle.cell_model.specs.Copies.{ResolvedValue, ResolvedTxValue}
-use Rattle.tx_defs.specs.Site.{Site, Found, all_there}
-use Rattle.tx_defs.specs.Resolving.{inputs, deps, heights}
+use Rattle.rule_defs.specs.Site.{Site, Found, all_there}
+use Rattle.rule_defs.specs.Resolving.{inputs, deps, heights}
 use Rattle.tx_rules.specs.At.{AtValue, IsSiteOf, place_of_height}
 use Rattle.tx_rules.specs.Outcome.{Copies, IsFormed, IsResolved}
 use Rattle.tx_rules.proofs.BranchLemmas.{PlaceOfHeight, place-of-height}
 use Rattle.tx_rules.proofs.DepositLemmas.{heights-below, listed-below, EntryOfHeight, entry-of-height}
-use Rattle.script_defs.specs.Scene.{ShownCell, header_on, made_in, shown, scene_of}
+use Rattle.verdict_defs.specs.Scene.{ShownCell, header_on, made_in, shown, scene_of}
 use Rattle.script_run.specs.Showing.{header_of, same_hash, has_hashes, cell_shown, cells_shown, headers_shown, is_whole, scene_with, scene_shown}
 
 bytes-same : (xs ys : List ℕ) → xs ≡ ys → bytes_eq xs ys ≡ true

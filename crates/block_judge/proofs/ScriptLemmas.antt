@@ -1,17 +1,17 @@
 -- What comes of the scripts of a transaction, by the rules on them.
 use Rattle.std.proofs.Common.{◌≡◌, ◌≤◌, ℕ, Bool, List, [], ◌∷◌, Some, None, Result, Ok, Err, refl, sym, ap, ◌∙◌, arith}
-use Rattle.fold_defs.specs.First.{first_failing}
+use Rattle.chain_defs.specs.First.{first_failing}
 use Rattle.outside.specs.declared.disk.ReadStop.{ReadStop}
-use Rattle.script_defs.specs.declared.failure.Failure.{Failure}
-use Rattle.script_defs.specs.declared.failure.Failure.TheVariants.{NoCode, ManyCodes, BadElf, MachineFault, ExitNot0, Spent}
-use Rattle.script_defs.specs.Scene.{Scene}
-use Rattle.script_defs.specs.Outcome.{outcome_of}
-use Rattle.script_defs.specs.Rules.{rule_of, keeps, script_rules, cycles_in, cycles_of}
+use Rattle.verdict_defs.specs.declared.failure.Failure.{Failure}
+use Rattle.verdict_defs.specs.declared.failure.Failure.TheVariants.{NoCode, ManyCodes, BadElf, MachineFault, ExitNot0, Spent}
+use Rattle.verdict_defs.specs.Scene.{Scene}
+use Rattle.verdict_defs.specs.Outcome.{outcome_of}
+use Rattle.verdict_defs.specs.ScriptRules.{rule_of, keeps, script_rules, cycles_in, cycles_of}
 use Rattle.script_run.specs.declared.stop.ScriptStop.{ScriptStop}
 use Rattle.script_run.specs.declared.stop.ScriptStop.TheVariants as running
 use Rattle.script_run.specs.Running.{IsOutcome}
-use Rattle.rule_names.specs.Number.{rule_number}
-use Rattle.rule_names.specs.declared.rule.Rule.{Rule}
+use Rattle.rule_defs.specs.RuleNumber.{rule_number}
+use Rattle.rule_defs.specs.declared.rule.Rule.{Rule}
 use Rattle.block_judge.specs.declared.stop.JudgeStop.TheVariants.{Broken, Read}
 use Rattle.block_judge.specs.Standing.{IsScriptRule}
 use Rattle.block_judge.specs.Stops.{AnswersRunning}

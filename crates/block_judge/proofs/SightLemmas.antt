@@ -4,10 +4,10 @@ use Rattle.std.specs.Prelude.{◌==◌, not, option_map, is_some, nat_le, drop}
 use Rattle.std.specs.List.{All, list_all, list_any}
 use Rattle.std.proofs.lemmas.List.Elements.{All-nil, All-cons, All-head, All-tail}
 use Rattle.std.proofs.lemmas.Option.{same_Some, none-some}
-use Rattle.fold_defs.specs.First.{first_failing}
-use Rattle.fold_defs.proofs.FirstLemmas.{first_failing-append-fails, first_failing-append-holds, first_failing-fails, first_failing-holds, first_failing-none, finds_none}
-use Rattle.codec_defs.specs.Schema.{OutPoint, Transaction, Block}
-use Rattle.time_defs.specs.Specification.{Specification}
+use Rattle.chain_defs.specs.First.{first_failing}
+use Rattle.chain_defs.proofs.FirstLemmas.{first_failing-append-fails, first_failing-append-holds, first_failing-fails, first_failing-holds, first_failing-none, finds_none}
+use Rattle.chain_defs.specs.Schema.{OutPoint, Transaction, Block}
+use Rattle.chain_defs.specs.Specification.{Specification}
 use Rattle.chain_defs.specs.Branch.{branch}
 use Rattle.chain_defs.specs.Hashes.{transaction_hash, are_distinct}
 use Rattle.cell_defs.specs.Cell.{Cell}
@@ -15,14 +15,14 @@ use Rattle.cell_defs.specs.Events.{live_cell, made_out_points}
 use Rattle.cell_defs.specs.Row.{Row, row_on, live_row}
 use Rattle.rule_defs.specs.Header.{header_rules}
 use Rattle.rule_defs.specs.Body.{fits_length, has_proposals, commits_to_proposals, commits_to_transactions, has_few_uncles, commits_to_uncles, body_rules}
-use Rattle.family_defs.specs.Uncles.{has_uncles}
-use Rattle.family_defs.specs.Cellbase.{has_cellbase, begins_with_cellbase, has_since, has_plain_output, names_lock, is_first_well_formed, forms_cellbase}
-use Rattle.block_defs.specs.Transactions.{rules_of_transactions}
-use Rattle.reward_defs.specs.Rules.{end_rules}
-use Rattle.family_defs.specs.Rules.{uncle_and_cellbase_rules, uncle_and_cellbase_rules_over, no_cell}
-use Rattle.block_defs.specs.Rules.{all_rules, first_broken, broken_at_sight}
-use Rattle.rule_names.specs.Number.{rule_number}
-use Rattle.rule_names.specs.declared.rule.Rule.{Rule}
+use Rattle.rule_defs.specs.Uncles.{has_uncles}
+use Rattle.rule_defs.specs.Cellbase.{has_cellbase, begins_with_cellbase, has_since, has_plain_output, names_lock, is_first_well_formed, forms_cellbase}
+use Rattle.verdict_defs.specs.Transactions.{rules_of_transactions}
+use Rattle.rule_defs.specs.RewardRules.{end_rules}
+use Rattle.rule_defs.specs.FamilyRules.{uncle_and_cellbase_rules, uncle_and_cellbase_rules_over, no_cell}
+use Rattle.verdict_defs.specs.Rules.{all_rules, first_broken, broken_at_sight}
+use Rattle.rule_defs.specs.RuleNumber.{rule_number}
+use Rattle.rule_defs.specs.declared.rule.Rule.{Rule}
 use Rattle.block_judge.specs.declared.stop.JudgeStop.{JudgeStop}
 use Rattle.block_judge.specs.declared.stop.JudgeStop.TheVariants.{Broken, Read}
 use Rattle.block_judge.specs.ByRows.{StopsByForm}

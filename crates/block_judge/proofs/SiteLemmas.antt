@@ -5,7 +5,7 @@ use Rattle.std.specs.Option.{option_map, option_or}
 use Rattle.std.proofs.lemmas.Bool.{lt-ltb, le-ltb}
 use Rattle.std.proofs.lemmas.List.{append-nil, append_assoc, length-take, take_all}
 use Rattle.std.proofs.lemmas.Option.{slice_get_within, same_Some}
-use Rattle.codec_defs.specs.Schema.{OutPoint, Transaction, Block}
+use Rattle.chain_defs.specs.Schema.{OutPoint, Transaction, Block}
 use Rattle.chain_defs.specs.Kept.{block_at}
 use Rattle.chain_defs.specs.Branch.{branch, branch_places}
 use Rattle.chain_defs.proofs.KeptLaws.{slice_get-below}
@@ -15,12 +15,12 @@ use Rattle.chain_tree.proofs.BlockLemmas.{len-same}
 use Rattle.cell_defs.specs.Cell.{Cell, holds_its_own}
 use Rattle.cell_defs.specs.Events.{Event, Makes, Spends, last_naming, cell_left, cell_after, events, events_of, events_from, events_of_block, cell_seen}
 use Rattle.cell_defs.specs.Row.{Row, row_of, row_or, row_on, row_after, live_row, IsOutputOf}
-use Rattle.cell_laws.proofs.EventLemmas.{last_naming-append, made-last}
-use Rattle.cell_laws.proofs.OutputLaws.{IsMadeIn, made-in-block, cells-are-outputs, seen-cells-are-outputs}
+use Rattle.cell_defs.proofs.EventLemmas.{last_naming-append, made-last}
+use Rattle.cell_defs.proofs.OutputLaws.{IsMadeIn, made-in-block, cells-are-outputs, seen-cells-are-outputs}
 use Rattle.tx_rules.specs.At.{AtValue, IsSiteOf, IsMade, place_of_height}
 use Rattle.tx_rules.specs.Own.{of_transactions}
 use Rattle.tx_rules.proofs.AllThere.{take-push}
-use Rattle.tx_defs.specs.Site.{site_at, site_after}
+use Rattle.rule_defs.specs.Site.{site_at, site_after}
 use Rattle.block_judge.specs.Appending.{next_site}
 use Rattle.block_judge.specs.Standing.{Stands}
 use Rattle.block_judge.proofs.ChangeLemmas.{row_after-nil, row_after-append, row_after-same}

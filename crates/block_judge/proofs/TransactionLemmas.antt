@@ -1,26 +1,24 @@
 -- The rules on a transaction, tried one group after another.
-use Rattle.std.proofs.Common.{◌≡◌, ℕ, inl, inr, Bool, true, List, [], ◌∷◌, ◌++◌, map, Option, Some, None, Result, Err, refl, sym, ap, ◌∙◌, subst, arith}
-use Rattle.std.specs.Prelude.{IsErrAnd}
+use Rattle.std.proofs.Common.{◌≡◌, ℕ, inl, inr, Bool, true, List, [], ◌∷◌, ◌++◌, map, Option, Some, None, refl, sym, ap, ◌∙◌, subst, arith}
 use Rattle.std.specs.List.{All, AllZip}
 use Rattle.std.proofs.lemmas.List.Elements.{All-nil, All-cons, All-head, All-tail}
-use Rattle.codec_defs.specs.Schema.{OutPoint, Block, Transaction}
-use Rattle.fold_defs.specs.First.{first_failing}
-use Rattle.fold_defs.proofs.FirstLemmas.{first_failing-append-fails, first_failing-append-holds, finds_none}
+use Rattle.chain_defs.specs.Schema.{OutPoint, Block, Transaction}
+use Rattle.chain_defs.specs.First.{first_failing}
+use Rattle.chain_defs.proofs.FirstLemmas.{first_failing-append-fails, first_failing-append-holds, finds_none}
 use Rattle.outside.specs.declared.disk.ReadStop.{ReadStop}
 use Rattle.chain_tree.specs.Told.{Stored}
 use Rattle.cell_defs.specs.Row.{Row}
 use Rattle.cell_model.specs.Copies.{ResolvedValue, ResolvedTxValue}
-use Rattle.tx_defs.specs.Site.{Site, Found}
-use Rattle.tx_defs.specs.Resolving.{inputs}
-use Rattle.tx_defs.specs.Rules.{form_rules, cell_rules}
+use Rattle.rule_defs.specs.Site.{Site, Found}
+use Rattle.rule_defs.specs.Resolving.{inputs}
+use Rattle.rule_defs.specs.TransactionRules.{form_rules, cell_rules}
 use Rattle.tx_rules.specs.At.{AtValue, found_row}
 use Rattle.tx_rules.specs.Copying.{CopiesItsRow, HoldsOutput, row_in}
 use Rattle.tx_rules.specs.Outcome.{Copies, IsFormed, IsResolved, IsTried, rules_to_27}
 use Rattle.tx_rules.specs.declared.resolving.TxStop.{TxStop}
 use Rattle.tx_rules.specs.declared.resolving.TxStop.TheVariants as resolving
-use Rattle.rule_names.specs.Number.{rule_number}
-use Rattle.rule_names.specs.declared.rule.Rule.{Rule}
-use Rattle.block_judge.specs.declared.stop.JudgeStop.{JudgeStop}
+use Rattle.rule_defs.specs.RuleNumber.{rule_number}
+use Rattle.rule_defs.specs.declared.rule.Rule.{Rule}
 use Rattle.block_judge.specs.declared.stop.JudgeStop.TheVariants.{Broken, Read}
 use Rattle.block_judge.specs.Inputs.{AreInputsOf}
 use Rattle.block_judge.specs.Standing.{IsTriedAlone, IsTriedOnTransaction}
@@ -78,14 +76,6 @@ leaves-scripts site t scripts proposed is =
     first_failing-append-holds (rules_to_27 proposed site t) scripts ((finds_none (rules_to_27 proposed site t)).0 is)
 
 -- ---- Steps
-
--- an error that is handed on is that of the step
-pub handed-on : {T U : Type 0} (stop given : JudgeStop) (step : Result T JudgeStop) (result : Result U JudgeStop) → step ≡ Err stop
-    → IsErrAnd result (λ it. it ≡ stop) → result ≡ Err given → step ≡ Err given
-handed-on {T = T} {U = U} stop given step result was is same = was ∙ ap as_error (sym (subst (λ (r : Result U JudgeStop). IsErrAnd r (λ it. it ≡ stop)) same is))
-  where
-    as_error : JudgeStop → Result T JudgeStop
-    as_error it = Err it
 
 -- What a transaction resolves to is that of the one that it holds.
 pub its-transaction : {its resolved : ResolvedTxValue} (t : Transaction) → its ≡ resolved → resolved.tx ≡ t → its.tx ≡ t

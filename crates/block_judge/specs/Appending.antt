@@ -1,15 +1,15 @@
 -- A transaction put at the end of those that stand in a block so far, and what it is judged over.
 use Rattle.std.specs.Prelude.{◌≡◌, ℕ, Bool, ◌++◌, List, length, Option, Some}
-use Rattle.codec_defs.specs.Schema.{OutPoint, Transaction, Block}
-use Rattle.time_defs.specs.Specification.{Specification}
+use Rattle.chain_defs.specs.Schema.{OutPoint, Transaction, Block}
+use Rattle.chain_defs.specs.Specification.{Specification}
 use Rattle.chain_defs.specs.Branch.{branch}
 use Rattle.chain_tree.specs.Told.{Stored, blocks_of}
 use Rattle.cell_defs.specs.Events.{events_from}
 use Rattle.cell_defs.specs.Row.{Row, row_after}
-use Rattle.tx_defs.specs.Site.{Site, site_at}
-use Rattle.tx_defs.specs.Rules.{form_rules, cell_rules}
-use Rattle.script_defs.specs.Scene.{scene_of}
-use Rattle.script_defs.specs.Rules.{script_rules}
+use Rattle.rule_defs.specs.Site.{Site, site_at}
+use Rattle.rule_defs.specs.TransactionRules.{form_rules, cell_rules}
+use Rattle.verdict_defs.specs.Scene.{scene_of}
+use Rattle.verdict_defs.specs.ScriptRules.{script_rules}
 use Rattle.tx_rules.specs.At.{AtValue}
 use Rattle.tx_rules.specs.Own.{of_transactions}
 use Rattle.block_judge.specs.Standing.{ContextValue, StandsFor}

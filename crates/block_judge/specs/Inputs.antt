@@ -1,7 +1,7 @@
 -- The cells of a transaction's inputs, as it is answered with them.
 use Rattle.std.specs.Prelude.{◌≡◌, List, map, Option}
 use Rattle.std.specs.List.{All}
-use Rattle.codec_defs.specs.Schema.{Transaction}
+use Rattle.chain_defs.specs.Schema.{Transaction}
 use Rattle.chain_tree.specs.Told.{Stored}
 use Rattle.cell_model.specs.Copies.{ResolvedValue}
 use Rattle.tx_rules.specs.At.{AtValue}

@@ -2,10 +2,10 @@
 use Rattle.std.specs.Prelude.{◌≡◌, ℕ, ◌*◌, ◌^◌, ◌≤◌, ℤ, nat_abs, List, length, drop, is_some}
 use Rattle.std.specs.List.{list_any}
 use Rattle.std.specs.Str.{bytes_eq}
-use Rattle.codec_defs.specs.Schema.{Block}
-use Rattle.time_defs.specs.Specification.{Specification}
-use Rattle.window_defs.specs.Window.{earliest}
-use Rattle.reward_defs.specs.Field.{freed_from, interest_from}
+use Rattle.chain_defs.specs.Schema.{Block}
+use Rattle.chain_defs.specs.Specification.{Specification}
+use Rattle.rule_defs.specs.Window.{earliest}
+use Rattle.rule_defs.specs.Field.{freed_from, interest_from}
 
 -- The ids are those that are proposed for the block after the last of a branch.
 abbrev pub AreProposed : Specification → List Block → List (List ℕ) → Type 0

@@ -1,12 +1,12 @@
 -- What a block is judged over, and what that stands for.
 use Rattle.std.specs.Prelude.{◌≡◌, ◌⊎◌, ℕ, ◌≤◌, Bool, ◌∷◌, ◌++◌, List, Option, Some, None, IsTrue, IsSome}
-use Rattle.codec_defs.specs.Schema.{OutPoint, Block}
-use Rattle.time_defs.specs.Specification.{Specification}
+use Rattle.chain_defs.specs.Schema.{OutPoint, Block}
+use Rattle.chain_defs.specs.Specification.{Specification}
 use Rattle.chain_defs.specs.Branch.{branch}
-use Rattle.family_defs.specs.Cellbase.{forms_cellbase}
-use Rattle.block_defs.specs.Transactions.{rules_of_transactions}
-use Rattle.block_defs.specs.Rules.{broken_at_sight}
-use Rattle.reward_defs.specs.Rules.{end_rules}
+use Rattle.rule_defs.specs.Cellbase.{forms_cellbase}
+use Rattle.verdict_defs.specs.Transactions.{rules_of_transactions}
+use Rattle.verdict_defs.specs.Rules.{broken_at_sight}
+use Rattle.rule_defs.specs.RewardRules.{end_rules}
 use Rattle.chain_tree.specs.declared.entry.Entry.{Entry}
 use Rattle.chain_tree.specs.Blocks.{IndexesBlocks}
 use Rattle.chain_tree.specs.Told.{Stored, blocks_of}

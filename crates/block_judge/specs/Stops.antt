@@ -1,10 +1,10 @@
 -- What the stops of the steps on a transaction are answered as, and why kept blocks were not read to a good end.
 use Rattle.std.specs.Prelude.{◌≡◌, Option, Some, None, Result, Ok, Err}
 use Rattle.outside.specs.declared.disk.ReadStop.{ReadStop}
-use Rattle.rule_names.specs.Number.{rule_number}
+use Rattle.rule_defs.specs.RuleNumber.{rule_number}
 use Rattle.tx_rules.specs.declared.resolving.TxStop.{TxStop}
 use Rattle.tx_rules.specs.declared.resolving.TxStop.TheVariants as resolving
-use Rattle.script_defs.specs.Rules.{rule_of}
+use Rattle.verdict_defs.specs.ScriptRules.{rule_of}
 use Rattle.script_run.specs.declared.stop.ScriptStop.{ScriptStop}
 use Rattle.script_run.specs.declared.stop.ScriptStop.TheVariants as running
 use Rattle.block_judge.specs.declared.stop.JudgeStop.{JudgeStop}

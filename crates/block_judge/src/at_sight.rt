@@ -1,18 +1,18 @@
 // What is judged of a block at sight, J4 to J17: all that asks for no live cell.
 ghost use Rattle.std.specs.Prelude.{◌≡◌, ◌<◌, ◌≤◌, nat_le, true, List, None, Some, Err, IfOk, length, map};
-ghost use Rattle.fold_defs.specs.First.{first_failing};
+ghost use Rattle.chain_defs.specs.First.{first_failing};
 ghost use Rattle.outside.specs.declared.disk.ReadStop.{ReadStop as a_stop};
 ghost use Rattle.outside.specs.declared.disk.ReadStop.TheVariants.{NoMemory as no_memory};
-ghost use Rattle.codec_defs.specs.Schema.{Block};
+ghost use Rattle.chain_defs.specs.Schema.{Block};
 ghost use Rattle.chain_defs.specs.Branch.{branch};
 ghost use Rattle.chain_defs.specs.Hashes.{transaction_hash};
 ghost use Rattle.chain_tree.specs.Blocks.{IndexesBlocks};
 ghost use Rattle.rule_defs.specs.Header.{header_rules as rules_on_header};
 ghost use Rattle.rule_defs.specs.Body.{fits_length};
 ghost use Rattle.uncle_rules.specs.Embedded.{IndexesUncles};
-ghost use Rattle.family_defs.specs.Rules.{uncle_and_cellbase_rules_over, no_cell};
-ghost use Rattle.block_defs.specs.Rules.{broken_at_sight};
-ghost use Rattle.rule_names.specs.Number.{rule_number};
+ghost use Rattle.rule_defs.specs.FamilyRules.{uncle_and_cellbase_rules_over, no_cell};
+ghost use Rattle.verdict_defs.specs.Rules.{broken_at_sight};
+ghost use Rattle.rule_defs.specs.RuleNumber.{rule_number};
 ghost use Rattle.block_judge.specs.declared.stop.JudgeStop.TheVariants.{Broken, Read};
 
 use crate::cellbase::{forms_cellbase, has_cellbase};
@@ -21,7 +21,7 @@ use crate::stop::JudgeStop;
 use block_rules::Checked;
 use mol_schema::BlockView;
 use outside::ReadStop;
-use rule_names::Rule;
+use rule_defs::Rule;
 use std::alloc::Global;
 use uncle_rules::uncles_ok;
 

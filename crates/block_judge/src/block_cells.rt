@@ -1,6 +1,6 @@
 // The cells that a transaction of a block sees.
 ghost use Rattle.std.specs.Prelude.{◌≡◌, ◌<◌, ℕ, OnOk};
-ghost use Rattle.codec_defs.specs.Schema as schema;
+ghost use Rattle.chain_defs.specs.Schema as schema;
 ghost use Rattle.cell_defs.specs.Events.{events_of};
 ghost use Rattle.cell_defs.specs.Row.{row_after};
 ghost use Rattle.chain_defs.specs.Hashes.{transaction_hash};

@@ -1,10 +1,10 @@
 // J16 and J17: the cellbase of a block.
 ghost use Rattle.std.specs.Prelude.{◌≡◌, ◌<◌, ◌^◌, ◌==◌, IfOk, Option, not, drop, is_some, length, map};
 ghost use Rattle.std.specs.List.{list_all, list_any, range_with_len};
-ghost use Rattle.codec_defs.specs.Schema.{OutPoint as an_out_point};
+ghost use Rattle.chain_defs.specs.Schema.{OutPoint as an_out_point};
 ghost use Rattle.cell_defs.specs.Cell.{Cell};
 ghost use Rattle.chain_defs.specs.Hashes.{transaction_hash, are_distinct};
-ghost use Rattle.family_defs.specs.Cellbase as rules;
+ghost use Rattle.rule_defs.specs.Cellbase as rules;
 ghost use Rattle.block_judge.specs.ByRows.{AgreeOnLive};
 
 use crate::known::{hash_at, hash_of};
@@ -18,7 +18,7 @@ use std::collections::HashSet;
 const NULL_INDEX: u32 = 0xffff_ffff;
 
 /// Whether an out-point names no output.
-#[tactic(auto, unfolding(family_defs::specs::Cellbase::null_index))]
+#[tactic(auto, unfolding(rule_defs::specs::Cellbase::null_index))]
 fn is_null(o: &OutPointView<'_>) -> bool
     ensures { result ≡ rules.is_null o.now }
 {

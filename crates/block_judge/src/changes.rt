@@ -1,6 +1,6 @@
 // What transactions make and spend, beside the cells that were there before.
 ghost use Rattle.std.specs.Prelude.{◌≡◌, ℕ, Option, Some, None, OnOk, if◌then◌else◌};
-ghost use Rattle.codec_defs.specs.Schema as schema;
+ghost use Rattle.chain_defs.specs.Schema as schema;
 ghost use Rattle.chain_defs.specs.Hashes.{transaction_hash};
 ghost use Rattle.cell_defs.specs.Events.{same_out_point, spends_of, makes_of};
 ghost use Rattle.cell_defs.specs.Row.{Row, row_after};

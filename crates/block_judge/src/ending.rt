@@ -1,22 +1,22 @@
 // What is tried of a block after its transactions: J31, what its cellbase pays, and J32, its DAO field.
 ghost use Rattle.std.specs.Prelude.{◌≡◌, ◌<◌, ◌≤◌, ◌^◌, List, None, Some, Err, IfOk, IsTrue, length};
 ghost use Rattle.std.specs.List.{sum_by};
-ghost use Rattle.fold_defs.specs.First.{first_failing};
+ghost use Rattle.chain_defs.specs.First.{first_failing};
 ghost use Rattle.outside.specs.declared.disk.Damage.{Damage};
 ghost use Rattle.outside.specs.declared.disk.ReadStop.TheVariants.{Damaged};
-ghost use Rattle.codec_defs.specs.Schema as schema;
-ghost use Rattle.time_defs.specs.Dao.{is_rated};
+ghost use Rattle.chain_defs.specs.Schema as schema;
+ghost use Rattle.chain_defs.specs.Dao.{is_rated};
 ghost use Rattle.chain_defs.specs.Kept.{block_at};
 ghost use Rattle.chain_defs.specs.Branch.{branch};
 ghost use Rattle.chain_tree.specs.Blocks.{IsParent, IndexesBlocks};
 ghost use Rattle.chain_tree.specs.Told.{Stored, blocks_of};
 ghost use Rattle.chain_tree.specs.Reading.{HasRead, stop_of};
 ghost use Rattle.cell_defs.specs.Cell.{occupied_by};
-ghost use Rattle.reward_defs.specs.Payment as payment;
-ghost use Rattle.reward_defs.specs.Field as field;
-ghost use Rattle.reward_defs.specs.Rules as rules;
+ghost use Rattle.rule_defs.specs.Payment as payment;
+ghost use Rattle.rule_defs.specs.Field as field;
+ghost use Rattle.rule_defs.specs.RewardRules as rules;
 ghost use Rattle.rewards.specs.Own.{HaveOwnFees};
-ghost use Rattle.rule_names.specs.Number.{rule_number};
+ghost use Rattle.rule_defs.specs.RuleNumber.{rule_number};
 ghost use Rattle.block_judge.specs.declared.stop.JudgeStop.TheVariants.{Broken, Read};
 ghost use Rattle.block_judge.specs.Progress.{AreMoved};
 ghost use Rattle.block_judge.specs.Stops.{read_stop_of};
@@ -31,7 +31,7 @@ use epochs::{Spec, primary, share};
 use mol_schema::{BlockView, CellbaseWitnessView, OutputView, RawTxView, ScriptView, TxView};
 use outside::ReadStop;
 use rewards::reward;
-use rule_names::Rule;
+use rule_defs::Rule;
 use std::alloc::Global;
 
 /// The lock in the first witness of a block's cellbase.

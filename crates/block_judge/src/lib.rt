@@ -1,7 +1,7 @@
 //! A block judged over its ancestors, by J4 to J32, and a transaction judged alone (docs/RULES.md, "A block").
 //!
 //! All is judged on a [`Context`]. [`judge_at_sight`] answers the first rule that a block breaks of those that ask for no
-//! live cell, exactly by `broken_at_sight` of `block_defs`. Of a block that breaks none of them, [`judge`], over a source of
+//! live cell, exactly by `broken_at_sight` of `verdict_defs`. Of a block that breaks none of them, [`judge`], over a source of
 //! kept blocks with their fees, answers the first of all rules that it breaks, exactly by `first_broken`, or its ext. The
 //! cells that the block makes and spends stand beside those of the branch, which it neither copies nor changes. [`dry_run`]
 //! judges a transaction after the parent and answers its fee and its cycles; [`judge_appended`] judges one as the next of a

@@ -1,19 +1,19 @@
 // J28 to J30: the scripts of a transaction.
 ghost use Rattle.std.specs.Prelude.{◌≡◌, ◌^◌, ◌≤◌, List, Option, None, Some, Err, IfOk, length};
-ghost use Rattle.fold_defs.specs.First.{first_failing};
+ghost use Rattle.chain_defs.specs.First.{first_failing};
 ghost use Rattle.outside.specs.declared.disk.Damage.{Damage};
 ghost use Rattle.outside.specs.declared.disk.ReadStop.TheVariants.{Damaged};
-ghost use Rattle.codec_defs.specs.Schema.{OutPoint};
+ghost use Rattle.chain_defs.specs.Schema.{OutPoint};
 ghost use Rattle.cell_defs.specs.Row.{Row};
 ghost use Rattle.chain_tree.specs.Told.{Stored, blocks_of};
 ghost use Rattle.chain_tree.specs.Reading.{HasRead};
-ghost use Rattle.tx_defs.specs.Site.{Site};
+ghost use Rattle.rule_defs.specs.Site.{Site};
 ghost use Rattle.tx_rules.specs.At.{IsSiteOf};
 ghost use Rattle.tx_rules.specs.Outcome.{IsFormed, IsResolved};
-ghost use Rattle.script_defs.specs.Scene.{scene_of};
-ghost use Rattle.script_defs.specs.Rules.{script_rules, cycles_of};
-ghost use Rattle.script_defs.specs.Rules as rules;
-ghost use Rattle.rule_names.specs.Number.{rule_number};
+ghost use Rattle.verdict_defs.specs.Scene.{scene_of};
+ghost use Rattle.verdict_defs.specs.ScriptRules.{script_rules, cycles_of};
+ghost use Rattle.verdict_defs.specs.ScriptRules as rules;
+ghost use Rattle.rule_defs.specs.RuleNumber.{rule_number};
 ghost use Rattle.block_judge.specs.declared.stop.JudgeStop.TheVariants.{Broken, Read};
 ghost use Rattle.block_judge.specs.Standing.{IsScriptRule};
 ghost use Rattle.block_judge.specs.Stops.{AnswersRunning, read_stop_of};
@@ -21,11 +21,11 @@ ghost use Rattle.block_judge.specs.Stops.{AnswersRunning, read_stop_of};
 use crate::stop::JudgeStop;
 use cell_model::ResolvedTx;
 use chain_tree::Blocks;
-use rule_names::Rule;
-use script_defs::Failure;
+use rule_defs::Rule;
 use script_run::{ScriptStop, run_groups};
 use std::alloc::Global;
 use tx_rules::TxAt;
+use verdict_defs::Failure;
 
 /// The rule that a failure breaks.
 fn rule_of(failure: Failure) -> Rule

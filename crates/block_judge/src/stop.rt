@@ -4,7 +4,7 @@ ghost use Rattle.outside.specs.declared.disk.ReadStop.TheVariants.{NoMemory as n
 ghost use Rattle.block_judge.specs.declared.stop.JudgeStop.TheVariants.{Read};
 
 use outside::{Damage, NoMemory, ReadStop};
-use rule_names::Rule;
+use rule_defs::Rule;
 use std::error::Error;
 use std::fmt;
 

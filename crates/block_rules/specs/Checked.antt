@@ -1,8 +1,8 @@
 -- What the rules on what a block holds leave of it.
 use Rattle.std.specs.Prelude.{◌≡◌, ℕ, map, Option, Some, None}
-use Rattle.codec_defs.specs.Schema.{Block}
+use Rattle.chain_defs.specs.Schema.{Block}
 use Rattle.chain_defs.specs.Hashes.{transaction_hash}
-use Rattle.rule_names.specs.Number.{rule_number}
+use Rattle.rule_defs.specs.RuleNumber.{rule_number}
 use Rattle.block_rules.specs.declared.checked.Checked.{Checked}
 use Rattle.block_rules.specs.declared.checked.Checked.TheVariants.{Broken, Kept}
 

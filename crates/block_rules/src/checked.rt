@@ -1,6 +1,6 @@
 // What the rules on what a block holds leave of it.
 
-use rule_names::Rule;
+use rule_defs::Rule;
 
 /// What J9 to J14 say of a block.
 #[derive(Drop)]

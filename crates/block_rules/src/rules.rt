@@ -1,6 +1,6 @@
 //! J9 to J14, one function a rule.
 ghost use Rattle.std.specs.Prelude.{◌≡◌, ◌<◌, nat_le, true, Some, length, map, slice_get, IfOk, IsErr};
-ghost use Rattle.fold_defs.specs.First.{first_failing};
+ghost use Rattle.chain_defs.specs.First.{first_failing};
 ghost use Rattle.chain_defs.specs.Hashes.{are_distinct, transaction_hash};
 ghost use Rattle.rule_defs.specs.Body as rules;
 ghost use Rattle.block_rules.specs.Checked.{HasHashes, broken_in};
@@ -10,7 +10,7 @@ use crate::commitments::{proposals_hash, root_over, transaction_hashes, uncles_h
 use epochs::Spec;
 use mol_schema::BlockView;
 use outside::NoMemory;
-use rule_names::Rule;
+use rule_defs::Rule;
 use std::alloc::Global;
 use std::collections::HashSet;
 
@@ -102,7 +102,7 @@ fn commits_to_uncles(block: &BlockView<'_>) -> bool
 
 /// The least of J9 to J14 that a block breaks, or the hashes of its transactions where it breaks none: J12 asks for
 /// them, and so do later rules. It asks for memory only where J9 is kept and the proposals are few enough.
-#[tactic(auto, unfolding(fold_defs::specs::First::first_failing))]
+#[tactic(auto, unfolding(chain_defs::specs::First::first_failing))]
 pub fn check(alloc: Global, spec: &Spec, block: &BlockView<'_>) -> Result<Checked, NoMemory>
     ensures broken { IfOk result (λ checked. broken_in checked ≡ first_failing (rules.body_rules spec.now block.now)) }
     ensures hashes { IfOk result (HasHashes block.now) }

@@ -1,8 +1,8 @@
 // The root of a complete binary Merkle tree (RFC 0006).
 
 ghost use Rattle.std.specs.Prelude.{◌≡◌, ◌+◌, ◌*◌, ◌^◌, ◌<◌, ◌≤◌, ◌++◌, [], length, IfOk, slice_index_or};
-ghost use Rattle.hash_defs.specs.CkbHash.{ckbhash};
-ghost use Rattle.hash_defs.specs.Root.{node, root};
+ghost use Rattle.chain_defs.specs.CkbHash.{ckbhash};
+ghost use Rattle.chain_defs.specs.Root.{node, root};
 
 use blake2b_ckb::Hasher;
 use outside::NoMemory;

@@ -2,10 +2,10 @@
 use Rattle.std.specs.Prelude.{ℕ, Bool, ◌&&◌, ◌==◌, nat_lt, nat_le, List, [], length, replicate, unwrap_or, slice_get, if◌then◌else◌}
 use Rattle.std.specs.Option.{option_map}
 use Rattle.std.specs.List.{list_all, enumerate_from}
-use Rattle.hash_defs.specs.CkbHash.{ckbhash}
-use Rattle.codec_defs.specs.Shape.{encoded}
-use Rattle.codec_defs.specs.Schema.{Script, script, CellOutput, Transaction}
-use Rattle.time_defs.specs.Dao.{occupied_capacity}
+use Rattle.chain_defs.specs.CkbHash.{ckbhash}
+use Rattle.chain_defs.specs.Shape.{encoded}
+use Rattle.chain_defs.specs.Schema.{Script, script, CellOutput, Transaction}
+use Rattle.chain_defs.specs.Dao.{occupied_capacity}
 
 -- Hash types (RFC 0022, "Code Locating"): the code hash of a script is the hash of the code ..
 abbrev pub by_data : ℕ

@@ -3,7 +3,7 @@
 use Rattle.std.specs.Prelude.{ℕ, ◌+◌, Bool, ◌&&◌, ◌||◌, ◌==◌, List, [], ◌∷◌, ◌++◌, map, length, take, Option, Some, None, if◌then◌else◌}
 use Rattle.std.specs.List.{range_with_len}
 use Rattle.std.specs.Str.{bytes_eq}
-use Rattle.codec_defs.specs.Schema.{OutPoint, CellOutput, Transaction, Block}
+use Rattle.chain_defs.specs.Schema.{OutPoint, CellOutput, Transaction, Block}
 use Rattle.chain_defs.specs.Hashes.{transaction_hash}
 use Rattle.cell_defs.specs.Cell.{Cell, data_of}
 

@@ -1,6 +1,6 @@
 -- Which events fit what is live (docs/RULES.md, "Cells").
 use Rattle.std.specs.Prelude.{◌≡◌, ℕ, ◌+◌, Bool, true, false, not, List, take, Option, Some, None, is_some, IsTrue, slice_get}
-use Rattle.codec_defs.specs.Schema.{OutPoint, Block}
+use Rattle.chain_defs.specs.Schema.{OutPoint, Block}
 use Rattle.chain_defs.specs.Kept.{block_at}
 use Rattle.chain_defs.specs.Branch.{branch, branch_places}
 use Rattle.cell_defs.specs.Events.{Event, Makes, Spends, last_naming, events_of_block, live_cell}

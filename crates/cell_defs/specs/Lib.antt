@@ -3,3 +3,8 @@ pub mod Events
 pub mod Fit
 pub mod Row
 pub mod Ext
+pub mod CellLaws
+pub mod Fits
+pub mod FitLaws
+pub mod Undo
+pub mod UndoLaws

@@ -6,7 +6,7 @@ use Rattle.std.specs.declared.cmp.Ordering.{Ordering}
 use Rattle.std.specs.declared.cmp.Ordering.TheVariants.{Less}
 use Rattle.std.specs.Ordering.{nat_cmp, ordering_then}
 use Rattle.std.specs.Cmp.Lexicographic.{slice_cmp}
-use Rattle.codec_defs.specs.Schema.{OutPoint, Transaction, Block}
+use Rattle.chain_defs.specs.Schema.{OutPoint, Transaction, Block}
 use Rattle.chain_defs.specs.Hashes.{transaction_hash}
 use Rattle.chain_defs.specs.Branch.{branch, branch_places}
 use Rattle.cell_defs.specs.Cell.{Cell, script_hash, data_hash, occupied_by, data_of}

@@ -1,7 +1,7 @@
 -- The output that a row names in the current block.
 use Rattle.std.proofs.Common.{◌≡◌, ℕ, List, Option, Some, ap, subst, ◌∙◌}
 use Rattle.std.specs.Prelude.{IfSome, slice_get}
-use Rattle.codec_defs.specs.Schema.{OutPoint, CellOutput, Transaction, Block}
+use Rattle.chain_defs.specs.Schema.{OutPoint, CellOutput, Transaction, Block}
 use Rattle.chain_tree.specs.Told.{Stored}
 use Rattle.cell_defs.specs.Cell.{Cell, data_of}
 use Rattle.cell_defs.specs.Row.{Row}

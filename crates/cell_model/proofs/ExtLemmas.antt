@@ -8,11 +8,11 @@ use Rattle.std.proofs.lemmas.Bool.{false≢true, and_parts, and_from, and_left, 
 use Rattle.std.proofs.lemmas.Nat.{from_le_bytes-to_le_bytes_4}
 use Rattle.std.proofs.lemmas.List.{append-nil, map_push, take_more, drop-drop, take-append-le, drop-append-le, take_all, take_at, drop_at, nil_from_length, length-append, length-drop}
 use Rattle.std.proofs.lemmas.List.Elements.{All-head, All-tail}
-use Rattle.codec_defs.specs.Schema.{OutPoint}
+use Rattle.chain_defs.specs.Schema.{OutPoint}
 use Rattle.cell_defs.specs.Row.{Row}
 use Rattle.cell_defs.specs.Ext.{Ext, row_bytes, ext_bytes, count_at, row_size, is_row, are_rows, is_ext, fee_of}
-use Rattle.ext_defs.specs.Fits.{FitsRow, FitsExt}
-use Rattle.ext_defs.proofs.TellLaws.{length-row, bytes-tell-exts}
+use Rattle.cell_defs.specs.Fits.{FitsRow, FitsExt}
+use Rattle.cell_defs.proofs.TellLaws.{length-row, bytes-tell-exts}
 use Rattle.cell_model.proofs.RowLemmas.{next, whole, row-form}
 
 -- ---- Pieces

@@ -5,10 +5,10 @@ use Rattle.std.specs.List.{All}
 use Rattle.std.proofs.lemmas.Bool.{lt-ltb, cases_lt}
 use Rattle.std.proofs.lemmas.List.{length-map, length_push, map_push, get_or-map, get_or_append_left, get_or_push, drop_more, drop_all}
 use Rattle.std.proofs.lemmas.List.Elements.{All-push}
-use Rattle.codec_defs.specs.Shape.{decoded}
-use Rattle.codec_defs.specs.Schema.{Block, block}
-use Rattle.codec_defs.proofs.ShapeLaws.{IsA-decoded}
-use Rattle.codec_defs.proofs.RowLaws.{block-check}
+use Rattle.chain_defs.specs.Shape.{decoded}
+use Rattle.chain_defs.specs.Schema.{Block, block}
+use Rattle.chain_defs.proofs.ShapeLaws.{IsA-decoded}
+use Rattle.chain_defs.proofs.RowLaws.{block-check}
 use Rattle.chain_tree.specs.Told.{Stored, blocks_of}
 use Rattle.cell_defs.specs.Ext.{is_ext}
 use Rattle.cell_model.specs.ListBlocks.{ListBlocksValue, place_among, current_place, contents, IsCanonical, IsExtFor, AreKept, stored_from, ids_of, all_ids, id_lists}

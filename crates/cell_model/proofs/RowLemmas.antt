@@ -6,10 +6,10 @@ use Rattle.std.proofs.Math.Seq.{take-add}
 use Rattle.std.proofs.lemmas.List.{drop_more, drop-drop, take_at, take_all, drop_at, get_or_at, length-append, length-drop, length-take-le}
 use Rattle.std.proofs.lemmas.Bool.{and_parts}
 use Rattle.std.specs.Int.{w32, w64, to_le_bytes}
-use Rattle.codec_defs.specs.Schema.{OutPoint}
+use Rattle.chain_defs.specs.Schema.{OutPoint}
 use Rattle.cell_defs.specs.Row.{Row}
 use Rattle.cell_defs.specs.Ext.{type_bytes, row_bytes, type_flag, is_row}
-use Rattle.ext_defs.specs.Fits.{FitsRow}
+use Rattle.cell_defs.specs.Fits.{FitsRow}
 
 -- what stands between two places, and from there to a third
 joined : (xs : List ℕ) (i j k : ℕ) → i ≤ j → j ≤ k → slice_range xs i j ++ slice_range xs j k ≡ slice_range xs i k

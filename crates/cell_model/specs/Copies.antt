@@ -1,8 +1,8 @@
 -- What contracts see of a copy of an old cell.
 use Rattle.std.specs.Prelude.{◌≡◌, ℕ, List, Option, Some, slice_get, IsSomeAnd}
 use Rattle.std.specs.Option.{option_map, option_and_then}
-use Rattle.codec_defs.specs.Shape.{decoded}
-use Rattle.codec_defs.specs.Schema.{OutPoint, CellOutput, cell_output, Transaction, Block}
+use Rattle.chain_defs.specs.Shape.{decoded}
+use Rattle.chain_defs.specs.Schema.{OutPoint, CellOutput, cell_output, Transaction, Block}
 use Rattle.chain_tree.specs.Told.{Stored}
 use Rattle.cell_defs.specs.Cell.{Cell, data_of}
 use Rattle.cell_defs.specs.Row.{Row, row_of, IsOutputOf}

@@ -4,8 +4,8 @@ use Rattle.std.specs.Global.{Global}
 use Rattle.std.specs.List.{All}
 use Rattle.std.proofs.lemmas.Bool.{ltb-true}
 use Rattle.std.proofs.Common.{refl}
-use Rattle.codec_defs.specs.Shape.{decoded}
-use Rattle.codec_defs.specs.Schema.{Block, block}
+use Rattle.chain_defs.specs.Shape.{decoded}
+use Rattle.chain_defs.specs.Schema.{Block, block}
 use Rattle.chain_defs.specs.Hashes.{proposal_id}
 use Rattle.chain_tree.specs.Told.{Stored}
 use Rattle.chain_tree.specs.Reading.{Findings}

@@ -1,6 +1,6 @@
 // Out-points, rows, and the map from the one to the other.
 ghost use Rattle.std.specs.Prelude.{◌≡◌, Option};
-ghost use Rattle.codec_defs.specs.Schema as schema;
+ghost use Rattle.chain_defs.specs.Schema as schema;
 ghost use Rattle.cell_defs.specs.Row.{Row};
 
 use mol_schema::TxView;
@@ -14,7 +14,7 @@ pub struct OutPoint {
 }
 
 impl Model for OutPoint {
-    ghost use Rattle.codec_defs.specs.Schema as schema;
+    ghost use Rattle.chain_defs.specs.Schema as schema;
 
     ghost Value = { schema.OutPoint };
 

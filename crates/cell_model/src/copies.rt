@@ -1,8 +1,8 @@
 // Copies of old cells out of kept blocks.
 ghost use Rattle.std.specs.Prelude.{◌≡◌, ◌^◌, ◌<◌, List, Some, Err, IfOk, IsSome, length, slice_get};
 ghost use Rattle.std.specs.Option.{option_map};
-ghost use Rattle.codec_defs.specs.Shape.{decoded};
-ghost use Rattle.codec_defs.specs.Schema.{cell_output};
+ghost use Rattle.chain_defs.specs.Shape.{decoded};
+ghost use Rattle.chain_defs.specs.Schema.{cell_output};
 ghost use Rattle.cell_defs.specs.Cell.{Cell, data_of};
 ghost use Rattle.outside.specs.declared.disk.Area.TheVariants.{Log};
 ghost use Rattle.outside.specs.declared.disk.Damage.{Damage};

@@ -4,7 +4,7 @@ ghost use Rattle.std.specs.List.{All, concat};
 ghost use Rattle.std.specs.Int.{w32, w64, to_le_bytes};
 ghost use Rattle.cell_defs.specs.Ext as exts;
 ghost use Rattle.cell_defs.specs.Ext.{count_at, row_bytes, are_rows, ext_bytes, is_ext, fee_of};
-ghost use Rattle.ext_defs.specs.Fits.{FitsRow, FitsExt};
+ghost use Rattle.cell_defs.specs.Fits.{FitsRow, FitsExt};
 
 use crate::cells::{CellMeta, OutPoint};
 use crate::row::{ROW_SIZE, put_row, read_row, u32_at, u64_at};

@@ -1,6 +1,6 @@
 // The hashes of scripts, data and transactions, what an output occupies, and the row of an output.
 ghost use Rattle.std.specs.Prelude.{◌≡◌, ◌^◌, ◌<◌, length, take, ℕ};
-ghost use Rattle.time_defs.specs.Dao.{occupied_capacity};
+ghost use Rattle.chain_defs.specs.Dao.{occupied_capacity};
 ghost use Rattle.chain_defs.specs.Hashes.{transaction_hash};
 ghost use Rattle.cell_defs.specs.Cell as cells;
 ghost use Rattle.cell_defs.specs.Row.{row_of};

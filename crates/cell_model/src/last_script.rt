@@ -21,7 +21,7 @@ pub struct LastScript {
 
 impl Model for LastScript {
     ghost use Rattle.std.specs.Prelude.{◌≡◌, ◌≤◌, take};
-    ghost use Rattle.hash_defs.specs.CkbHash.{ckbhash};
+    ghost use Rattle.chain_defs.specs.CkbHash.{ckbhash};
 
     ghost Value = { Unit {0} };
 

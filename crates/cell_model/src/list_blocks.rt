@@ -1,8 +1,8 @@
 // Kept blocks in memory, as a source of blocks that tells them.
 ghost use Rattle.std.specs.Prelude.{◌≡◌, ◌+◌, ◌<◌, ◌^◌, ◌++◌, [], ◌∷◌, Some, None, length, map, IfOk, IsOk, OnOk, OnErr};
 ghost use Rattle.std.specs.List.{All};
-ghost use Rattle.codec_defs.specs.Shape.{decoded};
-ghost use Rattle.codec_defs.specs.Schema as schema;
+ghost use Rattle.chain_defs.specs.Shape.{decoded};
+ghost use Rattle.chain_defs.specs.Schema as schema;
 ghost use Rattle.chain_tree.specs.Told.{blocks_of};
 ghost use Rattle.chain_tree.specs.Reading.{nothing_found};
 ghost use Rattle.cell_model.specs.ListBlocks.{current_place, contents, id_lists, ids_of, all_ids, IsCanonical, IsExtFor, AreKept};

@@ -3,7 +3,7 @@ ghost use Rattle.std.specs.Prelude.{◌≡◌, ◌+◌, ◌≤◌, ◌==◌, ◌
 ghost use Rattle.std.specs.List.{list_all, slice_range};
 ghost use Rattle.std.specs.Int.{w32, w64, to_le_bytes, from_le_bytes};
 ghost use Rattle.cell_defs.specs.Ext as exts;
-ghost use Rattle.ext_defs.specs.Fits.{FitsRow};
+ghost use Rattle.cell_defs.specs.Fits.{FitsRow};
 
 use crate::cells::{CellMeta, OutPoint};
 use outside::NoMemory;

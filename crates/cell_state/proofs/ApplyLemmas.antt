@@ -1,11 +1,11 @@
 -- What stands after a block was taken, or taken back.
 use Rattle.std.proofs.Common.{◌≡◌, ℕ, List, Option, Some, None, refl, sym, ap, ◌∙◌}
-use Rattle.codec_defs.specs.Schema.{OutPoint}
+use Rattle.chain_defs.specs.Schema.{OutPoint}
 use Rattle.cell_defs.specs.Events.{Event, Makes, Spends, last_naming}
 use Rattle.cell_defs.specs.Row.{Row, row_or, row_after}
 use Rattle.cell_state.specs.Slots.{StateValue, at, rows, row_before, is_live, settled, AreSettled}
 use Rattle.cell_defs.specs.Fit.{live_by}
-use Rattle.cell_state.specs.Passes.{AreMarked, unmarked_by, Settles}
+use Rattle.cell_state.specs.Passes.{AreMarked, Settles}
 use Rattle.cell_state.specs.declared.slots.Slot.{Slot}
 use Rattle.cell_state.proofs.NamingLemmas.{row-after}
 
@@ -38,15 +38,3 @@ applied place events old marked new is live unnamed so o =
     ∙ ap settled (sym (row-after place events (rows old) o))
 
 -- ---- A block that does not
-
-slot-unmarked : (last : Option Event) (old marked new : Option Slot) → old ≡ settled (row_before old) → row_before marked ≡ row_before old
-    → (last ≡ None → marked ≡ old) → new ≡ unmarked_by last marked → new ≡ old
-slot-unmarked None old marked new is before unnamed so = so ∙ unnamed refl
-slot-unmarked (Some event) old marked new is before unnamed so = so ∙ ap settled before ∙ sym is
-
-pub taken-back : (events : List Event) (old marked new : StateValue) → AreSettled old → ((o : OutPoint) → rows marked o ≡ rows old o)
-    → ((o : OutPoint) → last_naming o events ≡ None → at marked o ≡ at old o)
-    → ((o : OutPoint) → at new o ≡ unmarked_by (last_naming o events) (at marked o))
-    → (o : OutPoint) → at new o ≡ at old o
-taken-back events old marked new is before unnamed so o =
-    slot-unmarked (last_naming o events) (at old o) (at marked o) (at new o) (is o) (before o) (unnamed o) (so o)

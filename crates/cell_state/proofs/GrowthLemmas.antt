@@ -1,14 +1,14 @@
 -- A block on a kept parent.
 use Rattle.std.proofs.Common.{◌≡◌, ℕ, ◌-◌, ◌<◌, List, [], ◌∷◌, ◌++◌, length, Option, Some, sym, ap, ◌∙◌, arith}
 use Rattle.std.proofs.lemmas.Option.{slice_get_within}
-use Rattle.codec_defs.specs.Schema.{OutPoint, Block}
+use Rattle.chain_defs.specs.Schema.{OutPoint, Block}
 use Rattle.chain_defs.specs.Kept.{place_of}
 use Rattle.chain_defs.specs.Branch.{branch}
 use Rattle.chain_defs.proofs.KeptLaws.{slice_get-below, place_of-below}
 use Rattle.chain_defs.proofs.BranchLaws.{branch-last}
 use Rattle.cell_defs.specs.Events.{Event, events_of_block, last_naming}
 use Rattle.cell_defs.specs.Row.{Row, row_or, row_after, live_row}
-use Rattle.cell_laws.proofs.RowLaws.{grows-by-a-block}
+use Rattle.cell_defs.proofs.RowLaws.{grows-by-a-block}
 use Rattle.cell_state.specs.State.{StateValue, Grows, rows}
 use Rattle.cell_state.proofs.NamingLemmas.{row-after}
 

@@ -8,3 +8,13 @@ pub mod ListLemmas
 pub mod GrowthLemmas
 pub mod UndoLemmas
 pub mod UndoPasses
+pub mod PlaceLemmas
+pub mod RowLemmas
+pub mod FitLemmas
+pub mod StepLemmas
+pub mod DistanceLemmas
+pub mod PathLemmas
+pub mod ToldLemmas
+pub mod WayLemmas
+pub mod OnWayLemmas
+pub mod BelowLemmas

@@ -1,6 +1,6 @@
 -- On the last of some events that names an out-point, and what those leave that fit.
 use Rattle.std.proofs.Common.{◌≡◌, ℕ, Bool, true, false, List, [], ◌∷◌, ◌++◌, Option, Some, None, is_some, if◌then◌else◌, refl, sym, ap, ◌∙◌}
-use Rattle.codec_defs.specs.Schema.{OutPoint}
+use Rattle.chain_defs.specs.Schema.{OutPoint}
 use Rattle.cell_defs.specs.Events.{Event, Makes, Spends, names, last_naming}
 use Rattle.cell_defs.specs.Row.{Row, row_or, row_after}
 use Rattle.cell_defs.specs.Fit.{are_live, live_by, live_after}

@@ -3,7 +3,7 @@ use Rattle.std.proofs.Common.{◌≡◌, ℕ, ◌+◌, ◌≤◌, Bool, true, fa
 use Rattle.std.specs.Prelude.{not, IsTrue}
 use Rattle.std.proofs.lemmas.Bool.{not_from_false}
 use Rattle.std.proofs.lemmas.List.{append_assoc}
-use Rattle.codec_defs.specs.Schema.{OutPoint}
+use Rattle.chain_defs.specs.Schema.{OutPoint}
 use Rattle.cell_defs.specs.Cell.{Cell}
 use Rattle.cell_defs.specs.Events.{Event, Makes, Spends, same_out_point, out_point_of, names, last_naming}
 use Rattle.cell_defs.specs.Row.{Row, row_of, row_or, row_left}
@@ -16,7 +16,7 @@ use Rattle.cell_state.specs.declared.slots.Slot.{Slot}
 use Rattle.cell_state.specs.declared.slots.Slot.TheVariants.{Live, Spent, Added, Gone}
 use Rattle.cell_state.proofs.SlotLemmas.{at-each}
 use Rattle.cell_state.proofs.NamingLemmas.{last-push, naming-nil, unnamed-front, row-after, live-marked}
-use Rattle.cell_laws.proofs.FitLemmas.{fit-none, fit-push}
+use Rattle.cell_defs.proofs.FitLemmas.{fit-none, fit-push}
 
 -- one more event is done
 parts-push : (all done : List Event) (event : Event) (left : List Event) → done ++ event ∷ left ≡ all → (done ++ event ∷ []) ++ left ≡ all

@@ -1,10 +1,10 @@
 -- On slots, one at a time.
-use Rattle.std.proofs.Common.{◌≡◌, ℕ, ◌<◌, ◌⊎◌, inl, inr, List, Bool, true, false, eqb, Option, Some, None, Result, Ok, Err, IsSome, IsOk, OnErr, if◌then◌else◌, refl, sym, ap, ◌∙◌}
+use Rattle.std.proofs.Common.{◌≡◌, ℕ, ◌<◌, ◌⊎◌, List, Bool, true, false, eqb, Option, if◌then◌else◌, refl, ap, ◌∙◌}
 use Rattle.std.specs.Str.{bytes_eq}
 use Rattle.std.proofs.lemmas.Bool.{and_parts}
 use Rattle.std.proofs.lemmas.Bool.Decides.{Decides-eqb}
 use Rattle.std.proofs.lemmas.Slice.Eq.{bytes_eq-Decides}
-use Rattle.codec_defs.specs.Schema.{OutPoint}
+use Rattle.chain_defs.specs.Schema.{OutPoint}
 use Rattle.cell_defs.specs.Events.{same_out_point}
 use Rattle.cell_state.specs.Slots.{StateValue, at, most}
 use Rattle.cell_state.specs.declared.slots.Slot.{Slot}
@@ -12,20 +12,6 @@ use Rattle.cell_state.specs.declared.slots.Slot.{Slot}
 pub most-is : most ≡ 1125899906842624
 unfolding most
 most-is = refl
-
-pub none-is_some : {A : Type 0} (found : Option A) → None ≡ found → IsSome found → ⊥
-none-is_some None is some = cc
-none-is_some (Some x) is some = cc
-
--- a write where there is a slot, or space for one, takes no memory
-pub write-ok : {A B E : Type 0} (r : Result B E) (found : Option A) (spare : ℕ) → OnErr r (found ≡ None) → (0 < spare → IsOk r) → IsSome found ⊎ (0 < spare) → IsOk r
-write-ok (Ok b) found spare absent succeeds room = refl
-write-ok (Err e) found spare absent succeeds (inl some) = absurd (none-is_some found (sym absent) some)
-write-ok (Err e) found spare absent succeeds (inr lt) = succeeds lt
-
-pub room-for_new : {A : Type 0} (found : Option A) (spare : ℕ) → None ≡ found → IsSome found ⊎ (0 < spare) → 0 < spare
-room-for_new found spare is (inl some) = absurd (none-is_some found is some)
-room-for_new found spare is (inr lt) = lt
 
 pub at-same : (v w : StateValue) (o p : OutPoint) → v ≡ w → o ≡ p → at v o ≡ at w p
 at-same v w o p same named = ap (λ (x : StateValue). at x o) same ∙ ap (λ (x : OutPoint). at w x) named

@@ -4,16 +4,15 @@ use Rattle.std.specs.Prelude.{◌||◌}
 use Rattle.std.specs.Option.{option_map}
 use Rattle.std.specs.List.{list_any}
 use Rattle.std.proofs.Math.Seq.{drop-cons}
-use Rattle.codec_defs.specs.Schema.{OutPoint}
+use Rattle.chain_defs.specs.Schema.{OutPoint}
 use Rattle.cell_defs.specs.Cell.{Cell}
-use Rattle.cell_defs.specs.Events.{Event, Makes, Spends, same_out_point}
+use Rattle.cell_defs.specs.Events.{Makes, same_out_point}
 use Rattle.cell_defs.specs.Row.{Row}
-use Rattle.cell_laws.specs.Laws.{makes}
-use Rattle.undo_defs.specs.Undo.{with_row, first_live}
+use Rattle.cell_defs.specs.CellLaws.{makes}
+use Rattle.cell_defs.specs.Undo.{with_row, first_live}
 use Rattle.cell_state.specs.Slots.{StateValue, at, rows, row_before, is_live}
 use Rattle.cell_state.specs.Passes.{made_mark}
 use Rattle.cell_state.specs.Undo.{passed, is_at, AreThere}
-use Rattle.cell_state.specs.declared.odd.Odd.{Odd}
 use Rattle.cell_state.specs.declared.odd.Odd.TheVariants as odd
 use Rattle.cell_state.specs.declared.slots.Slot.{Slot}
 use Rattle.cell_state.proofs.SlotLemmas.{at-each}
@@ -78,15 +77,6 @@ pub record PuttingBack (all left : List (OutPoint × Row)) (old new : StateValue
   pub before : (o : OutPoint) → rows new o ≡ rows old o
   pub spare : old.spare + length left ≤ new.spare + length all
   pub behind : (o : OutPoint) → list_any (is_at o) all ≡ false → list_any (is_at o) left ≡ false
-
-pub putting-none : (all : List (OutPoint × Row)) (old : StateValue) → PuttingBack all all old old
-putting-none all old = record {
-  at-all = λ o. refl;
-  live = λ found there. record { later = found; there = there; same = refl };
-  before = λ o. refl;
-  spare = omega arith;
-  behind = λ o none. none;
-}
 
 not-live : (one : OutPoint × Row) (left : List (OutPoint × Row)) (later : OutPoint → Option Row) (live : Bool) → is_some (later one.0) ≡ live → live ≡ false
     → first_live (one ∷ left) later ≡ first_live left (with_row one later)

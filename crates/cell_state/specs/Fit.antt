@@ -1,6 +1,6 @@
 -- What is odd about events of which one does not fit (docs/RULES.md, "Cells").
 use Rattle.std.specs.Prelude.{◌≡◌, Bool, false, List, ◌∷◌, ◌++◌}
-use Rattle.codec_defs.specs.Schema.{OutPoint}
+use Rattle.chain_defs.specs.Schema.{OutPoint}
 use Rattle.cell_defs.specs.Events.{Event, Makes, Spends}
 use Rattle.cell_defs.specs.Fit.{fits, live_after, AllFit}
 use Rattle.cell_state.specs.declared.odd.Odd.{Odd}

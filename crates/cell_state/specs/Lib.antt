@@ -5,3 +5,4 @@ pub mod Walk
 pub mod Passes
 pub mod Undo
 pub mod Listing
+pub mod Moves

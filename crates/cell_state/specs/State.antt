@@ -1,7 +1,7 @@
 -- What contracts see of the live cells in memory.
 use Rattle.std.specs.Prelude.{◌≡◌, ℕ, List, [], ◌∷◌, ◌++◌, length, Some}
 use Rattle.std.specs.List.{sum_by}
-use Rattle.codec_defs.specs.Schema.{OutPoint, Block}
+use Rattle.chain_defs.specs.Schema.{OutPoint, Block}
 use Rattle.chain_defs.specs.Kept.{IsKept, place_of}
 use Rattle.cell_defs.specs.Row.{live_row}
 pub use Rattle.cell_state.specs.Slots.{StateValue, rows, count}

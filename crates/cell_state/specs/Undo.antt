@@ -1,6 +1,6 @@
 -- What taking a block back does at an out-point, pass by pass.
 use Rattle.std.specs.Prelude.{◌≡◌, ℕ, Bool, List, [], ◌∷◌, Option, Some, None, is_some, if◌then◌else◌}
-use Rattle.codec_defs.specs.Schema.{OutPoint}
+use Rattle.chain_defs.specs.Schema.{OutPoint}
 use Rattle.cell_defs.specs.Events.{same_out_point}
 use Rattle.cell_defs.specs.Row.{Row}
 use Rattle.cell_state.specs.declared.slots.Slot.{Slot}

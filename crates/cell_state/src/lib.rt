@@ -1,24 +1,26 @@
-//! The live cells of a branch in memory.
+//! The live cells of a branch in memory, and how they go from one branch to another.
 //!
-//! [`State`] is the contract of use. Its clauses see the rows as a function from out-points, and beside it how many
-//! there are and how many more can come without an allocation (`spare`). `apply` gives the rows that a block's events
-//! leave, in their order, and changes none where an event does not fit what is live by then. `undo` takes a block back,
-//! with the rows that it spent, and changes none where one of them finds its out-point live. `genesis` gives those of
-//! one block, `load_row` adds one, `sorted` lists them. The hashes of a block's transactions come from the caller, who has
-//! them from judging the block, or makes them by [`tx_hashes`]. What a block's transactions may do with cells is left to
-//! the layers above.
+//! [`State`] is the contract of use: clauses see its rows. `apply`, `undo` and `genesis` move it by one block; [`go_to`] moves it
+//! from the rows of one kept block's branch to those of another's, down by the rows of exts and up by the blocks, and
+//! [`genesis_cells`] gives those of the genesis. What blocks make and spend is defined in `cell_defs`.
 #![tactic(auto)]
 
+mod applying;
 mod events;
 mod hashes;
 mod listing;
 mod made;
+mod moving;
 mod odd;
+mod parent;
 mod passes;
 mod slots;
 mod state;
+mod taking_back;
 mod undoing;
 
+pub use applying::genesis_cells;
 pub use hashes::tx_hashes;
+pub use moving::go_to;
 pub use odd::Odd;
 pub use state::{State, outputs_in};

@@ -2,7 +2,7 @@
 // live by then stands in the slots, and so do the rows from before the block. `settle` writes the rows of the cells that
 // are live in the end, or else `unmark` gives every slot back as it was.
 ghost use Rattle.std.specs.Prelude.{◌≡◌, ◌≤◌, ◌+◌, ◌<◌, ℕ, Some, false, IfErr, OnOk, OnErr, IsTrue, if◌then◌else◌};
-ghost use Rattle.codec_defs.specs.Schema as schema;
+ghost use Rattle.chain_defs.specs.Schema as schema;
 ghost use Rattle.cell_defs.specs.Events.{same_out_point, last_naming};
 ghost use Rattle.cell_defs.specs.Row.{Row, row_of};
 ghost use Rattle.cell_state.specs.Fit.{IsFirstOdd};

@@ -1,14 +1,14 @@
 // The live cells of a branch.
 ghost use Rattle.std.specs.Prelude.{◌≡◌, ◌≤◌, ◌<◌, ◌+◌, ◌^◌, ℕ, List, Option, None, Some, length, map, if◌then◌else◌, IfOk, IfErr, OnOk, OnErr, IsOk};
 ghost use Rattle.std.specs.Option.{option_map};
-ghost use Rattle.codec_defs.specs.Schema as schema;
+ghost use Rattle.chain_defs.specs.Schema as schema;
 ghost use Rattle.chain_defs.specs.Hashes.{transaction_hash};
 ghost use Rattle.cell_defs.specs.Events.{events_of_block, same_out_point};
 ghost use Rattle.cell_defs.specs.Row.{Row, row_after, ListsRows};
 ghost use Rattle.cell_state.specs.Fit.{IsFirstOdd};
 ghost use Rattle.cell_defs.specs.Fit.{are_live, AllFit};
-ghost use Rattle.undo_defs.specs.Undo.{undone, first_clash};
-ghost use Rattle.undo_defs.specs.Laws.{ComesBefore};
+ghost use Rattle.cell_defs.specs.Undo.{undone, first_clash};
+ghost use Rattle.cell_defs.specs.UndoLaws.{ComesBefore};
 ghost use Rattle.cell_state.specs.declared.odd.Odd.TheVariants.{Live};
 ghost use Rattle.cell_state.specs.State.{Grows, rows, count, outputs_of};
 

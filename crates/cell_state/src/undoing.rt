@@ -5,12 +5,12 @@
 ghost use Rattle.std.specs.Prelude.{◌≡◌, ◌≤◌, ◌+◌, Option, Some, None, false, length, map, if◌then◌else◌, IfErr, OnOk, OnErr};
 ghost use Rattle.std.specs.Option.{option_map};
 ghost use Rattle.std.specs.List.{list_any};
-ghost use Rattle.codec_defs.specs.Schema as schema;
+ghost use Rattle.chain_defs.specs.Schema as schema;
 ghost use Rattle.chain_defs.specs.Hashes.{transaction_hash};
 ghost use Rattle.cell_defs.specs.Events.{events_of_block, same_out_point};
 ghost use Rattle.cell_defs.specs.Row.{Row};
-ghost use Rattle.cell_laws.specs.Laws.{makes};
-ghost use Rattle.undo_defs.specs.Undo.{first_live, undone, first_clash};
+ghost use Rattle.cell_defs.specs.CellLaws.{makes};
+ghost use Rattle.cell_defs.specs.Undo.{first_live, undone, first_clash};
 ghost use Rattle.cell_state.specs.declared.odd.Odd.TheVariants.{Live};
 ghost use Rattle.cell_state.specs.Slots.{at, rows, settled, AreSettled};
 ghost use Rattle.cell_state.specs.Passes.{spent_mark, made_mark, unmarked, settled_spent};

@@ -7,7 +7,7 @@ use Rattle.std.proofs.lemmas.List.{length_push, length-take-le, take-append-le, 
 use Rattle.std.proofs.lemmas.List.Elements.{filter_map-append}
 use Rattle.std.proofs.lemmas.Bool.{cases_lt, cases_order}
 use Rattle.std.proofs.lemmas.Option.{slice_get_within, slice_get_past, same_Some}
-use Rattle.codec_defs.specs.Schema.{Block}
+use Rattle.chain_defs.specs.Schema.{Block}
 use Rattle.chain_defs.specs.Kept.{block_hash, block_at, place_of, parent_place, StandsOn, IsKept}
 use Rattle.chain_defs.specs.Branch.{places_within, branch_places, branch, IsBranch, BranchesAreBranches}
 use Rattle.chain_defs.proofs.KeptLaws.{slice_get-below, slice_get-take, slice_get-before, slice_get-push, slice_get-pushed, place_of-below, place_of-there, hashes-differ}

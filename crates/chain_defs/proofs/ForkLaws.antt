@@ -6,7 +6,7 @@ use Rattle.std.proofs.lemmas.List.{append-nil, append_assoc}
 use Rattle.std.proofs.lemmas.List.Folds.{list_any-append}
 use Rattle.std.proofs.lemmas.List.Elements.{filter-append}
 use Rattle.std.proofs.lemmas.Bool.{cases_order, eqb-true, eq-eqb, false_from_ne_true}
-use Rattle.codec_defs.specs.Schema.{Block}
+use Rattle.chain_defs.specs.Schema.{Block}
 use Rattle.chain_defs.specs.Kept.{parent_place}
 use Rattle.chain_defs.specs.Branch.{branch_places, count_outside, distance, IsFork, DistanceIsOffTheFork}
 use Rattle.chain_defs.proofs.BranchLaws.{places_on, places_within-enough, parent_place-below}

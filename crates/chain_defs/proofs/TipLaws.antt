@@ -4,7 +4,7 @@ use Rattle.std.specs.Prelude.{option_map, slice_get, IfSome, nat_lt, if◌then�
 use Rattle.std.proofs.lemmas.Bool.Decides.{nat_tests}
 use Rattle.std.proofs.lemmas.Bool.{cases_lt}
 use Rattle.std.proofs.lemmas.Option.{slice_get_within}
-use Rattle.codec_defs.specs.Schema.{Block}
+use Rattle.chain_defs.specs.Schema.{Block}
 use Rattle.chain_defs.specs.Kept.{block_at}
 use Rattle.chain_defs.proofs.KeptLaws.{slice_get-before, slice_get-push, suc_of}
 use Rattle.chain_defs.specs.Tip.{greatest_number, place_of_number, tip_place, IsTip, TipsAreTips}
@@ -156,19 +156,6 @@ pub tip_place-below : (kept : List Block) (place : ℕ) → tip_place kept ≡ S
 tip_place-below kept place found =
     let is = (tips-are-tips kept place).0 found in
     slice_get_within kept place is.top is.there
-
--- A genesis alone is the tip.
-pub tip_place-one : (genesis : Block) → tip_place (genesis ∷ []) ≡ Some 0
-tip_place-one genesis = (tips-are-tips (genesis ∷ []) 0).1 (record {
-  top = genesis;
-  there = refl;
-  greatest = alone;
-  earliest = λ other below. absurd (omega (arith, below));
-})
-  where
-    alone : (other : ℕ) → IfSome (block_at (genesis ∷ []) other) (λ block. block.header.number ≤ genesis.header.number)
-    alone zero = omega arith
-    alone (suc other) = tt
 
 -- what holds of each block, with one more at the end
 each-pushed : (kept : List Block) (block : Block) (P : Block → Type 0) → ((i : ℕ) → IfSome (block_at kept i) P) → P block

@@ -1,7 +1,7 @@
 -- Branches: a block and all its ancestors (docs/RULES.md, "Kept blocks and the tip").
 use Rattle.std.specs.Prelude.{◌≡◌, ◌↔◌, ℕ, zero, suc, ◌+◌, ◌-◌, ◌<◌, ◌==◌, not, List, [], ◌∷◌, ◌++◌, length, Some, None, slice_get}
 use Rattle.std.specs.List.{filter, filter_map, list_any}
-use Rattle.codec_defs.specs.Schema.{Block}
+use Rattle.chain_defs.specs.Schema.{Block}
 use Rattle.chain_defs.specs.Kept.{block_hash, block_at, parent_place, IsKept}
 
 -- The places from the genesis to a place, by parents. Each parent is an earlier block, so a branch has no more blocks

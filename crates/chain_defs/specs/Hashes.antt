@@ -2,10 +2,10 @@
 use Rattle.std.specs.Prelude.{ℕ, Bool, true, ◌&&◌, not, List, [], ◌∷◌, map, take, replicate}
 use Rattle.std.specs.List.{concat, list_any}
 use Rattle.std.specs.Str.{bytes_eq}
-use Rattle.hash_defs.specs.CkbHash.{ckbhash}
-use Rattle.hash_defs.specs.Root.{root}
-use Rattle.codec_defs.specs.Shape.{encoded}
-use Rattle.codec_defs.specs.Schema.{Transaction, UncleBlock, raw_transaction, transaction}
+use Rattle.chain_defs.specs.CkbHash.{ckbhash}
+use Rattle.chain_defs.specs.Root.{root}
+use Rattle.chain_defs.specs.Shape.{encoded}
+use Rattle.chain_defs.specs.Schema.{Transaction, UncleBlock, raw_transaction, transaction}
 use Rattle.chain_defs.specs.Kept.{header_hash}
 
 -- The hash of a transaction is that of its RawTransaction, without witnesses (RFC 0022).

@@ -2,9 +2,9 @@
 use Rattle.std.specs.Prelude.{◌≡◌, ◌==◌, Bool, false, ℕ, suc, ◌+◌, ◌<◌, List, [], ◌∷◌, take, Option, Some, None, if◌then◌else◌, slice_get}
 use Rattle.std.specs.Option.{option_map, option_and_then}
 use Rattle.std.specs.Str.{bytes_eq}
-use Rattle.hash_defs.specs.CkbHash.{ckbhash}
-use Rattle.codec_defs.specs.Shape.{encoded, decoded}
-use Rattle.codec_defs.specs.Schema.{Header, header, Block, block}
+use Rattle.chain_defs.specs.CkbHash.{ckbhash}
+use Rattle.chain_defs.specs.Shape.{encoded, decoded}
+use Rattle.chain_defs.specs.Schema.{Header, header, Block, block}
 
 -- The hash of a header is that of its 208 bytes (RFC 0027).
 unfoldable pub header_hash : Header → List ℕ

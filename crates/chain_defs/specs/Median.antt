@@ -1,6 +1,6 @@
 -- The median time of a branch (RFC 0027, "timestamp"; docs/RULES.md, "Since and time").
 use Rattle.std.specs.Prelude.{◌≡◌, ◌↔◌, ℕ, ◌-◌, ◌*◌, ◌/◌, ◌<◌, ◌≤◌, ◌==◌, nat_lt, nat_le, if◌then◌else◌, List, [], ◌∷◌, length, map, drop, count_by, slice_index}
-use Rattle.codec_defs.specs.Schema.{Block}
+use Rattle.chain_defs.specs.Schema.{Block}
 
 -- sorted numbers and one more, in its order
 abbrev pub put_in_order : ℕ → List ℕ → List ℕ

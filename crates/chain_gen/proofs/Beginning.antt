@@ -1,10 +1,10 @@
 -- The start of a chain, by its parts.
 use Rattle.std.proofs.Common.{◌≡◌, ℕ, List, [], ◌∷◌, length, refl, ap, ◌∙◌}
-use Rattle.codec_defs.specs.Molecule as molecule
-use Rattle.codec_defs.specs.Shape.{encoded, bytes}
-use Rattle.codec_defs.specs.Schema as schema
-use Rattle.hash_defs.specs.CkbHash.{ckbhash}
-use Rattle.text_defs.specs.File.{elf_file, head}
+use Rattle.chain_defs.specs.Molecule as molecule
+use Rattle.chain_defs.specs.Shape.{encoded, bytes}
+use Rattle.chain_defs.specs.Schema as schema
+use Rattle.chain_defs.specs.CkbHash.{ckbhash}
+use Rattle.machine_defs.specs.File.{elf_file, head}
 use Rattle.mol_rows.specs.Rows.{HasLists, HasParts}
 use Rattle.gen_defs.specs.Start as start
 use Rattle.chain_gen.proofs.Parts.{no_items, no_parts}

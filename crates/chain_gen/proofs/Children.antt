@@ -1,8 +1,8 @@
 -- The header of the child of a block, by its fields.
 use Rattle.std.proofs.Common.{◌≡◌, ℕ, ◌+◌, List, ap, ◌∙◌}
-use Rattle.codec_defs.specs.Schema.{Header, Block}
-use Rattle.time_defs.specs.Epochs.{epoch_value, epoch_number, epoch_index, epoch_field}
-use Rattle.time_defs.specs.Dao.{field_bytes}
+use Rattle.chain_defs.specs.Schema.{Header, Block}
+use Rattle.chain_defs.specs.Epochs.{epoch_value, epoch_number, epoch_index, epoch_field}
+use Rattle.chain_defs.specs.Dao.{field_bytes}
 use Rattle.chain_defs.specs.Kept.{block_hash}
 use Rattle.chain_defs.specs.Hashes.{transactions_root, proposals_hash}
 use Rattle.gen_defs.specs.Start.{specification}

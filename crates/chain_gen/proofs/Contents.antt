@@ -4,11 +4,11 @@ use Rattle.std.specs.Prelude.{is_some, IfSome, unwrap_or, if◌then◌else◌}
 use Rattle.std.proofs.lemmas.Bool.Decides.{nat_tests}
 use Rattle.std.specs.List.{range_with_len}
 use Rattle.std.proofs.lemmas.List.{map-append}
-use Rattle.codec_defs.specs.Molecule as molecule
-use Rattle.codec_defs.specs.Shape.{Shape, encoded, fixvec, dynvec}
-use Rattle.codec_defs.specs.Schema as schema
-use Rattle.hash_defs.specs.Root.{root}
-use Rattle.time_defs.specs.Dao.{DaoField, next_field}
+use Rattle.chain_defs.specs.Molecule as molecule
+use Rattle.chain_defs.specs.Shape.{Shape, encoded, fixvec, dynvec}
+use Rattle.chain_defs.specs.Schema as schema
+use Rattle.chain_defs.specs.Root.{root}
+use Rattle.chain_defs.specs.Dao.{DaoField, next_field}
 use Rattle.chain_defs.specs.Hashes.{transaction_hash, witness_hash, transactions_root, proposal_id}
 use Rattle.mol_rows.specs.Rows.{BlockHasParts}
 use Rattle.gen_defs.specs.Start as start

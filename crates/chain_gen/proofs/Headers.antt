@@ -2,9 +2,9 @@
 use Rattle.std.proofs.Common.{◌≡◌, ℕ, List, [], ◌∷◌, ◌++◌, map, replicate, refl, ap, sym, ◌∙◌, append_assoc}
 use Rattle.std.proofs.lemmas.List.{append-nil}
 use Rattle.std.specs.List.{concat}
-use Rattle.hash_defs.specs.Root.{root}
-use Rattle.codec_defs.specs.Schema.{Transaction}
-use Rattle.time_defs.specs.Dao.{field_bytes}
+use Rattle.chain_defs.specs.Root.{root}
+use Rattle.chain_defs.specs.Schema.{Transaction}
+use Rattle.chain_defs.specs.Dao.{field_bytes}
 use Rattle.chain_defs.specs.Hashes.{transaction_hash, witness_hash, transactions_root, proposals_hash, uncles_hash}
 use Rattle.gen_defs.specs.Start as start
 use Rattle.chain_gen.specs.Headers.{header_of}

@@ -1,8 +1,8 @@
 -- What a block of a height moves, in numbers.
 use Rattle.std.proofs.Common.{◌≡◌, ℕ, ◌*◌, ◌+◌, pos, Bool, true, false, refl, ap, sym, ◌∙◌, add-mul}
 use Rattle.std.specs.Int.{from_bool}
-use Rattle.time_defs.specs.Dao.{Movement}
-use Rattle.reward_defs.specs.Shares.{primary_at, secondary_at}
+use Rattle.chain_defs.specs.Dao.{Movement}
+use Rattle.rule_defs.specs.Shares.{primary_at, secondary_at}
 use Rattle.gen_defs.specs.Start.{specification, lock}
 use Rattle.gen_defs.specs.Heights.{count_if, commits, pays, plain_cell, movement_at}
 

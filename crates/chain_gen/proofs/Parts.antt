@@ -1,11 +1,11 @@
 -- The parts that the calls write, as parts of the definitions' transactions.
 use Rattle.std.proofs.Common.{◌≡◌, ◌≤◌, ℕ, List, [], ◌∷◌, Option, Some, None, replicate, map, length, refl, ap, sym, ◌∙◌}
-use Rattle.codec_defs.specs.Molecule as molecule
-use Rattle.codec_defs.specs.Shape.{encoded, bytes, dynvec}
-use Rattle.codec_defs.specs.Schema as schema
+use Rattle.chain_defs.specs.Molecule as molecule
+use Rattle.chain_defs.specs.Shape.{encoded, bytes, dynvec}
+use Rattle.chain_defs.specs.Schema as schema
 use Rattle.chain_defs.specs.Hashes.{transaction_hash, witness_hash}
-use Rattle.hash_defs.specs.CkbHash.{ckbhash}
-use Rattle.family_defs.specs.Cellbase.{null_index}
+use Rattle.chain_defs.specs.CkbHash.{ckbhash}
+use Rattle.rule_defs.specs.Cellbase.{null_index}
 use Rattle.mol_rows.specs.Rows.{HasLists, HasParts}
 use Rattle.gen_defs.specs.Start as start
 use Rattle.gen_defs.specs.Heights as heights

@@ -1,10 +1,9 @@
 -- What a block is given, in numbers.
-use Rattle.std.proofs.Common.{◌≡◌, ℕ, ◌+◌, ◌*◌, ◌^◌, ◌<◌, ◌≤◌, Bool, true, false, refl, ap, ◌∙◌, arith}
-use Rattle.time_defs.specs.Dao.{DaoField, miner_part}
-use Rattle.reward_defs.specs.Shares.{primary_at, secondary_at}
-use Rattle.reward_defs.specs.Fees.{proposer_share, committer_share}
+use Rattle.std.proofs.Common.{◌≡◌, ℕ, ◌+◌, ◌*◌, ◌^◌, ◌<◌, ◌≤◌, Bool, true, false, ap, ◌∙◌, arith}
+use Rattle.chain_defs.specs.Dao.{DaoField, miner_part}
+use Rattle.rule_defs.specs.Shares.{primary_at, secondary_at}
 use Rattle.gen_defs.specs.Start.{specification, coin_capacity}
-use Rattle.gen_defs.specs.Heights.{count_if, commits, proposes, transfer_fee, reward_by}
+use Rattle.gen_defs.specs.Heights.{count_if, commits, proposes, reward_by}
 use Rattle.gen_defs.proofs.Numbers.{part_below, primary_bound, secondary_bound}
 
 pub miner_below : (old : DaoField) (height : ℕ) → coin_capacity ≤ old.issued → old.occupied < 2 ^ 64 → miner_part old (secondary_at specification height) < 2 ^ 50
@@ -19,9 +18,6 @@ issued_below old height primary miner issued occupied primary_is miner_is =
 pub count_bound : (there : Bool) → count_if there ≤ 1
 count_bound true = omega arith
 count_bound false = omega arith
-
-pub shared_fee : (committer_share transfer_fee ≡ 600) × (proposer_share transfer_fee ≡ 400)
-shared_fee = (refl, refl)
 
 pub reward_is : (old : DaoField) (height given committed proposed : ℕ) → given ≡ primary_at specification height + miner_part old (secondary_at specification height)
     → committed ≡ count_if (commits height) → proposed ≡ count_if (proposes height) → given + committed * 600 + proposed * 400 ≡ reward_by old height

@@ -1,7 +1,7 @@
 -- What the calls keep of what the blocks of a height hold, and of what a branch comes to with them.
 use Rattle.std.specs.Prelude.{◌≡◌, ◌<◌, ◌≤◌, ℕ, List, [], ◌∷◌, length, Option, Some, None, slice_get}
-use Rattle.codec_defs.specs.Shape.{encoded, fixvec, dynvec}
-use Rattle.codec_defs.specs.Schema as schema
+use Rattle.chain_defs.specs.Shape.{encoded, fixvec, dynvec}
+use Rattle.chain_defs.specs.Schema as schema
 use Rattle.chain_defs.specs.Hashes as hashes
 use Rattle.gen_defs.specs.Heights as heights
 use Rattle.chain_gen.specs.declared.heights.After.{After}

@@ -1,6 +1,6 @@
 -- The header of a chain's block, by what it has of its own.
 use Rattle.std.specs.Prelude.{[]}
-use Rattle.codec_defs.specs.Schema.{Header}
+use Rattle.chain_defs.specs.Schema.{Header}
 use Rattle.chain_defs.specs.Hashes.{uncles_hash}
 use Rattle.gen_defs.specs.Start.{specification}
 use Rattle.chain_gen.specs.declared.growth.HeaderFields.{HeaderFields}

@@ -1,7 +1,7 @@
 -- What the calls keep of the definitions' values: encodings and hashes.
 use Rattle.std.specs.Prelude.{◌≡◌, ◌≤◌, ℕ, List, [], ◌∷◌, Option, Some, None, length}
-use Rattle.codec_defs.specs.Shape.{encoded}
-use Rattle.codec_defs.specs.Schema as schema
+use Rattle.chain_defs.specs.Shape.{encoded}
+use Rattle.chain_defs.specs.Schema as schema
 use Rattle.chain_defs.specs.Hashes as hashes
 use Rattle.gen_defs.specs.Start as start
 

@@ -1,6 +1,6 @@
 -- What is kept of a walk over blocks: of a block its hash, its height and its time.
 use Rattle.std.specs.Prelude.{◌≡◌, ℕ, ◌+◌, List, length}
-use Rattle.codec_defs.specs.Schema.{Block}
+use Rattle.chain_defs.specs.Schema.{Block}
 use Rattle.chain_defs.specs.Kept.{block_hash}
 use Rattle.gen_defs.specs.Chain as chain
 use Rattle.chain_gen.specs.Content.{KeepsHeights}

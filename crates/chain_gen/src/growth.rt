@@ -1,7 +1,7 @@
 // The blocks of a chain, and which is the parent of which.
 ghost use Rattle.std.specs.Prelude.{◌≡◌, ◌<◌, ◌≤◌, ◌+◌, ◌-◌, ◌*◌, ◌&&◌, ◌++◌, [], ◌∷◌, OnOk, if◌then◌else◌, ℕ, not, length, map, IfOk};
-ghost use Rattle.codec_defs.specs.Shape.{encoded};
-ghost use Rattle.codec_defs.specs.Schema as schema;
+ghost use Rattle.chain_defs.specs.Shape.{encoded};
+ghost use Rattle.chain_defs.specs.Schema as schema;
 ghost use Rattle.gen_defs.specs.Start as start;
 ghost use Rattle.gen_defs.specs.Chain as chain;
 ghost use Rattle.mol_rows.specs.Rows.{BlockHasParts};

@@ -1,10 +1,10 @@
 // What the blocks of a height hold.
 ghost use Rattle.std.specs.Prelude.{◌≡◌, ◌<◌, ◌≤◌, ◌+◌, ◌^◌, [], ◌∷◌, map, length, IfOk, IfSome, is_some, unwrap_or, if◌then◌else◌};
-ghost use Rattle.hash_defs.specs.Root as merkle;
-ghost use Rattle.codec_defs.specs.Molecule as molecule;
+ghost use Rattle.chain_defs.specs.Root as merkle;
+ghost use Rattle.chain_defs.specs.Molecule as molecule;
 ghost use Rattle.chain_defs.specs.Hashes.{proposals_hash, proposal_id};
-ghost use Rattle.time_defs.specs.Dao.{next_field, miner_part};
-ghost use Rattle.reward_defs.specs.Shares.{primary_at, secondary_at};
+ghost use Rattle.chain_defs.specs.Dao.{next_field, miner_part};
+ghost use Rattle.rule_defs.specs.Shares.{primary_at, secondary_at};
 ghost use Rattle.gen_defs.specs.Heights as heights;
 ghost use Rattle.gen_defs.specs.Start.{specification, coin_capacity};
 ghost use Rattle.chain_gen.specs.Known.{IsTx, AreCommon, outputs_of};

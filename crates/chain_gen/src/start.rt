@@ -1,7 +1,7 @@
 // What a chain begins with: its specification, the lock of its cells, its genesis.
 ghost use Rattle.std.specs.Prelude.{◌≡◌, length, IfOk};
-ghost use Rattle.codec_defs.specs.Shape.{encoded};
-ghost use Rattle.codec_defs.specs.Schema as schema;
+ghost use Rattle.chain_defs.specs.Shape.{encoded};
+ghost use Rattle.chain_defs.specs.Schema as schema;
 ghost use Rattle.gen_defs.specs.Start as start;
 ghost use Rattle.chain_gen.specs.Known.{IsTx};
 

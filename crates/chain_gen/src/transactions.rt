@@ -1,7 +1,7 @@
 // The transactions of a chain.
 ghost use Rattle.std.specs.Prelude.{◌≡◌, ◌≤◌, [], map, length, IfOk};
-ghost use Rattle.codec_defs.specs.Shape.{encoded, bytes, dynvec};
-ghost use Rattle.codec_defs.specs.Schema as schema;
+ghost use Rattle.chain_defs.specs.Shape.{encoded, bytes, dynvec};
+ghost use Rattle.chain_defs.specs.Schema as schema;
 ghost use Rattle.mol_rows.specs.Rows.{HasParts};
 ghost use Rattle.gen_defs.specs.Heights as heights;
 ghost use Rattle.gen_defs.specs.Start as start;

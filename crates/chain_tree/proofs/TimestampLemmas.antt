@@ -6,7 +6,7 @@ use Rattle.std.specs.Ordering.{nat_cmp}
 use Rattle.std.proofs.lemmas.List.{length_push, length-reverse, drop-append-le, drop_all, map-append, reverse-append, take_more_set, append_assoc}
 use Rattle.std.proofs.lemmas.Option.{slice_get_within}
 use Rattle.std.proofs.lemmas.List.Sorted.{IsPermutation-reverse, IsNonDecreasingBy-from_sort, sum_by-IsPermutation, length_permutation}
-use Rattle.codec_defs.specs.Schema.{Block}
+use Rattle.chain_defs.specs.Schema.{Block}
 use Rattle.chain_defs.specs.Kept.{place_of, parent_place}
 use Rattle.chain_defs.specs.Branch.{branch}
 use Rattle.chain_defs.specs.Median.{median_of, last_timestamps, median_time}

@@ -1,8 +1,8 @@
 -- Entries that stand for kept blocks, each at its block's place.
 use Rattle.std.specs.Prelude.{◌≡◌, ℕ, ◌^◌, ◌<◌, List, length, Some, IfSome, IsTrue}
 use Rattle.std.specs.List.{AllZip}
-use Rattle.codec_defs.specs.Schema.{Block}
-use Rattle.time_defs.specs.Dao.{is_rated}
+use Rattle.chain_defs.specs.Schema.{Block}
+use Rattle.chain_defs.specs.Dao.{is_rated}
 use Rattle.chain_defs.specs.Kept.{block_hash, block_at, parent_place, IsKept}
 use Rattle.chain_tree.specs.declared.entry.Entry.{Entry}
 use Rattle.chain_tree.specs.Entries.{entry_at}

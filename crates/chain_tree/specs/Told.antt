@@ -1,6 +1,6 @@
 -- What a source of kept blocks tells.
 use Rattle.std.specs.Prelude.{ℕ, List, map}
-use Rattle.codec_defs.specs.Schema.{Block}
+use Rattle.chain_defs.specs.Schema.{Block}
 
 -- A kept block with its ext, as bytes (docs/STORE.md, "The ext"). That of the genesis is never asked for.
 pub record Stored : Type 0 where

@@ -1,6 +1,6 @@
 // The median time of a branch, without memory: over an array of its own.
 ghost use Rattle.std.specs.Prelude.{◌≡◌, ◌<◌, ◌≤◌, List, length, take};
-ghost use Rattle.codec_defs.specs.Schema.{Block};
+ghost use Rattle.chain_defs.specs.Schema.{Block};
 ghost use Rattle.chain_defs.specs.Branch.{branch};
 ghost use Rattle.chain_defs.specs.Median as median;
 ghost use Rattle.chain_tree.specs.Entries.{IsTree};

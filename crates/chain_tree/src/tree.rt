@@ -1,6 +1,6 @@
 // The tree of the kept blocks.
 ghost use Rattle.std.specs.Prelude.{◌≡◌, ◌+◌, ◌^◌, ◌<◌, ◌≤◌, ◌++◌, ◌∷◌, [], List, Some, None, length, IfOk, IsOk, OnOk, OnErr, IfSome, IsSomeAnd, slice_get};
-ghost use Rattle.codec_defs.specs.Schema.{Block};
+ghost use Rattle.chain_defs.specs.Schema.{Block};
 ghost use Rattle.chain_defs.specs.Kept.{block_at, place_of};
 ghost use Rattle.chain_defs.specs.Branch.{branch, branch_places};
 ghost use Rattle.chain_defs.specs.Median.{median_time};

@@ -3,7 +3,7 @@ use Rattle.std.proofs.Common.{◌≡◌, ℕ, List, [], ◌++◌, sym, ap, refl,
 use Rattle.std.proofs.lemmas.List.{append_assoc, append-nil}
 use Rattle.std.specs.Prelude.{Option, None, Some, Result, Ok, Err, IfSome, OnOk}
 use Rattle.std.specs.Io.KnownBytes.{Appends, Consumes, IsAtEnd}
-use Rattle.hash_defs.specs.CkbHash.{ckbhash}
+use Rattle.chain_defs.specs.CkbHash.{ckbhash}
 use Rattle.ckbhash.specs.Checksum.{checksum_line, digest_line}
 use Rattle.blake2b_ckb.specs.Hasher.{Absorbed, Holds}
 

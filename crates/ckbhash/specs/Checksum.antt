@@ -1,7 +1,7 @@
 -- What the program prints.
 use Rattle.std.specs.Prelude.{ℕ, List, [], ◌∷◌, ◌++◌, codes}
 use Rattle.hex.specs.Hex.{encode_lower}
-use Rattle.hash_defs.specs.CkbHash.{ckbhash}
+use Rattle.chain_defs.specs.CkbHash.{ckbhash}
 
 -- the line of a digest, as `b2sum` writes that of its standard input: lower-case hex digits, two
 -- spaces, `-` and a line feed

@@ -2,7 +2,7 @@
 
 ghost use Rattle.std.specs.Prelude.{◌≡◌, ◌<◌, IfOk, IfSome, OnOk, length};
 ghost use Rattle.std.specs.Io.KnownBytes.{Appends};
-ghost use Rattle.hash_defs.specs.CkbHash.{ckbhash};
+ghost use Rattle.chain_defs.specs.CkbHash.{ckbhash};
 ghost use Rattle.ckbhash.specs.Checksum.{checksum_line, digest_line};
 
 use blake2b_ckb::Hasher;

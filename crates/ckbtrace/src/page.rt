@@ -2,9 +2,9 @@
 ghost use Rattle.std.specs.Prelude.{◌<◌};
 
 use crate::jumps::Jumps;
+use machine_defs::Outcome;
 use std::alloc::{AllocError, Global};
 use std::fmt::Write;
-use vm_defs::Outcome;
 use vm_mem::Memory;
 use vm_step::Machine;
 

@@ -5,9 +5,9 @@ use crate::jumps::Jumps;
 use crate::page::page_of;
 use crate::status::Status;
 use crate::text::text_line;
+use machine_defs::{Outcome, Step};
 use outside::{Sink, write_all};
 use std::alloc::Global;
-use vm_defs::{Outcome, Step};
 use vm_step::Machine;
 use vm_sys::{Alone, Sys, handle};
 

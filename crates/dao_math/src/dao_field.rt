@@ -2,8 +2,8 @@
 
 ghost use Rattle.std.specs.Prelude.{◌≡◌, length};
 ghost use Rattle.std.specs.Int.{w64, to_le_bytes, from_le_bytes};
-ghost use Rattle.time_defs.specs.Dao as dao;
-ghost use Rattle.time_defs.specs.Dao.{field_bytes, field_of_bytes};
+ghost use Rattle.chain_defs.specs.Dao as dao;
+ghost use Rattle.chain_defs.specs.Dao.{field_bytes, field_of_bytes};
 
 use std::marker::Model;
 
@@ -21,7 +21,7 @@ pub struct Dao {
 }
 
 impl Model for Dao {
-    ghost use Rattle.time_defs.specs.Dao.{DaoField};
+    ghost use Rattle.chain_defs.specs.Dao.{DaoField};
 
     ghost Value = { DaoField };
 
@@ -30,7 +30,7 @@ impl Model for Dao {
     ghost inverse = { λ field. record { c = field.issued; ar = field.rate; s = field.savings; u = field.occupied } };
 }
 
-#[tactic(auto, unfolding(time_defs::specs::Dao::field_of_bytes))]
+#[tactic(auto, unfolding(chain_defs::specs::Dao::field_of_bytes))]
 impl Dao {
     /// The field that the bytes hold.
     pub fn read(b: &[u8; 32]) -> Dao

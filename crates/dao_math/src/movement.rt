@@ -1,8 +1,8 @@
 //! How a block moves the DAO field.
 
 ghost use Rattle.std.specs.Prelude.{◌≡◌, ◌+◌, ◌*◌, ◌/◌, ◌<◌, ◌-ℤ◌, pos};
-ghost use Rattle.time_defs.specs.Dao as rules;
-ghost use Rattle.time_defs.specs.Dao.{as_u64};
+ghost use Rattle.chain_defs.specs.Dao as rules;
+ghost use Rattle.chain_defs.specs.Dao.{as_u64};
 
 use crate::dao_field::Dao;
 use std::marker::Model;
@@ -21,7 +21,7 @@ pub struct DaoMove {
 }
 
 impl Model for DaoMove {
-    ghost use Rattle.time_defs.specs.Dao.{Movement};
+    ghost use Rattle.chain_defs.specs.Dao.{Movement};
 
     ghost Value = { Movement };
 
@@ -31,7 +31,7 @@ impl Model for DaoMove {
 }
 
 /// The field after a block. None where one of its four numbers is below 0 or above the greatest u64.
-#[tactic(auto, unfolding(time_defs::specs::Dao::next_field))]
+#[tactic(auto, unfolding(chain_defs::specs::Dao::next_field))]
 pub fn next_field(old: &Dao, move_: &DaoMove) -> Option<Dao>
     requires { 0 < old.now.issued }
     ensures { result ≡ rules.next_field old.now move_.now }

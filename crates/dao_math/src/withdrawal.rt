@@ -1,7 +1,7 @@
 //! What a withdrawing cell counts.
 
 ghost use Rattle.std.specs.Prelude.{◌≡◌, ◌≤◌, ◌<◌, pos, IfSome};
-ghost use Rattle.time_defs.specs.Dao.{counted_capacity, as_u64};
+ghost use Rattle.chain_defs.specs.Dao.{counted_capacity, as_u64};
 
 /// What a withdrawing cell of capacity `c` and occupied capacity `o` counts, in shannons: what lies above
 /// `o` has grown with the accumulated rate from that of the deposit block, `ar_m`, to that of the block

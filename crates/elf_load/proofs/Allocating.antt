@@ -1,6 +1,6 @@
 -- The pages that are allocated for the segments of a file, one after another.
 use Rattle.std.proofs.Common.{◌≡◌, ◌⊎◌, ℕ, Bool, List, [], ◌∷◌, inl, inr, subst}
-use Rattle.vm_defs.specs.Elf.{Segment, segments}
+use Rattle.machine_defs.specs.Elf.{Segment, segments}
 use Rattle.vm_mem.specs.Pages.{AreAllocated, IsAllocated, IsUnder}
 use Rattle.elf_load.specs.Placing.{Allocates, HoldsBytes}
 

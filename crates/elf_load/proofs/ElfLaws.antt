@@ -3,11 +3,11 @@ use Rattle.std.proofs.Common.{◌≡◌, ℕ, ◌+◌, ◌-◌, ◌<◌, ◌≤�
 use Rattle.std.proofs.lemmas.Bool.{cases_lt}
 use Rattle.std.proofs.lemmas.Bool.Decides.{nat_tests}
 use Rattle.std.proofs.lemmas.List.{get_or-append_right, get_or-drop, get_or-replicate, get_or-take, get_or_append_left, length-append, length-replicate}
-use Rattle.vm_defs.specs.Memory.{Memory, memory_size, new_memory}
-use Rattle.vm_defs.specs.Elf.{Program, Segment, broken_elf, broken_segment, broken_segments, contents, load_elf, program_of, segments, unless_broken, with_segment}
+use Rattle.machine_defs.specs.Memory.{Memory, memory_size, new_memory}
+use Rattle.machine_defs.specs.Elf.{Program, Segment, broken_elf, broken_segment, broken_segments, contents, load_elf, program_of, segments, unless_broken, with_segment}
 use Rattle.elf_load.specs.Laws.{LastSegmentCounts, byte_of, byte_or, covers, last_covering}
 use Rattle.elf_load.proofs.InMemory.{in-memory, length-inside}
-use Rattle.vm_defs.proofs.CodeLaws.{get_or-before, get_or-after, get_or-written, length-overwritten}
+use Rattle.machine_defs.proofs.CodeLaws.{get_or-before, get_or-after, get_or-written, length-overwritten}
 use Rattle.elf_load.proofs.Segments.{Sound, both-none, sound-of_none, sound-parts}
 
 -- ---- one segment

@@ -4,10 +4,10 @@ use Rattle.std.specs.List.{list_any}
 use Rattle.std.proofs.lemmas.Bool.{cases_lt, false_from_ne_true, false≢true}
 use Rattle.std.proofs.lemmas.Bool.Decides.{nat_tests}
 use Rattle.std.proofs.lemmas.List.{length-drop, length-replicate, length-take}
-use Rattle.vm_defs.specs.declared.memory.MemFault.{MemFault}
-use Rattle.vm_defs.specs.declared.memory.PageKind.TheVariants.{Data}
-use Rattle.vm_defs.specs.Memory.{Memory, is_code, is_out_of_range, kinds_under, memory_size, overwritten, page_count, page_size, set_code, store}
-use Rattle.vm_defs.specs.Elf.{Segment, can_run, clashes, contents, first_page, is_inside, last_page, page_span, with_segment}
+use Rattle.machine_defs.specs.declared.memory.MemFault.{MemFault}
+use Rattle.machine_defs.specs.declared.memory.PageKind.TheVariants.{Data}
+use Rattle.machine_defs.specs.Memory.{Memory, is_code, is_out_of_range, kinds_under, memory_size, overwritten, page_count, page_size, set_code, store}
+use Rattle.machine_defs.specs.Elf.{Segment, can_run, clashes, contents, first_page, is_inside, last_page, page_span, with_segment}
 use Rattle.vm_mem.specs.Paged.{Stores}
 use Rattle.vm_mem.specs.Pages.{AreAllocated}
 use Rattle.elf_load.specs.Loads.{AllAllocated}
@@ -17,7 +17,7 @@ use Rattle.elf_load.specs.Judging.{makes_code}
 use Rattle.elf_load.specs.Placing.{HasCode, with_code, with_contents}
 use Rattle.elf_load.proofs.Lists.{any-of_passes, any-weaker, passes-of_any}
 use Rattle.elf_load.proofs.Touching.{clash-of_code, touches-from, touches-of_span, touches-parts}
-use Rattle.vm_defs.proofs.Overwritten.{overwritten-more}
+use Rattle.machine_defs.proofs.Overwritten.{overwritten-more}
 
 -- ---- ranges in memory
 

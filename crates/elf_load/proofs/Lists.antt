@@ -4,8 +4,8 @@ use Rattle.std.specs.List.{list_any}
 use Rattle.std.proofs.lemmas.Bool.{or_cases, or_left, or_right}
 use Rattle.std.proofs.lemmas.List.{get_or-drop, get_or-replicate, get_or-take, get_or_default, length-drop, length-replicate, length-take}
 use Rattle.std.proofs.lemmas.List.Folds.{Any-from_list_any, list_any_at}
-use Rattle.vm_defs.specs.Memory.{overwritten}
-use Rattle.vm_defs.proofs.CodeLaws.{get_or-after, get_or-written}
+use Rattle.machine_defs.specs.Memory.{overwritten}
+use Rattle.machine_defs.proofs.CodeLaws.{get_or-after, get_or-written}
 
 -- ---- an overwritten range
 

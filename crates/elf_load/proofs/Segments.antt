@@ -4,9 +4,9 @@ use Rattle.std.specs.List.{list_any}
 use Rattle.std.proofs.lemmas.Bool.{cases_lt}
 use Rattle.std.proofs.lemmas.Bool.Decides.{nat_tests}
 use Rattle.std.proofs.lemmas.List.{append-nil, append_assoc}
-use Rattle.vm_defs.specs.declared.memory.PageKind.{PageKind}
-use Rattle.vm_defs.specs.Memory.{Memory, is_code, is_out_of_range, kinds_under, new_memory, page_count}
-use Rattle.vm_defs.specs.Elf.{Segment, broken_elf, broken_header, broken_segment, broken_segments, clashes, first_of, first_page, has_table, header_size, is_inside, is_loaded, last_page, load_elf, page_span, program_header_size, program_of, segment_at, segments, segments_from, with_segment}
+use Rattle.machine_defs.specs.declared.memory.PageKind.{PageKind}
+use Rattle.machine_defs.specs.Memory.{Memory, is_code, is_out_of_range, kinds_under, new_memory, page_count}
+use Rattle.machine_defs.specs.Elf.{Segment, broken_elf, broken_header, broken_segment, broken_segments, clashes, first_of, first_page, has_table, header_size, is_inside, is_loaded, last_page, load_elf, page_span, program_header_size, program_of, segment_at, segments, segments_from, with_segment}
 use Rattle.elf_load.specs.Judging.{JudgesSegment, JudgesSegments, Marks, loaded_at}
 use Rattle.elf_load.specs.Placing.{HasCode}
 use Rattle.elf_load.proofs.InMemory.{in-memory, is-zero, ne-zero, no_code-under}

@@ -5,13 +5,13 @@ use Rattle.std.proofs.lemmas.Bool.{and_from, and_left, and_parts, and_right, cas
 use Rattle.std.proofs.lemmas.Bool.Decides.{nat_tests}
 use Rattle.std.proofs.lemmas.List.{length-replicate, get_or-replicate}
 use Rattle.std.proofs.lemmas.List.Folds.{Any-from_list_any, list_any-append, list_any_at}
-use Rattle.vm_defs.specs.declared.memory.PageKind.{PageKind}
-use Rattle.vm_defs.specs.declared.memory.PageKind.TheVariants.{Data, Code}
-use Rattle.vm_defs.specs.Memory.{Memory, is_code, new_memory, overwritten, page_count}
-use Rattle.vm_defs.specs.Elf.{Segment, can_run, clashes, first_page, kinds_with, last_page, page_span, share_a_page}
+use Rattle.machine_defs.specs.declared.memory.PageKind.{PageKind}
+use Rattle.machine_defs.specs.declared.memory.PageKind.TheVariants.{Data, Code}
+use Rattle.machine_defs.specs.Memory.{Memory, is_code, new_memory, overwritten, page_count}
+use Rattle.machine_defs.specs.Elf.{Segment, can_run, clashes, first_page, kinds_with, last_page, page_span, share_a_page}
 use Rattle.elf_load.specs.Judging.{Marks, is_closed, kind_after, kind_of, makes_code, touches}
 use Rattle.elf_load.specs.Placing.{HasCode}
-use Rattle.vm_defs.proofs.CodeLaws.{get_or-before, length-overwritten}
+use Rattle.machine_defs.proofs.CodeLaws.{get_or-before, length-overwritten}
 use Rattle.elf_load.proofs.Lists.{any-of_passes, any-weaker, filled-behind, filled-within, passes-of_any, same-tests}
 
 -- ---- the pages of a segment

@@ -1,10 +1,10 @@
 -- How a file is judged segment by segment, and what a file that was judged is.
 use Rattle.std.specs.Prelude.{◌≡◌, ℕ, ◌<◌, ◌≤◌, ◌^◌, nat_lt, nat_le, ◌&&◌, Bool, true, false, List, [], ◌∷◌, ◌++◌, length, slice_index_or, sum_by, Option, Some, None, Result, Ok, Err, if◌then◌else◌}
 use Rattle.std.specs.List.{list_any}
-use Rattle.vm_defs.specs.declared.memory.PageKind.{PageKind}
-use Rattle.vm_defs.specs.declared.memory.PageKind.TheVariants.{Data, Code}
-use Rattle.vm_defs.specs.Memory.{page_count}
-use Rattle.vm_defs.specs.Elf.{Program, Segment, broken_elf, broken_segment, broken_segments, can_run, first_page, is_loaded, last_page, program_of, segment_at, segments}
+use Rattle.machine_defs.specs.declared.memory.PageKind.{PageKind}
+use Rattle.machine_defs.specs.declared.memory.PageKind.TheVariants.{Data, Code}
+use Rattle.machine_defs.specs.Memory.{page_count}
+use Rattle.machine_defs.specs.Elf.{Program, Segment, broken_elf, broken_segment, broken_segments, can_run, first_page, is_loaded, last_page, program_of, segment_at, segments}
 
 -- the segment of the program header at an offset, if it is one that is loaded
 abbrev pub loaded_at : List ℕ → ℕ → Option Segment

@@ -1,8 +1,8 @@
 -- What stands in memory after a file was loaded (ELF-64 Object File Format, "Program Header Table": segments in the order
 -- of their headers).
 use Rattle.std.specs.Prelude.{◌≡◌, ℕ, ◌+◌, ◌-◌, ◌<◌, nat_lt, nat_le, ◌&&◌, Bool, List, [], ◌∷◌, slice_index_or, Option, Some, None, Ok, if◌then◌else◌}
-use Rattle.vm_defs.specs.Memory.{memory_size}
-use Rattle.vm_defs.specs.Elf.{Program, Segment, load_elf, segments}
+use Rattle.machine_defs.specs.Memory.{memory_size}
+use Rattle.machine_defs.specs.Elf.{Program, Segment, load_elf, segments}
 
 -- the segment has a byte at an address
 abbrev pub covers : ℕ → Segment → Bool

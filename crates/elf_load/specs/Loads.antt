@@ -1,7 +1,7 @@
 -- What loading answers.
 use Rattle.std.specs.Prelude.{◌≡◌, ℕ, ◌<◌, Bool, List, Result, Ok, Err}
-use Rattle.vm_defs.specs.Memory.{Memory, page_count}
-use Rattle.vm_defs.specs.Elf.{Program}
+use Rattle.machine_defs.specs.Memory.{Memory, page_count}
+use Rattle.machine_defs.specs.Elf.{Program}
 use Rattle.vm_mem.specs.Pages.{IsAllocated}
 use Rattle.elf_load.specs.declared.loader.Entry.{Entry}
 use Rattle.elf_load.specs.declared.stop.ElfStop.{ElfStop}

@@ -1,9 +1,9 @@
 -- A segment in memory, and the pages that segments take.
 use Rattle.std.specs.Prelude.{◌≡◌, ◌↔◌, ◌⊎◌, ℕ, ◌<◌, Bool, List, [], ◌∷◌, length, slice_index_or}
 use Rattle.std.specs.List.{list_any}
-use Rattle.vm_defs.specs.declared.memory.PageKind.TheVariants.{Data}
-use Rattle.vm_defs.specs.Memory.{Memory, is_code, overwritten, page_count}
-use Rattle.vm_defs.specs.Elf.{Segment, contents, kinds_with}
+use Rattle.machine_defs.specs.declared.memory.PageKind.TheVariants.{Data}
+use Rattle.machine_defs.specs.Memory.{Memory, is_code, overwritten, page_count}
+use Rattle.machine_defs.specs.Elf.{Segment, contents, kinds_with}
 use Rattle.vm_mem.specs.Pages.{IsAllocated, IsUnder}
 use Rattle.elf_load.specs.Judging.{makes_code}
 

@@ -1,6 +1,6 @@
 // The fields of a file: numbers at their places, little-endian.
 ghost use Rattle.std.specs.Prelude.{◌≡◌, ◌+◌, ◌≤◌, length};
-ghost use Rattle.vm_defs.specs.Elf.{field, is_inside};
+ghost use Rattle.machine_defs.specs.Elf.{field, is_inside};
 
 pub(crate) fn u8_at(file: &[u8], at: usize) -> u8
     requires { at + 1 ≤ length file.now }
@@ -40,7 +40,7 @@ pub(crate) fn u64_at(file: &[u8], at: usize) -> u64
 }
 
 // Whether so many bytes from an offset on lie inside the file. The sum does not wrap.
-#[tactic(auto, unfolding(vm_defs::specs::Elf::is_inside))]
+#[tactic(auto, unfolding(machine_defs::specs::Elf::is_inside))]
 pub(crate) fn is_inside(file: &[u8], offset: u64, count: u64) -> bool
     ensures { result ≡ is_inside file.now offset count }
 {

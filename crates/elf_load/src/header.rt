@@ -1,7 +1,7 @@
 // The file's header, and the program headers that it names.
 ghost use Rattle.std.specs.Prelude.{◌≡◌, ◌+◌, ◌*◌, ◌<◌, ◌≤◌, length, take, true, None};
 ghost use Rattle.std.specs.Str.{bytes_eq};
-ghost use Rattle.vm_defs.specs.Elf.{broken_header, e_entry, e_phentsize, e_phnum, e_phoff, has_table, header_size, is_for_machine, magic, program_header_size};
+ghost use Rattle.machine_defs.specs.Elf.{broken_header, e_entry, e_phentsize, e_phnum, e_phoff, has_table, header_size, is_for_machine, magic, program_header_size};
 ghost use Rattle.elf_load.specs.Judging.{loaded_at};
 
 use super::field::{is_inside, u8_at, u16_at, u64_at};
@@ -28,7 +28,7 @@ pub(crate) struct Header<'a> {
 
 impl<'a> Model for Header<'a> {
     ghost use Rattle.std.specs.Prelude.{ℕ, ◌^◌, ◌<◌, ◌≤◌, List, length};
-    ghost use Rattle.vm_defs.specs.Elf.{header_size};
+    ghost use Rattle.machine_defs.specs.Elf.{header_size};
 
     ghost Value = { List ℕ };
 
@@ -38,7 +38,7 @@ impl<'a> Model for Header<'a> {
 }
 
 /// The first of E 1 to E 4 that a file meets.
-#[tactic(auto, unfolding(vm_defs::specs::Elf::broken_header))]
+#[tactic(auto, unfolding(machine_defs::specs::Elf::broken_header))]
 pub(crate) fn broken_header(file: &[u8]) -> Option<u8>
     ensures { result ≡ broken_header file.now }
 {
@@ -116,7 +116,7 @@ impl<'a> Header<'a> {
     }
 
     /// The segment of program header `index`, from 0, if it is one that is loaded.
-    #[tactic(auto, unfolding(vm_defs::specs::Elf::is_inside))]
+    #[tactic(auto, unfolding(machine_defs::specs::Elf::is_inside))]
     pub(crate) fn segment(&self, index: u16) -> Option<Segment>
         requires table { has_table self.now ≡ true }
         requires index { index < e_phnum self.now }

@@ -1,8 +1,8 @@
 // A file is judged by its headers alone.
 ghost use Rattle.std.specs.Prelude.{◌≡◌, ◌^◌, ◌≤◌, List, None, IfOk, IsOk, OnErr, OnOk, ◌<◌};
-ghost use Rattle.vm_defs.specs.Memory.{new_memory};
-ghost use Rattle.vm_defs.specs.Elf as elf;
-ghost use Rattle.vm_defs.specs.Elf.{broken_header, broken_segment, load_elf, segments};
+ghost use Rattle.machine_defs.specs.Memory.{new_memory};
+ghost use Rattle.machine_defs.specs.Elf as elf;
+ghost use Rattle.machine_defs.specs.Elf.{broken_header, broken_segment, load_elf, segments};
 ghost use Rattle.elf_load.specs.Judging.{JudgesSegment, JudgesSegments, Marks, program_in};
 ghost use Rattle.elf_load.specs.Loads.{AllAllocated};
 ghost use Rattle.elf_load.specs.Placing.{Allocates};
@@ -24,7 +24,7 @@ pub struct ValidElf<'a> {
 }
 
 impl<'a> Model for ValidElf<'a> {
-    ghost use Rattle.vm_defs.specs.Elf.{program_of, segments};
+    ghost use Rattle.machine_defs.specs.Elf.{program_of, segments};
     ghost use Rattle.elf_load.specs.Judging.{IsJudged, JudgedFile};
 
     ghost Value = { JudgedFile };
@@ -54,7 +54,7 @@ pub fn judge<'a>(file: &'a [u8]) -> Result<ValidElf<'a>, u8>
 
 impl<'a> ValidElf<'a> {
     /// The address of its first instruction. It is taken as it stands in the file.
-    #[tactic(auto, unfolding(vm_defs::specs::Elf::program_of))]
+    #[tactic(auto, unfolding(machine_defs::specs::Elf::program_of))]
     pub fn pc(&self) -> u64
         ensures { result ≡ self.now.program.pc }
     {
@@ -117,7 +117,7 @@ fn judge_segment(file: &[u8], segment: &Segment, touched: &mut Touched) -> Resul
 }
 
 // The first of E 5 to E 8 that a segment meets after earlier ones.
-#[tactic(auto, unfolding(vm_defs::specs::Elf::broken_segment))]
+#[tactic(auto, unfolding(machine_defs::specs::Elf::broken_segment))]
 fn broken_segment(file: &[u8], segment: &Segment, touched: &Touched) -> Option<u8>
     ensures { (earlier : List elf.Segment) → Marks touched.now.kinds earlier → result ≡ broken_segment file.now earlier segment.now }
 {

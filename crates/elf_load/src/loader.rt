@@ -1,7 +1,7 @@
 // A file is judged, and then placed.
 ghost use Rattle.std.specs.Prelude.{◌≡◌, ◌≢◌, ◌^◌, ◌≤◌, ℕ, Err, IfOk};
-ghost use Rattle.vm_defs.specs.Memory.{new_memory};
-ghost use Rattle.vm_defs.specs.Elf.{load_elf, segments};
+ghost use Rattle.machine_defs.specs.Memory.{new_memory};
+ghost use Rattle.machine_defs.specs.Elf.{load_elf, segments};
 ghost use Rattle.elf_load.specs.Loads.{AllAllocated, Loads};
 ghost use Rattle.elf_load.specs.Placing.{Allocates};
 

@@ -1,15 +1,15 @@
 // The segments of a judged file are placed in memory.
 ghost use Rattle.std.specs.Prelude.{◌≡◌, ◌+◌, ◌<◌, ◌≤◌, [], ◌∷◌, false, slice_range, sum_by, true, fold, None, IsOk, OnErr, OnOk};
 ghost use Rattle.std.specs.List.{list_any};
-ghost use Rattle.vm_defs.specs.Memory.{is_code, is_out_of_range, kinds_under, new_memory};
-ghost use Rattle.vm_defs.specs.Elf.{broken_elf, is_inside, segments, with_segment};
+ghost use Rattle.machine_defs.specs.Memory.{is_code, is_out_of_range, kinds_under, new_memory};
+ghost use Rattle.machine_defs.specs.Elf.{broken_elf, is_inside, segments, with_segment};
 ghost use Rattle.elf_load.specs.Placing.{Allocates, with_code, with_contents};
 ghost use Rattle.elf_load.specs.Loads.{AllAllocated};
 
 use super::header::Header;
 use super::segment::Segment;
+use machine_defs::PAGE_SIZE;
 use outside::NoMemory;
-use vm_defs::PAGE_SIZE;
 use vm_mem::{MemStop, Memory};
 
 /// Places the segments of a file that meets none of the conditions.
@@ -52,7 +52,7 @@ fn place(file: &[u8], segment: &Segment, memory: &mut Memory) -> Result<(), NoMe
 }
 
 // Writes the bytes of a segment, and zeros after them.
-#[tactic(auto, unfolding(vm_defs::specs::Memory::is_out_of_range, vm_defs::specs::Memory::memory_size))]
+#[tactic(auto, unfolding(machine_defs::specs::Memory::is_out_of_range, machine_defs::specs::Memory::memory_size))]
 fn write_contents(file: &[u8], segment: &Segment, memory: &mut Memory) -> Result<(), NoMemory>
     requires in_file { is_inside file.now segment.now.offset segment.now.file_size ≡ true }
     requires sizes { segment.now.file_size ≤ segment.now.memory_size }
@@ -76,7 +76,7 @@ fn write_contents(file: &[u8], segment: &Segment, memory: &mut Memory) -> Result
     Ok(())
 }
 
-#[tactic(auto, unfolding(vm_defs::specs::Elf::is_inside))]
+#[tactic(auto, unfolding(machine_defs::specs::Elf::is_inside))]
 fn bytes_in_file<'a>(file: &'a [u8], segment: &Segment) -> &'a [u8]
     requires { is_inside file.now segment.now.offset segment.now.file_size ≡ true }
     ensures { result.now ≡ slice_range file.now segment.now.offset (segment.now.offset + segment.now.file_size) }
@@ -87,7 +87,7 @@ fn bytes_in_file<'a>(file: &'a [u8], segment: &Segment) -> &'a [u8]
 }
 
 // Makes the pages of a segment code where it can run.
-#[tactic(auto, unfolding(vm_defs::specs::Memory::page_count))]
+#[tactic(auto, unfolding(machine_defs::specs::Memory::page_count))]
 fn make_code(segment: &Segment, memory: &mut Memory)
     requires in_memory { is_out_of_range segment.now.address segment.now.memory_size ≡ false }
     requires no_code { list_any is_code (kinds_under memory.old.memory segment.now.address segment.now.memory_size) ≡ false }

@@ -1,12 +1,12 @@
 // A segment of the program: what a program header of type PT_LOAD says.
 ghost use Rattle.std.specs.Prelude.{◌≡◌, ◌+◌, ◌≤◌, length, false};
-ghost use Rattle.vm_defs.specs.Memory.{is_out_of_range, page_count};
-ghost use Rattle.vm_defs.specs.Elf.{can_be_read, can_be_written, can_run, first_page, page_span, program_header_size};
+ghost use Rattle.machine_defs.specs.Memory.{is_out_of_range, page_count};
+ghost use Rattle.machine_defs.specs.Elf.{can_be_read, can_be_written, can_run, first_page, page_span, program_header_size};
 ghost use Rattle.elf_load.specs.Judging.{kind_of, loaded_at};
 
 use super::field::{u32_at, u64_at};
+use machine_defs::{MEMORY_SIZE, PAGE_SIZE, PageKind};
 use std::marker::Model;
-use vm_defs::{MEMORY_SIZE, PAGE_SIZE, PageKind};
 
 const PT_LOAD: u32 = 1;
 
@@ -26,7 +26,7 @@ pub(crate) struct Segment {
 }
 
 impl Model for Segment {
-    ghost use Rattle.vm_defs.specs.Elf as elf;
+    ghost use Rattle.machine_defs.specs.Elf as elf;
 
     ghost Value = { elf.Segment };
 
@@ -35,7 +35,7 @@ impl Model for Segment {
 
 impl Segment {
     /// The segment of the program header at an offset, if it is one that is loaded.
-    #[tactic(auto, unfolding(vm_defs::specs::Elf::segment_at))]
+    #[tactic(auto, unfolding(machine_defs::specs::Elf::segment_at))]
     pub(crate) fn loaded_at(file: &[u8], at: usize) -> Option<Segment>
         requires { at + program_header_size ≤ length file.now }
         ensures { result ≡ loaded_at file.now at }
@@ -108,7 +108,7 @@ impl Segment {
     }
 
     /// Whether its bytes leave memory. The sum does not wrap.
-    #[tactic(auto, unfolding(vm_defs::specs::Memory::is_out_of_range, vm_defs::specs::Memory::memory_size))]
+    #[tactic(auto, unfolding(machine_defs::specs::Memory::is_out_of_range, machine_defs::specs::Memory::memory_size))]
     pub(crate) fn leaves_memory(&self) -> bool
         ensures { result ≡ is_out_of_range self.now.address self.now.memory_size }
     {
@@ -116,7 +116,7 @@ impl Segment {
     }
 
     /// The page of its first byte.
-    #[tactic(auto, unfolding(vm_defs::specs::Elf::first_page))]
+    #[tactic(auto, unfolding(machine_defs::specs::Elf::first_page))]
     pub(crate) fn first_page(&self) -> usize
         ensures { result ≡ first_page self.now }
     {
@@ -124,7 +124,7 @@ impl Segment {
     }
 
     /// How many pages it touches, from that of its first byte on.
-    #[tactic(auto, unfolding(vm_defs::specs::Elf::first_page, vm_defs::specs::Elf::last_page, vm_defs::specs::Elf::page_span, vm_defs::specs::Memory::is_out_of_range, vm_defs::specs::Memory::memory_size, vm_defs::specs::Memory::page_count))]
+    #[tactic(auto, unfolding(machine_defs::specs::Elf::first_page, machine_defs::specs::Elf::last_page, machine_defs::specs::Elf::page_span, machine_defs::specs::Memory::is_out_of_range, machine_defs::specs::Memory::memory_size, machine_defs::specs::Memory::page_count))]
     pub(crate) fn page_span(&self) -> usize
         requires { is_out_of_range self.now.address self.now.memory_size ≡ false }
         ensures span { result ≡ page_span self.now }

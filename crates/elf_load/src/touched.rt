@@ -1,15 +1,15 @@
 // The pages that segments touched, and what they made them.
 ghost use Rattle.std.specs.Prelude.{◌≡◌, ◌+◌, ◌≤◌, List, [], ◌∷◌, ◌++◌, length, false, replicate, Some};
 ghost use Rattle.std.specs.List.{list_any};
-ghost use Rattle.vm_defs.specs.Memory.{is_out_of_range, overwritten};
-ghost use Rattle.vm_defs.specs.Elf as elf;
-ghost use Rattle.vm_defs.specs.Elf.{clashes};
+ghost use Rattle.machine_defs.specs.Memory.{is_out_of_range, overwritten};
+ghost use Rattle.machine_defs.specs.Elf as elf;
+ghost use Rattle.machine_defs.specs.Elf.{clashes};
 ghost use Rattle.elf_load.specs.Judging.{Marks, is_closed};
 
 use super::segment::Segment;
-use vm_defs::PageKind;
+use machine_defs::PageKind;
 
-const PAGE_COUNT: usize = vm_defs::PAGE_COUNT as usize;
+const PAGE_COUNT: usize = machine_defs::PAGE_COUNT as usize;
 
 /// The kind of each page that a segment touched.
 #[derive(Drop)]
@@ -28,7 +28,7 @@ impl Touched {
     }
 
     /// Whether a page of the segment was touched by an earlier one, where one of the two can run.
-    #[tactic(auto, unfolding(vm_defs::specs::Memory::page_count))]
+    #[tactic(auto, unfolding(machine_defs::specs::Memory::page_count))]
     pub(crate) fn clashes(&self, segment: &Segment) -> bool
         requires { is_out_of_range segment.now.address segment.now.memory_size ≡ false }
         ensures { (earlier : List elf.Segment) → Marks self.now.kinds earlier → result ≡ list_any (clashes segment.now) earlier }
@@ -41,7 +41,7 @@ impl Touched {
     }
 
     /// Adds the pages of a segment that does not clash with the earlier ones.
-    #[tactic(auto, unfolding(vm_defs::specs::Memory::page_count))]
+    #[tactic(auto, unfolding(machine_defs::specs::Memory::page_count))]
     pub(crate) fn mark(&mut self, segment: &Segment)
         requires { is_out_of_range segment.now.address segment.now.memory_size ≡ false }
         ensures { (earlier : List elf.Segment) → Marks self.old.kinds earlier → list_any (clashes segment.now) earlier ≡ false → Marks self.new.kinds (earlier ++ segment.now ∷ []) }

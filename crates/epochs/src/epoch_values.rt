@@ -1,8 +1,8 @@
 //! The epoch of a block, and epoch values: number, index and length in one number.
 
 ghost use Rattle.std.specs.Prelude.{◌≡◌, ◌+◌, ◌^◌, ◌<◌, ◌≤◌, IsTrue};
-ghost use Rattle.time_defs.specs.Epochs.{epoch_number, epoch_index, epoch_value, epoch_field, value_number, value_index, value_length, is_well_formed, epochs_in, is_span_over};
-ghost use Rattle.time_defs.specs.Specification.{keeps_s2};
+ghost use Rattle.chain_defs.specs.Epochs.{epoch_number, epoch_index, epoch_value, epoch_field, value_number, value_index, value_length, is_well_formed, epochs_in, is_span_over};
+ghost use Rattle.chain_defs.specs.Specification.{keeps_s2};
 
 /// A block's place among the epochs: the epoch's number, the block's index there, the epoch's length.
 #[derive(Clone, Copy, Debug, PartialEq, Eq)]

@@ -2,8 +2,8 @@
 
 ghost use Rattle.std.specs.Prelude.{◌≡◌, ◌/◌, ◌^◌, IsTrue, sum, map};
 ghost use Rattle.std.specs.List.{range_with_len};
-ghost use Rattle.time_defs.specs.Epochs as epochs;
-ghost use Rattle.time_defs.specs.Specification.{keeps_s2};
+ghost use Rattle.chain_defs.specs.Epochs as epochs;
+ghost use Rattle.chain_defs.specs.Specification.{keeps_s2};
 
 use crate::specification::Spec;
 

@@ -2,7 +2,7 @@
 
 ghost use Rattle.std.specs.Prelude.{◌≡◌, ◌≤◌, ◌+◌, length};
 ghost use Rattle.std.specs.Int.{w32, w64, from_le_bytes};
-ghost use Rattle.time_defs.specs.Specification.{u32_field, u64_field};
+ghost use Rattle.chain_defs.specs.Specification.{u32_field, u64_field};
 
 pub(crate) fn u32_at(b: &[u8], place: usize) -> u32
     requires { place + 4 ≤ length b.now }

@@ -1,7 +1,7 @@
 //! The chain specification and its rules S1 to S7.
 
 ghost use Rattle.std.specs.Prelude.{◌≡◌, IsTrue, length};
-ghost use Rattle.time_defs.specs.Specification as rules;
+ghost use Rattle.chain_defs.specs.Specification as rules;
 
 use crate::epoch_values::well_formed;
 use crate::number::{hash_of, u32_at, u64_at};
@@ -36,7 +36,7 @@ pub struct Spec {
 }
 
 impl Model for Spec {
-    ghost use Rattle.time_defs.specs.Specification.{Specification, KeepsItsRules};
+    ghost use Rattle.chain_defs.specs.Specification.{Specification, KeepsItsRules};
 
     ghost Value = { Specification };
 
@@ -75,7 +75,7 @@ impl Model for Spec {
 
 impl Spec {
     ghost use Rattle.std.specs.Prelude.{Some, None, IfOk, IfErr};
-    ghost use Rattle.time_defs.specs.Specification.{broken_specification_rule, specification_of};
+    ghost use Rattle.chain_defs.specs.Specification.{broken_specification_rule, specification_of};
 
     /// The specification that the bytes hold, or the number of the first rule that they break.
     pub fn read(b: &[u8]) -> Result<Spec, u8>
@@ -115,7 +115,7 @@ fn keeps_s1(b: &[u8]) -> bool
     b.len() == 100 && u32_at(b, 0) == 100
 }
 
-#[tactic(auto, unfolding(time_defs::specs::Specification::specification_of))]
+#[tactic(auto, unfolding(chain_defs::specs::Specification::specification_of))]
 fn keeps_s2(b: &[u8]) -> bool
     requires { length b.now ≡ 100 }
     ensures { result ≡ rules.keeps_s2 (rules.specification_of b.now).epoch_length }
@@ -124,7 +124,7 @@ fn keeps_s2(b: &[u8]) -> bool
     epoch_length >= 1 && epoch_length < 1 << 16
 }
 
-#[tactic(auto, unfolding(time_defs::specs::Specification::specification_of))]
+#[tactic(auto, unfolding(chain_defs::specs::Specification::specification_of))]
 fn keeps_s3(b: &[u8]) -> bool
     requires { length b.now ≡ 100 }
     ensures { result ≡ rules.keeps_s3 (rules.specification_of b.now).w_close (rules.specification_of b.now).w_far }
@@ -134,7 +134,7 @@ fn keeps_s3(b: &[u8]) -> bool
     w_close >= 1 && w_close <= w_far && w_far <= 100
 }
 
-#[tactic(auto, unfolding(time_defs::specs::Specification::specification_of))]
+#[tactic(auto, unfolding(chain_defs::specs::Specification::specification_of))]
 fn keeps_s4(b: &[u8]) -> bool
     requires { length b.now ≡ 100 }
     ensures { result ≡ rules.keeps_s4 (rules.specification_of b.now).max_block_bytes }
@@ -143,7 +143,7 @@ fn keeps_s4(b: &[u8]) -> bool
     max_block_bytes >= 1 && max_block_bytes <= 1 << 20
 }
 
-#[tactic(auto, unfolding(time_defs::specs::Specification::specification_of))]
+#[tactic(auto, unfolding(chain_defs::specs::Specification::specification_of))]
 fn keeps_s5(b: &[u8]) -> bool
     requires { length b.now ≡ 100 }
     ensures { result ≡ rules.keeps_s5 (rules.specification_of b.now).max_cycles }
@@ -152,7 +152,7 @@ fn keeps_s5(b: &[u8]) -> bool
     max_cycles >= 1 && max_cycles <= 1 << 40
 }
 
-#[tactic(auto, unfolding(time_defs::specs::Specification::specification_of))]
+#[tactic(auto, unfolding(chain_defs::specs::Specification::specification_of))]
 fn keeps_s6(b: &[u8]) -> bool
     requires { length b.now ≡ 100 }
     ensures { result ≡ rules.keeps_s6 (rules.specification_of b.now).maturity }
@@ -161,7 +161,7 @@ fn keeps_s6(b: &[u8]) -> bool
     maturity < 1 << 56 && well_formed(maturity)
 }
 
-#[tactic(auto, unfolding(time_defs::specs::Specification::specification_of))]
+#[tactic(auto, unfolding(chain_defs::specs::Specification::specification_of))]
 fn keeps_s7(b: &[u8]) -> bool
     requires { length b.now ≡ 100 }
     ensures { result ≡ rules.keeps_s7 (rules.specification_of b.now).halving_interval }
@@ -170,7 +170,7 @@ fn keeps_s7(b: &[u8]) -> bool
 }
 
 /// The specification of bytes that keep the rules.
-#[tactic(auto, unfolding(time_defs::specs::Specification::specification_of))]
+#[tactic(auto, unfolding(chain_defs::specs::Specification::specification_of))]
 fn spec_in(b: &[u8]) -> Spec
     requires length { length b.now ≡ 100 }
     requires s2 { IsTrue (rules.keeps_s2 (rules.specification_of b.now).epoch_length) }

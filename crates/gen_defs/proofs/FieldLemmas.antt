@@ -6,8 +6,8 @@ use Rattle.std.proofs.Math.IntN.{pos-+ℤ-pos, +ℤ-neg_ℤ_cancel}
 use Rattle.std.proofs.lemmas.Bool.{and_from}
 use Rattle.std.proofs.lemmas.Bool.Decides.{Decides-ltb}
 use Rattle.std.proofs.lemmas.Nat.{div_below}
-use Rattle.time_defs.specs.Dao.{DaoField, Movement, fits_u64, miner_part, next_issued, next_rate, next_savings, next_occupied, next_field}
-use Rattle.reward_defs.proofs.DaoLaws.{is-next, rates-never-fall}
+use Rattle.chain_defs.specs.Dao.{DaoField, Movement, fits_u64, miner_part, next_issued, next_rate, next_savings, next_occupied, next_field}
+use Rattle.rule_defs.proofs.DaoLaws.{is-next, rates-never-fall}
 use Rattle.gen_defs.specs.Start.{genesis_field, coin_capacity, lock}
 use Rattle.gen_defs.specs.Heights.{commits, pays, count_if, plain_cell, field_after, movement_at}
 use Rattle.gen_defs.specs.Laws.{FieldsAreNext}

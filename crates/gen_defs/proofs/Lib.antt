@@ -3,3 +3,7 @@ pub mod FieldLemmas
 pub mod Walks
 pub mod StartLemmas
 pub mod PaidLemmas
+pub mod OwedLemmas
+pub mod NextLemmas
+pub mod SizeLemmas
+pub mod GenesisStartLemmas

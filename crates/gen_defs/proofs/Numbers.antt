@@ -3,8 +3,8 @@ use Rattle.std.proofs.Common.{ℕ, ◌+◌, ◌*◌, ◌/◌, ◌%◌, ◌^◌, 
 use Rattle.std.specs.Prelude.{nat_lt, if◌then◌else◌}
 use Rattle.std.proofs.Math.Nat.{mul-le-mul, div-le_self}
 use Rattle.std.proofs.lemmas.Nat.{div_below}
-use Rattle.time_defs.specs.Epochs.{share_of_index}
-use Rattle.reward_defs.specs.Shares.{primary_at, secondary_at}
+use Rattle.chain_defs.specs.Epochs.{share_of_index}
+use Rattle.rule_defs.specs.Shares.{primary_at, secondary_at}
 use Rattle.gen_defs.specs.Start.{specification}
 
 -- a part s * u / c, where none of the three leaves its bound

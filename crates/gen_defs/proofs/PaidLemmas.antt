@@ -4,13 +4,13 @@ use Rattle.std.specs.Prelude.{◌&&◌, ◌==◌, IsTrue, if◌then◌else◌}
 use Rattle.std.specs.List.{filter, sum_by, range_with_len}
 use Rattle.std.proofs.lemmas.List.Sums.{sum_by-cons}
 use Rattle.std.proofs.lemmas.Bool.Decides.{nat_tests}
-use Rattle.codec_defs.specs.Schema.{Block}
-use Rattle.time_defs.specs.Dao.{DaoField, field_of_bytes, miner_part}
-use Rattle.time_defs.proofs.FieldBytes.{field_of_bytes-field_bytes}
-use Rattle.reward_defs.specs.Shares.{primary_at, secondary_at}
-use Rattle.reward_defs.specs.Fees.{Paid, paid_at, proposer_share, committer_share}
-use Rattle.reward_defs.specs.Reward.{part, proposer_part, commit_heights, is_at, is_first_proposed_at, field_at}
-use Rattle.window_defs.specs.Window.{earliest}
+use Rattle.chain_defs.specs.Schema.{Block}
+use Rattle.chain_defs.specs.Dao.{DaoField, field_of_bytes, miner_part}
+use Rattle.chain_defs.proofs.FieldBytes.{field_of_bytes-field_bytes}
+use Rattle.rule_defs.specs.Shares.{primary_at, secondary_at}
+use Rattle.rule_defs.specs.Fees.{Paid, paid_at, proposer_share, committer_share}
+use Rattle.rule_defs.specs.Reward.{part, proposer_part, commit_heights, is_at, is_first_proposed_at, field_at}
+use Rattle.rule_defs.specs.Window.{earliest}
 use Rattle.gen_defs.specs.Start.{specification}
 use Rattle.gen_defs.specs.Heights.{commits, proposes, count_if, transfer_fee, field_after, reward_by}
 use Rattle.gen_defs.specs.Paid.{id_at, PaysItsTransfers, PaysWhatIsGiven}

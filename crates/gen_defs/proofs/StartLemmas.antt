@@ -1,7 +1,7 @@
 -- The specification's bytes, read, and the first reward.
 use Rattle.std.proofs.Common.{◌≡◌, refl}
-use Rattle.fold_defs.specs.First.{first_failing}
-use Rattle.time_defs.specs.Specification.{specification_of}
+use Rattle.chain_defs.specs.First.{first_failing}
+use Rattle.chain_defs.specs.Specification.{specification_of}
 use Rattle.gen_defs.specs.Start.{specification, specification_bytes, genesis_field}
 use Rattle.gen_defs.specs.Heights.{reward_by, reward_of, field_after}
 use Rattle.gen_defs.specs.Laws.{IsReadBack}

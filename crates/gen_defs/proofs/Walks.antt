@@ -2,7 +2,7 @@
 use Rattle.std.proofs.Common.{◌≡◌, ℕ, zero, suc, ◌+◌, ◌*◌, ◌≤◌, Bool, true, false, refl, sym, ap, ◌∙◌, arith}
 use Rattle.std.specs.Prelude.{not, ◌&&◌, ◌==◌, ◌%◌, nat_le, if◌then◌else◌}
 use Rattle.std.proofs.lemmas.Bool.{and_parts, leb-true}
-use Rattle.codec_defs.specs.Schema.{Block}
+use Rattle.chain_defs.specs.Schema.{Block}
 use Rattle.gen_defs.specs.Start.{genesis}
 use Rattle.gen_defs.specs.Chain.{Standing, block_after, child, forks, parent_of, is_beside, with_made, grown, standing_after, block_made}
 use Rattle.gen_defs.specs.Laws.{ParentsAreEarlier, TimesFollowHeights}

@@ -1,9 +1,9 @@
 -- The blocks of a generated chain, in the order in which they are made: which is the parent of which, and each by its parent.
 use Rattle.std.specs.Prelude.{ℕ, zero, suc, ◌+◌, ◌*◌, ◌%◌, Bool, false, true, not, ◌&&◌, ◌==◌, nat_le, List, [], map, if◌then◌else◌}
 use Rattle.std.specs.List.{range_with_len}
-use Rattle.codec_defs.specs.Schema.{Block}
-use Rattle.time_defs.specs.Epochs.{epoch_field}
-use Rattle.time_defs.specs.Dao.{field_bytes}
+use Rattle.chain_defs.specs.Schema.{Block}
+use Rattle.chain_defs.specs.Epochs.{epoch_field}
+use Rattle.chain_defs.specs.Dao.{field_bytes}
 use Rattle.chain_defs.specs.Kept.{block_hash}
 use Rattle.chain_defs.specs.Hashes.{transactions_root, proposals_hash, uncles_hash}
 use Rattle.gen_defs.specs.Start.{specification, genesis}

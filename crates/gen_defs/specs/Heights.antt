@@ -1,12 +1,12 @@
 -- What a block of a generated chain holds beside its parent, its nonce and its time: it depends on its height alone, on both sides of a fork. Capacities are in shannons.
 use Rattle.std.specs.Prelude.{ℕ, zero, suc, ◌+◌, ◌-◌, ◌*◌, ◌%◌, pos, Bool, ◌&&◌, ◌==◌, nat_le, List, [], ◌∷◌, unwrap_or, map, if◌then◌else◌}
-use Rattle.codec_defs.specs.Shape.{encoded}
-use Rattle.codec_defs.specs.Schema.{OutPoint, CellOutput, cellbase_witness, Transaction}
-use Rattle.time_defs.specs.Dao.{DaoField, Movement, miner_part, next_field}
+use Rattle.chain_defs.specs.Shape.{encoded}
+use Rattle.chain_defs.specs.Schema.{OutPoint, CellOutput, cellbase_witness, Transaction}
+use Rattle.chain_defs.specs.Dao.{DaoField, Movement, miner_part, next_field}
 use Rattle.chain_defs.specs.Hashes.{transaction_hash, proposal_id}
-use Rattle.reward_defs.specs.Shares.{primary_at, secondary_at}
-use Rattle.reward_defs.specs.Fees.{proposer_share, committer_share}
-use Rattle.reward_defs.specs.Payment.{occupied_with}
+use Rattle.rule_defs.specs.Shares.{primary_at, secondary_at}
+use Rattle.rule_defs.specs.Fees.{proposer_share, committer_share}
+use Rattle.rule_defs.specs.Payment.{occupied_with}
 use Rattle.gen_defs.specs.Start.{specification, lock, output_of, cellbase_input, coin_capacity, genesis_hash, genesis_field}
 
 -- ---- The coin: one transaction in four heights spends it and makes it again

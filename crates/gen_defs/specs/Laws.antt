@@ -1,7 +1,7 @@
 -- What the definitions of a generated chain are for, in words.
 use Rattle.std.specs.Prelude.{◌≡◌, ℕ, suc, ◌+◌, ◌*◌, ◌≤◌, Some, None}
-use Rattle.time_defs.specs.Specification.{specification_of, broken_specification_rule}
-use Rattle.time_defs.specs.Dao.{next_field}
+use Rattle.chain_defs.specs.Specification.{specification_of, broken_specification_rule}
+use Rattle.chain_defs.specs.Dao.{next_field}
 use Rattle.gen_defs.specs.Start.{specification, specification_bytes}
 use Rattle.gen_defs.specs.Heights.{field_after, movement_at}
 use Rattle.gen_defs.specs.Chain.{block_made, child}

@@ -3,3 +3,5 @@ pub mod Heights
 pub mod Chain
 pub mod Laws
 pub mod Paid
+pub mod GenesisLaws
+pub mod GenesisStart

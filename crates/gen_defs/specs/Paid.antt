@@ -1,12 +1,12 @@
 -- What a branch of a generated chain gives to its blocks, by the chain's rules.
 use Rattle.std.specs.Prelude.{◌≡◌, ℕ, ◌+◌, ◌-◌, ◌≤◌, ◌<◌, List, [], ◌∷◌, length, Some, IsTrue, if◌then◌else◌}
-use Rattle.codec_defs.specs.Schema.{Block}
-use Rattle.time_defs.specs.Dao.{field_bytes}
+use Rattle.chain_defs.specs.Schema.{Block}
+use Rattle.chain_defs.specs.Dao.{field_bytes}
 use Rattle.chain_defs.specs.Kept.{block_at}
 use Rattle.chain_defs.specs.Hashes.{proposal_id}
-use Rattle.window_defs.specs.Window.{earliest}
-use Rattle.reward_defs.specs.Fees.{Paid, paid_at}
-use Rattle.reward_defs.specs.Reward.{dao_of, part}
+use Rattle.rule_defs.specs.Window.{earliest}
+use Rattle.rule_defs.specs.Fees.{Paid, paid_at}
+use Rattle.rule_defs.specs.Reward.{dao_of, part}
 use Rattle.gen_defs.specs.Start.{specification}
 use Rattle.gen_defs.specs.Heights.{commits, transfer_fee, transfer, coin_after, field_after, reward_of}
 

@@ -1,14 +1,14 @@
 -- What a generated chain begins with: its specification, the lock of all its cells, its genesis. Capacities are in shannons, times in milliseconds.
 use Rattle.std.specs.Prelude.{ℕ, ◌*◌, ◌^◌, List, [], ◌∷◌, ◌++◌, None, replicate}
 use Rattle.std.specs.Int.{w32, w64, to_le_bytes}
-use Rattle.hash_defs.specs.CkbHash.{ckbhash}
-use Rattle.codec_defs.specs.Schema.{Script, CellInput, CellOutput, Transaction, Block}
-use Rattle.time_defs.specs.Specification.{Specification}
-use Rattle.time_defs.specs.Dao.{DaoField, field_bytes}
+use Rattle.chain_defs.specs.CkbHash.{ckbhash}
+use Rattle.chain_defs.specs.Schema.{Script, CellInput, CellOutput, Transaction, Block}
+use Rattle.chain_defs.specs.Specification.{Specification}
+use Rattle.chain_defs.specs.Dao.{DaoField, field_bytes}
 use Rattle.chain_defs.specs.Hashes.{transaction_hash, transactions_root, proposals_hash, uncles_hash}
 use Rattle.cell_defs.specs.Cell.{by_data}
-use Rattle.family_defs.specs.Cellbase.{null_index}
-use Rattle.text_defs.specs.File.{elf_file}
+use Rattle.rule_defs.specs.Cellbase.{null_index}
+use Rattle.machine_defs.specs.File.{elf_file}
 
 -- ---- The specification
 

@@ -4,16 +4,16 @@ use Rattle.std.specs.Prelude.{◌≤◌, IsSomeAnd, IfSome, option_map}
 use Rattle.std.specs.Option.{SomeIff, option_eq}
 use Rattle.std.proofs.lemmas.Bool.{ne_eqb}
 use Rattle.std.proofs.lemmas.Option.{slice_get_within}
-use Rattle.codec_defs.specs.Schema.{Block}
-use Rattle.fold_defs.specs.First.{first_failing}
+use Rattle.chain_defs.specs.Schema.{Block}
+use Rattle.chain_defs.specs.First.{first_failing}
 use Rattle.chain_defs.specs.Kept.{block_at, follows}
 use Rattle.chain_defs.specs.Branch.{branch}
 use Rattle.chain_defs.proofs.BranchLaws.{branch-last}
 use Rattle.chain_tree.specs.declared.entry.Entry.{Entry}
 use Rattle.chain_tree.specs.Blocks.{Describes}
 use Rattle.rule_defs.specs.Header.{parent_of}
-use Rattle.rule_names.specs.Number.{rule_number}
-use Rattle.rule_names.specs.declared.rule.Rule.{Rule}
+use Rattle.rule_defs.specs.RuleNumber.{rule_number}
+use Rattle.rule_defs.specs.declared.rule.Rule.{Rule}
 
 -- a number is the one after another, where that one has one after it
 next-is : (sum : Option ℕ) (parent own most : ℕ) → own < most → SomeIff sum (parent + 1 < most) (parent + 1)

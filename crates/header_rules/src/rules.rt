@@ -1,18 +1,18 @@
 //! J4 to J8, one function a rule.
 ghost use Rattle.std.specs.Prelude.{◌≡◌, ◌<◌, ◌≤◌, IfSome, List, length};
 ghost use Rattle.std.specs.Option.{option_map};
-ghost use Rattle.codec_defs.specs.Schema.{Block};
-ghost use Rattle.fold_defs.specs.First.{first_failing};
+ghost use Rattle.chain_defs.specs.Schema.{Block};
+ghost use Rattle.chain_defs.specs.First.{first_failing};
 ghost use Rattle.chain_defs.specs.Branch.{branch};
 ghost use Rattle.chain_tree.specs.Blocks.{IndexesBlocks};
 ghost use Rattle.chain_defs.specs.Kept as chain;
 ghost use Rattle.rule_defs.specs.Header as rules;
-ghost use Rattle.rule_names.specs.Number.{rule_number};
+ghost use Rattle.rule_defs.specs.RuleNumber.{rule_number};
 
 use chain_tree::Tree;
 use epochs::{Spec, epoch_of};
 use mol_schema::HeaderView;
-use rule_names::{Rule, first_broken};
+use rule_defs::{Rule, first_broken};
 
 /// J4: its version is 0.
 fn has_version(header: &HeaderView<'_>) -> bool

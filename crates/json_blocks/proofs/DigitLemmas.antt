@@ -1,5 +1,5 @@
 -- Digits tell their number, in either case.
-use Rattle.std.proofs.Common.{◌≡◌, ℕ, zero, suc, ◌+◌, ◌-◌, ◌*◌, ◌/◌, ◌%◌, ◌^◌, ◌<◌, ◌≤◌, ◌==◌, Bool, true, false, ◌&&◌, List, [], ◌∷◌, ◌++◌, map, length, drop, slice_index, refl, sym, ap, ◌∙◌, arith, add-one, drop-cons, append_assoc, length-drop, eq-eqb, ne_eqb}
+use Rattle.std.proofs.Common.{◌≡◌, ℕ, zero, suc, ◌+◌, ◌-◌, ◌*◌, ◌/◌, ◌%◌, ◌^◌, ◌<◌, ◌≤◌, ◌==◌, Bool, true, false, ◌&&◌, List, [], ◌∷◌, ◌++◌, map, length, drop, slice_index, refl, sym, ap, ◌∙◌, arith, add-one, drop-cons, append_assoc, length-drop, eq-eqb}
 use Rattle.std.specs.Prelude.{if◌then◌else◌}
 use Rattle.std.specs.Fmt.{digits, digits_onto, digit_glyph}
 use Rattle.std.specs.Str.{bytes_eq}
@@ -112,22 +112,12 @@ value_ends n s i end = ap (value_after n) (drop_all i s end)
 same_head : (x y : ℕ) (s t : List ℕ) → x ≡ y → bytes_eq (x ∷ s) (y ∷ t) ≡ bytes_eq s t
 same_head x y s t is = ap (λ (b : Bool). b && bytes_eq s t) (eq-eqb x y is)
 
-other_head : (x y : ℕ) (s t : List ℕ) → (x ≡ y → ⊥) → bytes_eq (x ∷ s) (y ∷ t) ≡ false
-other_head x y s t differs = ap (λ (b : Bool). b && bytes_eq s t) (ne_eqb x y differs)
-
 pub eq_goes_on : (s t : List ℕ) (i : ℕ) → i < length s → i < length t → lower_digit (slice_index s i) ≡ slice_index t i
     → bytes_eq (map lower_digit (drop (i + 1) s)) (drop (i + 1) t) ≡ bytes_eq (map lower_digit (drop i s)) (drop i t)
 eq_goes_on s t i within within' is =
     rw add-one (sym (ap (λ (l : List ℕ). bytes_eq (map lower_digit l) (drop i t)) (drop-cons s i 0 within)
     ∙ ap (λ (l : List ℕ). bytes_eq (lower_digit (slice_index s i) ∷ map lower_digit (drop (suc i) s)) l) (drop-cons t i 0 within')
     ∙ same_head (lower_digit (slice_index s i)) (slice_index t i) (map lower_digit (drop (suc i) s)) (drop (suc i) t) is))
-
-pub eq_differs : (s t : List ℕ) (i : ℕ) → i < length s → i < length t → (lower_digit (slice_index s i) ≡ slice_index t i → ⊥)
-    → bytes_eq (map lower_digit (drop i s)) (drop i t) ≡ false
-eq_differs s t i within within' differs =
-    ap (λ (l : List ℕ). bytes_eq (map lower_digit l) (drop i t)) (drop-cons s i 0 within)
-    ∙ ap (λ (l : List ℕ). bytes_eq (lower_digit (slice_index s i) ∷ map lower_digit (drop (suc i) s)) l) (drop-cons t i 0 within')
-    ∙ other_head (lower_digit (slice_index s i)) (slice_index t i) (map lower_digit (drop (suc i) s)) (drop (suc i) t) differs
 
 pub eq_ends : (s t : List ℕ) (i : ℕ) → length s ≤ i → length t ≤ i → bytes_eq (map lower_digit (drop i s)) (drop i t) ≡ true
 eq_ends s t i end end' =

@@ -1,11 +1,11 @@
 -- Fields that are put one after another, and the lists of items.
-use Rattle.std.proofs.Common.{◌≡◌, ℕ, suc, ◌+◌, ◌^◌, ◌<◌, ◌≤◌, Bool, true, false, List, [], ◌∷◌, ◌++◌, length, map, drop, Option, Some, None, option_map, Bor, refl, sym, ap, ◌∙◌, arith, append_assoc, append-nil, lt-ltb, ltb-true, ltb-false}
+use Rattle.std.proofs.Common.{◌≡◌, ℕ, suc, ◌+◌, ◌^◌, ◌<◌, ◌≤◌, Bool, true, false, List, [], ◌∷◌, ◌++◌, length, map, drop, Option, Some, None, option_map, Vec, Global, refl, sym, ap, ◌∙◌, arith, append_assoc, append-nil, lt-ltb, ltb-true, ltb-false}
 use Rattle.std.specs.Prelude.{if◌then◌else◌, nat_lt}
 use Rattle.std.specs.Int.{w32, to_le_bytes}
 use Rattle.std.specs.List.{concat}
 use Rattle.std.proofs.lemmas.List.{drop_all, length-append}
-use Rattle.codec_defs.specs.Molecule as molecule
-use Rattle.codec_defs.proofs.MoleculeLaws.{concat-append, length-dynvec}
+use Rattle.chain_defs.specs.Molecule as molecule
+use Rattle.chain_defs.proofs.MoleculeLaws.{concat-append, length-dynvec}
 use Rattle.serde_json.specs.Data.{Data, Items}
 use Rattle.serde_json.specs.View.{view, items_view}
 use Rattle.serde_json.specs.declared.value.Value.{Value}
@@ -64,29 +64,29 @@ table_is fields all bytes is same =
 
 -- ---- one field after another
 
-abbrev pub nows : {X : Type 0} → List (Bor X) → List X
-nows fs = map (λ f. f.now) fs
+abbrev pub contents : List (Vec ℕ Global) → List (List ℕ)
+contents fs = map (λ f. f.items) fs
 
 -- a field more, of those that are left
-pub one_more : {X : Type 0} (done new all : List X) (f : X) (fields : List (Bor X)) (b : Bor X) (i : ℕ)
-    → drop i fields ≡ b ∷ drop (i + 1) fields → b.now ≡ f → new ≡ done ++ f ∷ []
-    → done ++ nows (drop i fields) ≡ all → new ++ nows (drop (i + 1) fields) ≡ all
-one_more {X} done new all f fields b i rest is put before =
-    ap (λ (l : List X). l ++ nows (drop (i + 1) fields)) put
-    ∙ append_assoc done (f ∷ []) (nows (drop (i + 1) fields))
-    ∙ ap (λ (x : X). done ++ x ∷ nows (drop (i + 1) fields)) (sym is)
-    ∙ ap (λ (l : List (Bor X)). done ++ nows l) (sym rest)
+pub one_more : (done new all : List (List ℕ)) (f : List ℕ) (fields : List (Vec ℕ Global)) (b : Vec ℕ Global) (i : ℕ)
+    → drop i fields ≡ b ∷ drop (i + 1) fields → b.items ≡ f → new ≡ done ++ f ∷ []
+    → done ++ contents (drop i fields) ≡ all → new ++ contents (drop (i + 1) fields) ≡ all
+one_more done new all f fields b i rest is put before =
+    ap (λ (l : List (List ℕ)). l ++ contents (drop (i + 1) fields)) put
+    ∙ append_assoc done (f ∷ []) (contents (drop (i + 1) fields))
+    ∙ ap (λ (x : List ℕ). done ++ x ∷ contents (drop (i + 1) fields)) (sym is)
+    ∙ ap (λ (l : List (Vec ℕ Global)). done ++ contents l) (sym rest)
     ∙ before
 
 -- the same of all bytes side by side
-pub joined_more : (done new all f : List ℕ) (fields : List (Bor (List ℕ))) (b : Bor (List ℕ)) (i : ℕ)
-    → drop i fields ≡ b ∷ drop (i + 1) fields → b.now ≡ f → new ≡ done ++ f
-    → done ++ concat (nows (drop i fields)) ≡ all → new ++ concat (nows (drop (i + 1) fields)) ≡ all
+pub joined_more : (done new all f : List ℕ) (fields : List (Vec ℕ Global)) (b : Vec ℕ Global) (i : ℕ)
+    → drop i fields ≡ b ∷ drop (i + 1) fields → b.items ≡ f → new ≡ done ++ f
+    → done ++ concat (contents (drop i fields)) ≡ all → new ++ concat (contents (drop (i + 1) fields)) ≡ all
 joined_more done new all f fields b i rest is put before =
-    ap (λ (l : List ℕ). l ++ concat (nows (drop (i + 1) fields))) put
-    ∙ append_assoc done f (concat (nows (drop (i + 1) fields)))
-    ∙ ap (λ (x : List ℕ). done ++ (x ++ concat (nows (drop (i + 1) fields)))) (sym is)
-    ∙ ap (λ (l : List (Bor (List ℕ))). done ++ concat (nows l)) (sym rest)
+    ap (λ (l : List ℕ). l ++ concat (contents (drop (i + 1) fields))) put
+    ∙ append_assoc done f (concat (contents (drop (i + 1) fields)))
+    ∙ ap (λ (x : List ℕ). done ++ (x ++ concat (contents (drop (i + 1) fields)))) (sym is)
+    ∙ ap (λ (l : List (Vec ℕ Global)). done ++ concat (contents l)) (sym rest)
     ∙ before
 
 -- ---- lists of items
@@ -94,10 +94,6 @@ joined_more done new all f fields b i rest is put before =
 -- the encodings so far, before those of what is left
 abbrev pub onto : List (List ℕ) → Option (List (List ℕ)) → Option (List (List ℕ))
 onto done o = option_map (λ (bs : List (List ℕ)). done ++ bs) o
-
-pub items_begin : (o : Option (List (List ℕ))) → onto [] o ≡ o
-items_begin None = refl
-items_begin (Some bs) = refl
 
 -- an item that reads
 pub items_go_on : (read : Data → Option (List ℕ)) (done new : List (List ℕ)) (vs : List Value) (v : Value) (b : List ℕ) (i : ℕ) (whole : Option (List (List ℕ)))

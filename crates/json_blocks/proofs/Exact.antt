@@ -9,10 +9,10 @@ use Rattle.std.specs.Str.{bytes_eq}
 use Rattle.std.proofs.lemmas.Bool.{and_parts, and_from, eqb-false}
 use Rattle.std.proofs.lemmas.List.{length-map}
 use Rattle.hex.specs.Hex.{encode_lower, IsBytes}
-use Rattle.codec_defs.specs.Molecule as molecule
-use Rattle.codec_defs.specs.Shape as shape
-use Rattle.codec_defs.proofs.ShapeLaws.{are_bytes-from}
-use Rattle.codec_defs.proofs.MoleculeLaws.{length-dynvec}
+use Rattle.chain_defs.specs.Molecule as molecule
+use Rattle.chain_defs.specs.Shape as shape
+use Rattle.chain_defs.proofs.ShapeLaws.{are_bytes-from}
+use Rattle.chain_defs.proofs.MoleculeLaws.{length-dynvec}
 use Rattle.serde_json.specs.Data.{Data, null, boolean, number, string, array, object, Items, no_items, item}
 use Rattle.json_defs.specs.Form.{Form, has_digits, is_text, lower_digit, hex_number, byte_string, named_byte, items_read, list}
 use Rattle.json_defs.specs.Laws.{IsReadOnce}

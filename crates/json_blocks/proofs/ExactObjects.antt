@@ -5,18 +5,19 @@ use Rattle.std.specs.Int.{w32, w64, w128}
 use Rattle.std.specs.List.{concat}
 use Rattle.std.specs.Str.{bytes_eq}
 use Rattle.std.proofs.lemmas.Bool.{and_parts, and_from, or_left}
-use Rattle.codec_defs.specs.Molecule as molecule
-use Rattle.codec_defs.specs.Shape as shape
-use Rattle.codec_defs.specs.Schema as schema
-use Rattle.codec_defs.proofs.ShapeLaws.{AllFit, AllFit-from, all_fit-from}
-use Rattle.codec_defs.proofs.MoleculeLaws.{length-dynvec}
+use Rattle.chain_defs.specs.Molecule as molecule
+use Rattle.chain_defs.specs.Shape as shape
+use Rattle.chain_defs.specs.Schema as schema
+use Rattle.chain_defs.proofs.ShapeLaws.{AllFit, AllFit-from, all_fit-from}
+use Rattle.chain_defs.proofs.MoleculeLaws.{length-dynvec}
 use Rattle.serde_json.specs.Data.{Data, null, boolean, number, string, array, object, Members, no_members, member}
 use Rattle.json_defs.specs.Form.{Form, Row, row, members_read, without, is_object, is_null, hex_number, byte_string, named_byte, list, option}
 use Rattle.json_defs.specs.Blocks as form
 use Rattle.json_defs.specs.Blocks.{free_key, usual_header_rows, other_header_rows, header_read}
 use Rattle.json_defs.specs.Laws.{IsReadOnce}
-use Rattle.json_blocks.specs.Reading.{◌>>=◌, members_at, take_at, end_at, table_from, array_at, content_at, number_at, named_at, fixvec_at, dynvec_at, hash_at, or_else, script_at, type_script_at, out_point_at, cell_input_at, cell_dep_at, cell_output_at, transaction_at, header_with, header_at, uncle_at, block_at}
+use Rattle.json_blocks.specs.Reading.{◌>>=◌, left, members_at, take_at, end_at, table_from, array_at, content_at, number_at, named_at, fixvec_at, dynvec_at, hash_at, or_else, script_at, type_script_at, out_point_at, cell_input_at, cell_dep_at, cell_output_at, transaction_at, header_with, header_at, uncle_at, block_at}
 use Rattle.json_blocks.proofs.ReadOnce.{is_false, or_cases, bytes-once, array-once, u32-once, u64-once, u128-once, hash_type-once, dep_type-once, no_script, script-once, out_point-once, cell_input-once, cell_dep-once, cell_output-once, transaction-once, header-once, uncle-once, block-once}
+use Rattle.json_blocks.proofs.KeyLemmas.{hash-bound}
 use Rattle.json_blocks.proofs.Exact.{Found, Exact, array-exact, content-exact, number-exact, named-exact, fixvec-exact, dynvec-exact}
 
 opposite : {P : Type 0} {b : Bool} → b ≡ true → b ≡ false → P
@@ -102,14 +103,14 @@ struct-rest it P fields is v p fit bytes are = record {
 }
 
 -- the members of an object
-object-rest : {V : Type 0} (it : shape.Shape V) (Q : V → Members → Bool) (K : Members → Option (List ℕ)) → ((ms : Members) → Rest it (λ v. Unit {0}) (λ v. Q v ms) (K ms))
-    → (t : Data) → Rest it (λ v. Unit {0}) (λ v. is_object (Q v) t) (members_at t >>= (λ ms. K ms))
-object-rest it Q K each null = λ v f p q. is_false q
-object-rest it Q K each (boolean b) = λ v f p q. is_false q
-object-rest it Q K each (number n) = λ v f p q. is_false q
-object-rest it Q K each (string s) = λ v f p q. is_false q
-object-rest it Q K each (array ds) = λ v f p q. is_false q
-object-rest it Q K each (object ms) = each ms
+object-rest : {V : Type 0} (beside_hash : Bool) (it : shape.Shape V) (Q : V → Members → Bool) (K : Members → Option (List ℕ)) → ((ms : Members) → Rest it (λ v. Unit {0}) (λ v. Q v ms) (K ms))
+    → (t : Data) → Rest it (λ v. Unit {0}) (λ v. is_object (λ ms. Q v (left beside_hash ms)) t) (members_at beside_hash t >>= (λ ms. K ms))
+object-rest beside_hash it Q K each null = λ v f p q. is_false q
+object-rest beside_hash it Q K each (boolean b) = λ v f p q. is_false q
+object-rest beside_hash it Q K each (number n) = λ v f p q. is_false q
+object-rest beside_hash it Q K each (string s) = λ v f p q. is_false q
+object-rest beside_hash it Q K each (array ds) = λ v f p q. is_false q
+object-rest beside_hash it Q K each (object ms) = each (left beside_hash ms)
 
 exact-from : {V : Type 0} (of : Form V) (it : shape.Shape V) → IsReadOnce of it → (t : Data) (o : Option (List ℕ)) → Rest it (λ v. Unit {0}) (λ v. of.reads v t) o → Exact of it t o
 exact-from of it once t None none = λ w f r. none w f tt r
@@ -147,18 +148,6 @@ two-tables {V} it ir P raw inner others is_inner is v p fit_inner fit bs rest ar
         opposite (sym (short w q) ∙ (and_parts _ _ (sym (ap (λ (x : shape.Encoding). x.fits) (is_inner (raw w))) ∙ whole.0)).0) e)
 
 -- a row that is a hash of 32 bytes, where it is to stand here
-hash-bound : (key : List ℕ) (ms : Members) (K : List ℕ × Members → Option (List ℕ))
-    → (take_at key ms >>= (λ a. array_at 32 a.0 >>= (λ b. K (b, a.1)))) ≡ (hash_at true key ms >>= (λ u. K u))
-hash-bound key ms K = by (take_at key ms)
-  where
-    inner : (a : Data × Members) (o : Option (List ℕ)) → (o >>= (λ b. K (b, a.1))) ≡ ((o >>= (λ hash. Some (hash, a.1))) >>= (λ u. K u))
-    inner a None = refl
-    inner a (Some b) = refl
-
-    by : (o : Option (Data × Members)) → (o >>= (λ a. array_at 32 a.0 >>= (λ b. K (b, a.1)))) ≡ ((o >>= (λ h. array_at 32 h.0 >>= (λ hash. Some (hash, h.1)))) >>= (λ u. K u))
-    by None = refl
-    by (Some a) = inner a (array_at 32 a.0)
-
 hash-row : {V : Type 0} (it : shape.Shape V) (P : V → Type 0) (key : List ℕ) (field : V → List ℕ) (rows : V → List Row)
     → ((v : V) → IsTrue (it.encoding v).fits → IsTrue ((shape.byte_array 32).encoding (field v)).fits)
     → (ms : Members) (K : List ℕ × Members → Option (List ℕ))
@@ -185,7 +174,7 @@ script-fields v = shape.encode_field (shape.byte_array 32) v.code_hash ∷ shape
 
 script-rest : (t : Data) → Rest schema.script (λ v. Unit {0}) (λ v. is_object (λ ms. members_read (form.script_rows v) ms) t) (script_at t)
 unfolding script_at schema.script
-script-rest t = object-rest schema.script (λ v ms. members_read (form.script_rows v) ms) _ (λ ms.
+script-rest t = object-rest false schema.script (λ v ms. members_read (form.script_rows v) ms) _ (λ ms.
     (row-rest schema.script (λ v. Unit {0}) (codes "args") byte_string shape.bytes (λ v. v.args) (λ v. row (codes "code_hash") byte_string v.code_hash ∷ row (codes "hash_type") (named_byte (codes "data") (codes "type")) v.hash_type ∷ []) (λ v f. (AllFit-from (script-fields v) (and_parts _ _ f).1).1.1.0) content_at content-exact ms _ (λ x_args d_0 ms_0 f_args.
     (row-rest schema.script (λ v. Unit {0} × (v.args ≡ x_args)) (codes "code_hash") byte_string (shape.byte_array 32) (λ v. v.code_hash) (λ v. row (codes "hash_type") (named_byte (codes "data") (codes "type")) v.hash_type ∷ []) (λ v f. (AllFit-from (script-fields v) (and_parts _ _ f).1).0) (array_at 32) (array-exact 32) ms_0 _ (λ x_code_hash d_1 ms_1 f_code_hash.
     (row-rest schema.script (λ v. (Unit {0} × (v.args ≡ x_args)) × (v.code_hash ≡ x_code_hash)) (codes "hash_type") (named_byte (codes "data") (codes "type")) shape.byte (λ v. v.hash_type) (λ v. []) (λ v f. (AllFit-from (script-fields v) (and_parts _ _ f).1).1.0) (named_at (codes "data") (codes "type")) (named-exact (codes "data") (codes "type") hash_type-once) ms_1 _ (λ x_hash_type d_2 ms_2 f_hash_type.
@@ -236,7 +225,7 @@ out_point-fields v = shape.encode_field (shape.byte_array 32) v.tx_hash ∷ shap
 
 out_point-rest : (t : Data) → Rest schema.out_point (λ v. Unit {0}) (λ v. is_object (λ ms. members_read (form.out_point_rows v) ms) t) (out_point_at t)
 unfolding out_point_at schema.out_point
-out_point-rest t = object-rest schema.out_point (λ v ms. members_read (form.out_point_rows v) ms) _ (λ ms.
+out_point-rest t = object-rest false schema.out_point (λ v ms. members_read (form.out_point_rows v) ms) _ (λ ms.
     (row-rest schema.out_point (λ v. Unit {0}) (codes "index") hex_number shape.u32 (λ v. v.index) (λ v. row (codes "tx_hash") byte_string v.tx_hash ∷ []) (λ v f. (AllFit-from (out_point-fields v) f).1.0) (number_at w32) u32-exact ms _ (λ x_index d_0 ms_0 f_index.
     (row-rest schema.out_point (λ v. Unit {0} × (v.index ≡ x_index)) (codes "tx_hash") byte_string (shape.byte_array 32) (λ v. v.tx_hash) (λ v. []) (λ v f. (AllFit-from (out_point-fields v) f).0) (array_at 32) (array-exact 32) ms_0 _ (λ x_tx_hash d_1 ms_1 f_tx_hash.
     end-rest schema.out_point (λ v. (Unit {0} × (v.index ≡ x_index)) × (v.tx_hash ≡ x_tx_hash)) ms_1 _
@@ -251,7 +240,7 @@ cell_input-fields v = shape.encode_field shape.u64 v.since ∷ shape.encode_fiel
 
 cell_input-rest : (t : Data) → Rest schema.cell_input (λ v. Unit {0}) (λ v. is_object (λ ms. members_read (form.cell_input_rows v) ms) t) (cell_input_at t)
 unfolding cell_input_at schema.cell_input
-cell_input-rest t = object-rest schema.cell_input (λ v ms. members_read (form.cell_input_rows v) ms) _ (λ ms.
+cell_input-rest t = object-rest false schema.cell_input (λ v ms. members_read (form.cell_input_rows v) ms) _ (λ ms.
     (row-rest schema.cell_input (λ v. Unit {0}) (codes "previous_output") form.out_point schema.out_point (λ v. v.previous_output) (λ v. row (codes "since") hex_number v.since ∷ []) (λ v f. (AllFit-from (cell_input-fields v) f).1.0) out_point_at out_point-exact ms _ (λ x_previous_output d_0 ms_0 f_previous_output.
     (row-rest schema.cell_input (λ v. Unit {0} × (v.previous_output ≡ x_previous_output)) (codes "since") hex_number shape.u64 (λ v. v.since) (λ v. []) (λ v f. (AllFit-from (cell_input-fields v) f).0) (number_at w64) u64-exact ms_0 _ (λ x_since d_1 ms_1 f_since.
     end-rest schema.cell_input (λ v. (Unit {0} × (v.previous_output ≡ x_previous_output)) × (v.since ≡ x_since)) ms_1 _
@@ -266,7 +255,7 @@ cell_dep-fields v = shape.encode_field schema.out_point v.out_point ∷ shape.en
 
 cell_dep-rest : (t : Data) → Rest schema.cell_dep (λ v. Unit {0}) (λ v. is_object (λ ms. members_read (form.cell_dep_rows v) ms) t) (cell_dep_at t)
 unfolding cell_dep_at schema.cell_dep
-cell_dep-rest t = object-rest schema.cell_dep (λ v ms. members_read (form.cell_dep_rows v) ms) _ (λ ms.
+cell_dep-rest t = object-rest false schema.cell_dep (λ v ms. members_read (form.cell_dep_rows v) ms) _ (λ ms.
     (row-rest schema.cell_dep (λ v. Unit {0}) (codes "dep_type") (named_byte (codes "code") (codes "dep_group")) shape.byte (λ v. v.dep_type) (λ v. row (codes "out_point") form.out_point v.out_point ∷ []) (λ v f. (AllFit-from (cell_dep-fields v) f).1.0) (named_at (codes "code") (codes "dep_group")) (named-exact (codes "code") (codes "dep_group") dep_type-once) ms _ (λ x_dep_type d_0 ms_0 f_dep_type.
     (row-rest schema.cell_dep (λ v. Unit {0} × (v.dep_type ≡ x_dep_type)) (codes "out_point") form.out_point schema.out_point (λ v. v.out_point) (λ v. []) (λ v f. (AllFit-from (cell_dep-fields v) f).0) out_point_at out_point-exact ms_0 _ (λ x_out_point d_1 ms_1 f_out_point.
     end-rest schema.cell_dep (λ v. (Unit {0} × (v.dep_type ≡ x_dep_type)) × (v.out_point ≡ x_out_point)) ms_1 _
@@ -281,7 +270,7 @@ cell_output-fields v = shape.encode_field shape.u64 v.capacity ∷ shape.encode_
 
 cell_output-rest : (t : Data) → Rest schema.cell_output (λ v. Unit {0}) (λ v. is_object (λ ms. members_read (form.cell_output_rows v) ms) t) (cell_output_at t)
 unfolding cell_output_at schema.cell_output
-cell_output-rest t = object-rest schema.cell_output (λ v ms. members_read (form.cell_output_rows v) ms) _ (λ ms.
+cell_output-rest t = object-rest false schema.cell_output (λ v ms. members_read (form.cell_output_rows v) ms) _ (λ ms.
     (row-rest schema.cell_output (λ v. Unit {0}) (codes "capacity") hex_number shape.u64 (λ v. v.capacity) (λ v. row (codes "lock") form.script v.lock ∷ row (codes "type") (option form.script) v.type_script ∷ []) (λ v f. (AllFit-from (cell_output-fields v) (and_parts _ _ f).1).0) (number_at w64) u64-exact ms _ (λ x_capacity d_0 ms_0 f_capacity.
     (row-rest schema.cell_output (λ v. Unit {0} × (v.capacity ≡ x_capacity)) (codes "lock") form.script schema.script (λ v. v.lock) (λ v. row (codes "type") (option form.script) v.type_script ∷ []) (λ v f. (AllFit-from (cell_output-fields v) (and_parts _ _ f).1).1.0) script_at script-exact ms_0 _ (λ x_lock d_1 ms_1 f_lock.
     (row-rest schema.cell_output (λ v. (Unit {0} × (v.capacity ≡ x_capacity)) × (v.lock ≡ x_lock)) (codes "type") (option form.script) (shape.option schema.script) (λ v. v.type_script) (λ v. []) (λ v f. (AllFit-from (cell_output-fields v) (and_parts _ _ f).1).1.1.0) type_script_at type_script-exact ms_1 _ (λ x_type_script d_2 ms_2 f_type_script.
@@ -308,8 +297,8 @@ others-fit v f = AllFit-from (transaction-others v) (and_parts _ _ (and_parts _ 
 
 transaction-rest : (t : Data) → Rest schema.transaction (λ v. Unit {0}) (λ v. is_object (λ ms. members_read (form.transaction_rows v) (without free_key ms)) t) (transaction_at t)
 unfolding transaction_at schema.transaction schema.raw_transaction
-transaction-rest t = object-rest schema.transaction (λ v ms. members_read (form.transaction_rows v) (without free_key ms)) _ (λ ms.
-    (row-rest schema.transaction (λ v. Unit {0}) (codes "cell_deps") (list form.cell_dep) (shape.fixvec 37 schema.cell_dep) (λ v. v.raw.cell_deps) (λ v. row (codes "header_deps") (list byte_string) v.raw.header_deps ∷ row (codes "inputs") (list form.cell_input) v.raw.inputs ∷ row (codes "outputs") (list form.cell_output) v.raw.outputs ∷ row (codes "outputs_data") (list byte_string) v.raw.outputs_data ∷ row (codes "version") hex_number v.raw.version ∷ row (codes "witnesses") (list byte_string) v.witnesses ∷ []) (λ v f. (raw-fit v f).1.0) (fixvec_at cell_dep_at) (fixvec-exact form.cell_dep schema.cell_dep 37 cell_dep_at cell_dep-once cell_dep-exact) (without free_key ms) _ (λ x_cell_deps d_0 ms_0 f_cell_deps.
+transaction-rest t = object-rest true schema.transaction (λ v ms. members_read (form.transaction_rows v) ms) _ (λ ms.
+    (row-rest schema.transaction (λ v. Unit {0}) (codes "cell_deps") (list form.cell_dep) (shape.fixvec 37 schema.cell_dep) (λ v. v.raw.cell_deps) (λ v. row (codes "header_deps") (list byte_string) v.raw.header_deps ∷ row (codes "inputs") (list form.cell_input) v.raw.inputs ∷ row (codes "outputs") (list form.cell_output) v.raw.outputs ∷ row (codes "outputs_data") (list byte_string) v.raw.outputs_data ∷ row (codes "version") hex_number v.raw.version ∷ row (codes "witnesses") (list byte_string) v.witnesses ∷ []) (λ v f. (raw-fit v f).1.0) (fixvec_at cell_dep_at) (fixvec-exact form.cell_dep schema.cell_dep 37 cell_dep_at cell_dep-once cell_dep-exact) ms _ (λ x_cell_deps d_0 ms_0 f_cell_deps.
     (row-rest schema.transaction (λ v. Unit {0} × (v.raw.cell_deps ≡ x_cell_deps)) (codes "header_deps") (list byte_string) (shape.fixvec 32 (shape.byte_array 32)) (λ v. v.raw.header_deps) (λ v. row (codes "inputs") (list form.cell_input) v.raw.inputs ∷ row (codes "outputs") (list form.cell_output) v.raw.outputs ∷ row (codes "outputs_data") (list byte_string) v.raw.outputs_data ∷ row (codes "version") hex_number v.raw.version ∷ row (codes "witnesses") (list byte_string) v.witnesses ∷ []) (λ v f. (raw-fit v f).1.1.0) (fixvec_at (array_at 32)) (fixvec-exact byte_string (shape.byte_array 32) 32 (array_at 32) (array-once 32) (array-exact 32)) ms_0 _ (λ x_header_deps d_1 ms_1 f_header_deps.
     (row-rest schema.transaction (λ v. (Unit {0} × (v.raw.cell_deps ≡ x_cell_deps)) × (v.raw.header_deps ≡ x_header_deps)) (codes "inputs") (list form.cell_input) (shape.fixvec 44 schema.cell_input) (λ v. v.raw.inputs) (λ v. row (codes "outputs") (list form.cell_output) v.raw.outputs ∷ row (codes "outputs_data") (list byte_string) v.raw.outputs_data ∷ row (codes "version") hex_number v.raw.version ∷ row (codes "witnesses") (list byte_string) v.witnesses ∷ []) (λ v f. (raw-fit v f).1.1.1.0) (fixvec_at cell_input_at) (fixvec-exact form.cell_input schema.cell_input 44 cell_input_at cell_input-once cell_input-exact) ms_1 _ (λ x_inputs d_2 ms_2 f_inputs.
     (row-rest schema.transaction (λ v. ((Unit {0} × (v.raw.cell_deps ≡ x_cell_deps)) × (v.raw.header_deps ≡ x_header_deps)) × (v.raw.inputs ≡ x_inputs)) (codes "outputs") (list form.cell_output) (shape.dynvec schema.cell_output) (λ v. v.raw.outputs) (λ v. row (codes "outputs_data") (list byte_string) v.raw.outputs_data ∷ row (codes "version") hex_number v.raw.version ∷ row (codes "witnesses") (list byte_string) v.witnesses ∷ []) (λ v f. (raw-fit v f).1.1.1.1.0) (dynvec_at cell_output_at) (dynvec-exact form.cell_output schema.cell_output cell_output_at cell_output-once cell_output-exact) ms_2 _ (λ x_outputs d_3 ms_3 f_outputs.
@@ -328,8 +317,8 @@ usual-fields v = shape.encode_field shape.u32 v.version ∷ shape.encode_field s
 
 usual-rest : (t : Data) → Rest schema.header (λ v. Unit {0}) (λ v. is_object (λ ms. members_read (usual_header_rows v) (without free_key ms)) t) (header_with false t)
 unfolding header_with schema.header
-usual-rest t = object-rest schema.header (λ v ms. members_read (usual_header_rows v) (without free_key ms)) _ (λ ms.
-    (row-rest schema.header (λ v. Unit {0}) (codes "compact_target") hex_number shape.u32 (λ v. v.compact_target) (λ v. row (codes "dao") byte_string v.dao ∷ row (codes "epoch") hex_number v.epoch ∷ row (codes "nonce") hex_number v.nonce ∷ row (codes "number") hex_number v.number ∷ row (codes "parent_hash") byte_string v.parent_hash ∷ row (codes "proposals_hash") byte_string v.proposals_hash ∷ row (codes "timestamp") hex_number v.timestamp ∷ row (codes "transactions_root") byte_string v.transactions_root ∷ row (codes "uncles_hash") byte_string v.uncles_hash ∷ row (codes "version") hex_number v.version ∷ []) (λ v f. (AllFit-from (usual-fields v) f).1.0) (number_at w32) u32-exact (without free_key ms) _ (λ x_compact_target d_0 ms_0 f_compact_target.
+usual-rest t = object-rest true schema.header (λ v ms. members_read (usual_header_rows v) ms) _ (λ ms.
+    (row-rest schema.header (λ v. Unit {0}) (codes "compact_target") hex_number shape.u32 (λ v. v.compact_target) (λ v. row (codes "dao") byte_string v.dao ∷ row (codes "epoch") hex_number v.epoch ∷ row (codes "nonce") hex_number v.nonce ∷ row (codes "number") hex_number v.number ∷ row (codes "parent_hash") byte_string v.parent_hash ∷ row (codes "proposals_hash") byte_string v.proposals_hash ∷ row (codes "timestamp") hex_number v.timestamp ∷ row (codes "transactions_root") byte_string v.transactions_root ∷ row (codes "uncles_hash") byte_string v.uncles_hash ∷ row (codes "version") hex_number v.version ∷ []) (λ v f. (AllFit-from (usual-fields v) f).1.0) (number_at w32) u32-exact ms _ (λ x_compact_target d_0 ms_0 f_compact_target.
     (row-rest schema.header (λ v. Unit {0} × (v.compact_target ≡ x_compact_target)) (codes "dao") byte_string (shape.byte_array 32) (λ v. v.dao) (λ v. row (codes "epoch") hex_number v.epoch ∷ row (codes "nonce") hex_number v.nonce ∷ row (codes "number") hex_number v.number ∷ row (codes "parent_hash") byte_string v.parent_hash ∷ row (codes "proposals_hash") byte_string v.proposals_hash ∷ row (codes "timestamp") hex_number v.timestamp ∷ row (codes "transactions_root") byte_string v.transactions_root ∷ row (codes "uncles_hash") byte_string v.uncles_hash ∷ row (codes "version") hex_number v.version ∷ []) (λ v f. (AllFit-from (usual-fields v) f).1.1.1.1.1.1.1.1.1.0) (array_at 32) (array-exact 32) ms_0 _ (λ x_dao d_1 ms_1 f_dao.
     (row-rest schema.header (λ v. (Unit {0} × (v.compact_target ≡ x_compact_target)) × (v.dao ≡ x_dao)) (codes "epoch") hex_number shape.u64 (λ v. v.epoch) (λ v. row (codes "nonce") hex_number v.nonce ∷ row (codes "number") hex_number v.number ∷ row (codes "parent_hash") byte_string v.parent_hash ∷ row (codes "proposals_hash") byte_string v.proposals_hash ∷ row (codes "timestamp") hex_number v.timestamp ∷ row (codes "transactions_root") byte_string v.transactions_root ∷ row (codes "uncles_hash") byte_string v.uncles_hash ∷ row (codes "version") hex_number v.version ∷ []) (λ v f. (AllFit-from (usual-fields v) f).1.1.1.1.0) (number_at w64) u64-exact ms_1 _ (λ x_epoch d_2 ms_2 f_epoch.
     (row-rest schema.header (λ v. ((Unit {0} × (v.compact_target ≡ x_compact_target)) × (v.dao ≡ x_dao)) × (v.epoch ≡ x_epoch)) (codes "nonce") hex_number shape.u128 (λ v. v.nonce) (λ v. row (codes "number") hex_number v.number ∷ row (codes "parent_hash") byte_string v.parent_hash ∷ row (codes "proposals_hash") byte_string v.proposals_hash ∷ row (codes "timestamp") hex_number v.timestamp ∷ row (codes "transactions_root") byte_string v.transactions_root ∷ row (codes "uncles_hash") byte_string v.uncles_hash ∷ row (codes "version") hex_number v.version ∷ []) (λ v f. (AllFit-from (usual-fields v) f).1.1.1.1.1.1.1.1.1.1.0) (number_at w128) u128-exact ms_2 _ (λ x_nonce d_3 ms_3 f_nonce.
@@ -348,8 +337,8 @@ other-fields v = shape.encode_field shape.u32 v.version ∷ shape.encode_field s
 
 other-rest : (t : Data) → Rest schema.header (λ v. Unit {0}) (λ v. is_object (λ ms. members_read (other_header_rows v) (without free_key ms)) t) (header_with true t)
 unfolding header_with schema.header
-other-rest t = object-rest schema.header (λ v ms. members_read (other_header_rows v) (without free_key ms)) _ (λ ms.
-    (row-rest schema.header (λ v. Unit {0}) (codes "compact_target") hex_number shape.u32 (λ v. v.compact_target) (λ v. row (codes "dao") byte_string v.dao ∷ row (codes "epoch") hex_number v.epoch ∷ row (codes "extra_hash") byte_string v.uncles_hash ∷ row (codes "nonce") hex_number v.nonce ∷ row (codes "number") hex_number v.number ∷ row (codes "parent_hash") byte_string v.parent_hash ∷ row (codes "proposals_hash") byte_string v.proposals_hash ∷ row (codes "timestamp") hex_number v.timestamp ∷ row (codes "transactions_root") byte_string v.transactions_root ∷ row (codes "version") hex_number v.version ∷ []) (λ v f. (AllFit-from (other-fields v) f).1.0) (number_at w32) u32-exact (without free_key ms) _ (λ x_compact_target d_0 ms_0 f_compact_target.
+other-rest t = object-rest true schema.header (λ v ms. members_read (other_header_rows v) ms) _ (λ ms.
+    (row-rest schema.header (λ v. Unit {0}) (codes "compact_target") hex_number shape.u32 (λ v. v.compact_target) (λ v. row (codes "dao") byte_string v.dao ∷ row (codes "epoch") hex_number v.epoch ∷ row (codes "extra_hash") byte_string v.uncles_hash ∷ row (codes "nonce") hex_number v.nonce ∷ row (codes "number") hex_number v.number ∷ row (codes "parent_hash") byte_string v.parent_hash ∷ row (codes "proposals_hash") byte_string v.proposals_hash ∷ row (codes "timestamp") hex_number v.timestamp ∷ row (codes "transactions_root") byte_string v.transactions_root ∷ row (codes "version") hex_number v.version ∷ []) (λ v f. (AllFit-from (other-fields v) f).1.0) (number_at w32) u32-exact ms _ (λ x_compact_target d_0 ms_0 f_compact_target.
     (row-rest schema.header (λ v. Unit {0} × (v.compact_target ≡ x_compact_target)) (codes "dao") byte_string (shape.byte_array 32) (λ v. v.dao) (λ v. row (codes "epoch") hex_number v.epoch ∷ row (codes "extra_hash") byte_string v.uncles_hash ∷ row (codes "nonce") hex_number v.nonce ∷ row (codes "number") hex_number v.number ∷ row (codes "parent_hash") byte_string v.parent_hash ∷ row (codes "proposals_hash") byte_string v.proposals_hash ∷ row (codes "timestamp") hex_number v.timestamp ∷ row (codes "transactions_root") byte_string v.transactions_root ∷ row (codes "version") hex_number v.version ∷ []) (λ v f. (AllFit-from (other-fields v) f).1.1.1.1.1.1.1.1.1.0) (array_at 32) (array-exact 32) ms_0 _ (λ x_dao d_1 ms_1 f_dao.
     (row-rest schema.header (λ v. (Unit {0} × (v.compact_target ≡ x_compact_target)) × (v.dao ≡ x_dao)) (codes "epoch") hex_number shape.u64 (λ v. v.epoch) (λ v. row (codes "extra_hash") byte_string v.uncles_hash ∷ row (codes "nonce") hex_number v.nonce ∷ row (codes "number") hex_number v.number ∷ row (codes "parent_hash") byte_string v.parent_hash ∷ row (codes "proposals_hash") byte_string v.proposals_hash ∷ row (codes "timestamp") hex_number v.timestamp ∷ row (codes "transactions_root") byte_string v.transactions_root ∷ row (codes "version") hex_number v.version ∷ []) (λ v f. (AllFit-from (other-fields v) f).1.1.1.1.0) (number_at w64) u64-exact ms_1 _ (λ x_epoch d_2 ms_2 f_epoch.
     (hash-row schema.header (λ v. ((Unit {0} × (v.compact_target ≡ x_compact_target)) × (v.dao ≡ x_dao)) × (v.epoch ≡ x_epoch)) (codes "extra_hash") (λ v. v.uncles_hash) (λ v. row (codes "nonce") hex_number v.nonce ∷ row (codes "number") hex_number v.number ∷ row (codes "parent_hash") byte_string v.parent_hash ∷ row (codes "proposals_hash") byte_string v.proposals_hash ∷ row (codes "timestamp") hex_number v.timestamp ∷ row (codes "transactions_root") byte_string v.transactions_root ∷ row (codes "version") hex_number v.version ∷ []) (λ v f. (AllFit-from (other-fields v) f).1.1.1.1.1.1.1.1.0) ms_2 _ (λ x_uncles_hash d_3 ms_3 f_uncles_hash.
@@ -405,7 +394,7 @@ uncle-fields v = shape.encode_field schema.header v.header ∷ shape.encode_fiel
 
 uncle-rest : (t : Data) → Rest schema.uncle_block (λ v. Unit {0}) (λ v. is_object (λ ms. members_read (form.uncle_rows v) ms) t) (uncle_at t)
 unfolding uncle_at schema.uncle_block
-uncle-rest t = object-rest schema.uncle_block (λ v ms. members_read (form.uncle_rows v) ms) _ (λ ms.
+uncle-rest t = object-rest false schema.uncle_block (λ v ms. members_read (form.uncle_rows v) ms) _ (λ ms.
     (row-rest schema.uncle_block (λ v. Unit {0}) (codes "header") form.header schema.header (λ v. v.header) (λ v. row (codes "proposals") (list byte_string) v.proposals ∷ []) (λ v f. (AllFit-from (uncle-fields v) (and_parts _ _ f).1).0) header_at header-exact ms _ (λ x_header d_0 ms_0 f_header.
     (row-rest schema.uncle_block (λ v. Unit {0} × (v.header ≡ x_header)) (codes "proposals") (list byte_string) (shape.fixvec 10 (shape.byte_array 10)) (λ v. v.proposals) (λ v. []) (λ v f. (AllFit-from (uncle-fields v) (and_parts _ _ f).1).1.0) (fixvec_at (array_at 10)) (fixvec-exact byte_string (shape.byte_array 10) 10 (array_at 10) (array-once 10) (array-exact 10)) ms_0 _ (λ x_proposals d_1 ms_1 f_proposals.
     end-rest schema.uncle_block (λ v. (Unit {0} × (v.header ≡ x_header)) × (v.proposals ≡ x_proposals)) ms_1 _
@@ -420,7 +409,7 @@ block-fields v = shape.encode_field schema.header v.header ∷ shape.encode_fiel
 
 block-rest : (t : Data) → Rest schema.block (λ v. Unit {0}) (λ v. is_object (λ ms. members_read (form.block_rows v) ms) t) (block_at t)
 unfolding block_at schema.block
-block-rest t = object-rest schema.block (λ v ms. members_read (form.block_rows v) ms) _ (λ ms.
+block-rest t = object-rest false schema.block (λ v ms. members_read (form.block_rows v) ms) _ (λ ms.
     (row-rest schema.block (λ v. Unit {0}) (codes "header") form.header schema.header (λ v. v.header) (λ v. row (codes "proposals") (list byte_string) v.proposals ∷ row (codes "transactions") (list form.transaction) v.transactions ∷ row (codes "uncles") (list form.uncle) v.uncles ∷ []) (λ v f. (AllFit-from (block-fields v) (and_parts _ _ f).1).0) header_at header-exact ms _ (λ x_header d_0 ms_0 f_header.
     (row-rest schema.block (λ v. Unit {0} × (v.header ≡ x_header)) (codes "proposals") (list byte_string) (shape.fixvec 10 (shape.byte_array 10)) (λ v. v.proposals) (λ v. row (codes "transactions") (list form.transaction) v.transactions ∷ row (codes "uncles") (list form.uncle) v.uncles ∷ []) (λ v f. (AllFit-from (block-fields v) (and_parts _ _ f).1).1.1.1.0) (fixvec_at (array_at 10)) (fixvec-exact byte_string (shape.byte_array 10) 10 (array_at 10) (array-once 10) (array-exact 10)) ms_0 _ (λ x_proposals d_1 ms_1 f_proposals.
     (row-rest schema.block (λ v. (Unit {0} × (v.header ≡ x_header)) × (v.proposals ≡ x_proposals)) (codes "transactions") (list form.transaction) (shape.dynvec schema.transaction) (λ v. v.transactions) (λ v. row (codes "uncles") (list form.uncle) v.uncles ∷ []) (λ v f. (AllFit-from (block-fields v) (and_parts _ _ f).1).1.1.0) (dynvec_at transaction_at) (dynvec-exact form.transaction schema.transaction transaction_at transaction-once transaction-exact) ms_1 _ (λ x_transactions d_2 ms_2 f_transactions.

@@ -1,8 +1,8 @@
 -- What is read from a text, by what is read from its tree.
 use Rattle.std.proofs.Common.{◌≡◌, ℕ, true, List, Option, Some, None, Result, Ok, Err, Vec, Global, IsUtf8, sym, subst, ◌∙◌}
 use Rattle.std.specs.Prelude.{IsTrue, IfOk}
-use Rattle.codec_defs.specs.Shape.{IsA}
-use Rattle.codec_defs.specs.Schema as schema
+use Rattle.chain_defs.specs.Shape.{IsA}
+use Rattle.chain_defs.specs.Schema as schema
 use Rattle.serde_json.specs.Data.{Data}
 use Rattle.serde_json.specs.Read.{read}
 use Rattle.json_blocks.specs.declared.stop.JsonStop.{JsonStop}

@@ -6,6 +6,7 @@ pub mod ReadOnce
 pub mod TextBack
 pub mod DigitLemmas
 pub mod Members
+pub mod KeyLemmas
 pub mod Encodings
 pub mod Exact
 pub mod ExactObjects

@@ -1,5 +1,5 @@
 -- Texts that stand for themselves in a string of JSON: keys and hex digits.
-use Rattle.std.proofs.Common.{◌≡◌, ℕ, zero, suc, ◌+◌, ◌/◌, ◌%◌, ◌<◌, ◌≤◌, ◌==◌, Bool, true, false, ◌&&◌, List, [], ◌∷◌, ◌++◌, inl, inr, length, slice_index, drop, refl, sym, ap, ◌∙◌, arith, append_assoc, add-one, drop-cons, ne_eqb}
+use Rattle.std.proofs.Common.{◌≡◌, ℕ, zero, suc, ◌+◌, ◌/◌, ◌%◌, ◌<◌, ◌≤◌, ◌==◌, Bool, true, false, ◌&&◌, List, [], ◌∷◌, ◌++◌, inl, inr, length, slice_index, drop, refl, sym, ap, subst, ◌∙◌, arith, append_assoc, add-one, drop-cons, ne_eqb}
 use Rattle.std.specs.Prelude.{if◌then◌else◌}
 use Rattle.std.specs.List.{list_all}
 use Rattle.std.specs.Fmt.{digits, digits_onto, digit_glyph}
@@ -11,6 +11,7 @@ use Rattle.hex.specs.Hex.{encode_lower, encode_with, lower_digits, IsBytes}
 use Rattle.serde_json.specs.Data.{Data}
 use Rattle.serde_json.specs.Written.{compact_text}
 use Rattle.json_defs.specs.Form.{hex_text, hex_number, byte_string, named_byte}
+use Rattle.json_blocks.specs.declared.text.Text.{Text}
 use Rattle.json_blocks.specs.Text.{is_plain, key_text, Puts, PutsTree}
 
 -- ---- what is plain is not escaped
@@ -90,26 +91,29 @@ byte_string-text bytes fits = hex_text-plain (encode_lower bytes) (encode_lower-
 
 -- ---- what is put piece by piece
 
-pub key_put : (old w x y z : List ℕ) (mark : ℕ) (key : List ℕ) → list_all is_plain key ≡ true
-    → w ≡ old ++ mark ∷ [] → x ≡ w ++ 34 ∷ [] → y ≡ x ++ key → z ≡ y ++ 34 ∷ 58 ∷ [] → Puts old z (key_text mark key)
-key_put old w x y z mark key plain first second third last =
-    let pieces : z ≡ (((old ++ mark ∷ []) ++ 34 ∷ []) ++ key) ++ 34 ∷ 58 ∷ [] = cc in
-    let tidy : (((old ++ mark ∷ []) ++ 34 ∷ []) ++ key) ++ 34 ∷ 58 ∷ [] ≡ old ++ (mark ∷ ((34 ∷ (key ++ 34 ∷ [])) ++ 58 ∷ [])) = simp append_assoc in
-    record { is = pieces ∙ tidy ∙ ap (λ (l : List ℕ). old ++ (mark ∷ (l ++ 58 ∷ []))) (sym (quoted-plain key plain)) }
+pub puts_more : {a b c : Text} {s t : List ℕ} → Puts a b s → Puts b c t → Puts a c (s ++ t)
+puts_more {a} {b} {c} {s} {t} first second = record {
+  is = λ long. (
+      let here = second.is long in
+      let before = first.is here.0 in
+      (before.0, here.1 ∙ ap (λ (l : List ℕ). l ++ t) before.1 ∙ append_assoc a.bytes.items s t));
+}
 
-pub text_put : (old x y z s : List ℕ) → list_all is_plain s ≡ true
-    → x ≡ old ++ 34 ∷ [] → y ≡ x ++ s → z ≡ y ++ 34 ∷ [] → Puts old z (quoted s)
-text_put old x y z s plain first second last =
-    let pieces : z ≡ ((old ++ 34 ∷ []) ++ s) ++ 34 ∷ [] = cc in
-    let tidy : ((old ++ 34 ∷ []) ++ s) ++ 34 ∷ [] ≡ old ++ (34 ∷ (s ++ 34 ∷ [])) = simp append_assoc in
-    record { is = pieces ∙ tidy ∙ ap (λ (l : List ℕ). old ++ l) (sym (quoted-plain s plain)) }
+pub puts_same : {a b : Text} {s t : List ℕ} → s ≡ t → Puts a b s → Puts a b t
+puts_same {a} {b} is put = subst (Puts a b) is put
 
-pub hex_put : (old x y z : List ℕ) (d : Data) (s : List ℕ) → compact_text d ≡ 34 ∷ 48 ∷ 120 ∷ (s ++ 34 ∷ [])
-    → x ≡ old ++ 34 ∷ 48 ∷ 120 ∷ [] → y ≡ x ++ s → z ≡ y ++ 34 ∷ [] → PutsTree old z d
-hex_put old x y z d s is first second last =
-    let pieces : z ≡ ((old ++ 34 ∷ 48 ∷ 120 ∷ []) ++ s) ++ 34 ∷ [] = cc in
-    let tidy : ((old ++ 34 ∷ 48 ∷ 120 ∷ []) ++ s) ++ 34 ∷ [] ≡ old ++ (34 ∷ 48 ∷ 120 ∷ (s ++ 34 ∷ [])) = simp append_assoc in
-    record { is = pieces ∙ tidy ∙ ap (λ (l : List ℕ). old ++ l) (sym is) }
+pub key_put : {a b c d : Text} (mark : ℕ) (key : List ℕ) → list_all is_plain key ≡ true
+    → Puts a b (mark ∷ 34 ∷ []) → Puts b c key → Puts c d (34 ∷ 58 ∷ []) → Puts a d (key_text mark key)
+key_put mark key plain first second third =
+    puts_same (ap (λ (l : List ℕ). mark ∷ 34 ∷ l) (sym (append_assoc key (34 ∷ []) (58 ∷ []))) ∙ ap (λ (l : List ℕ). mark ∷ (l ++ 58 ∷ [])) (sym (quoted-plain key plain)))
+    (puts_more first (puts_more second third))
+
+pub text_put : {a b c d : Text} (s : List ℕ) → list_all is_plain s ≡ true → Puts a b (34 ∷ []) → Puts b c s → Puts c d (34 ∷ []) → Puts a d (quoted s)
+text_put s plain first second third = puts_same (sym (quoted-plain s plain)) (puts_more first (puts_more second third))
+
+pub hex_put : {a b c e : Text} (d : Data) (s : List ℕ) → compact_text d ≡ 34 ∷ 48 ∷ 120 ∷ (s ++ 34 ∷ [])
+    → Puts a b (34 ∷ 48 ∷ 120 ∷ []) → Puts b c s → Puts c e (34 ∷ []) → PutsTree a e d
+hex_put d s is first second third = record { is = puts_same (sym is) (puts_more first (puts_more second third)) }
 
 -- the digits of one byte more
 pub digits_put : (out x y whole bytes : List ℕ) (i high low : ℕ) → i < length bytes
@@ -154,15 +158,15 @@ glyph d below = glyph-at 16 d refl below
 
 -- ---- a byte with names
 
-pub named-zeroth : {old new : List ℕ} (zeroth first : List ℕ) (b : ℕ) → b ≡ 0 → Puts old new (quoted zeroth) → PutsTree old new ((named_byte zeroth first).tree b)
+pub named-zeroth : {old new : Text} (zeroth first : List ℕ) (b : ℕ) → b ≡ 0 → Puts old new (quoted zeroth) → PutsTree old new ((named_byte zeroth first).tree b)
 unfolding named_byte
-named-zeroth {old} zeroth first b is put = rw is (record { is = put.is })
+named-zeroth zeroth first b is put = rw is (record { is = put })
 
-pub named-first : {old new : List ℕ} (zeroth first : List ℕ) (b : ℕ) → b ≡ 1 → Puts old new (quoted first) → PutsTree old new ((named_byte zeroth first).tree b)
+pub named-first : {old new : Text} (zeroth first : List ℕ) (b : ℕ) → b ≡ 1 → Puts old new (quoted first) → PutsTree old new ((named_byte zeroth first).tree b)
 unfolding named_byte
-named-first zeroth first b is put = rw is (record { is = put.is })
+named-first zeroth first b is put = rw is (record { is = put })
 
-pub named-other : {old new : List ℕ} (zeroth first : List ℕ) (b : ℕ) → (b ≡ 0 → ⊥) → (b ≡ 1 → ⊥)
+pub named-other : {old new : Text} (zeroth first : List ℕ) (b : ℕ) → (b ≡ 0 → ⊥) → (b ≡ 1 → ⊥)
     → PutsTree old new (byte_string.tree (b ∷ [])) → PutsTree old new ((named_byte zeroth first).tree b)
 unfolding named_byte
 named-other zeroth first b not_zero not_one put =

@@ -9,9 +9,9 @@ use Rattle.std.proofs.lemmas.Bool.Decides.{nat_tests}
 use Rattle.std.proofs.lemmas.Slice.Eq.{bytes_eq-Decides}
 use Rattle.hex.specs.Hex.{encode_lower, IsBytes}
 use Rattle.hex.proofs.HexLemmas.{decode_of-encode_lower}
-use Rattle.codec_defs.specs.Shape as shape
-use Rattle.codec_defs.specs.Schema as schema
-use Rattle.codec_defs.proofs.ShapeLaws.{AllFit, AllFit-from}
+use Rattle.chain_defs.specs.Shape as shape
+use Rattle.chain_defs.specs.Schema as schema
+use Rattle.chain_defs.proofs.ShapeLaws.{AllFit, AllFit-from}
 use Rattle.serde_json.specs.Data.{Data, null, boolean, number, string, array, object, Items, no_items, item, Members, no_members, member}
 use Rattle.json_defs.specs.Form.{Form, Row, has_digits, is_text, hex_text, lowered, hex_number, byte_string, named_byte, items_read, list, option, members_read, without, is_object}
 use Rattle.json_defs.specs.Blocks as form

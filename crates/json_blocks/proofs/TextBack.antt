@@ -12,7 +12,7 @@ use Rattle.serde_json.specs.Data.{Data, null, string, array, object, Items, item
 use Rattle.serde_json.specs.Read.{max_depth, read, of_json, of_items, of_members}
 use Rattle.serde_json.specs.Written.{compact_text, outline, items_outline, members_outline}
 use Rattle.serde_json.proofs.Texts.{print-outline}
-use Rattle.codec_defs.specs.Schema as schema
+use Rattle.chain_defs.specs.Schema as schema
 use Rattle.json_defs.specs.Form.{Form, items, hex_number, byte_string, named_byte, list, option}
 use Rattle.json_defs.specs.Blocks as form
 

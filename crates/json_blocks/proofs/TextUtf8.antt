@@ -10,7 +10,7 @@ use Rattle.json.proofs.Printed.Utf8.{are_ascii, IsUtf8-are_ascii, IsUtf8-quoted}
 use Rattle.serde_json.specs.Data.{Data, null, string, object, Members, no_members, member}
 use Rattle.json.specs.Print.{quoted}
 use Rattle.serde_json.specs.Written.{compact_text, items_text, members_text, comma_if}
-use Rattle.codec_defs.specs.Schema as schema
+use Rattle.chain_defs.specs.Schema as schema
 use Rattle.json_defs.specs.Form.{Form, items, hex_number, byte_string, named_byte, list, option}
 use Rattle.json_defs.specs.Blocks as form
 

@@ -6,7 +6,7 @@ use Rattle.std.specs.Fmt.{digits}
 use Rattle.std.specs.List.{concat}
 use Rattle.std.specs.Str.{bytes_eq}
 use Rattle.hex.specs.Hex.{encode_lower}
-use Rattle.codec_defs.specs.Molecule as molecule
+use Rattle.chain_defs.specs.Molecule as molecule
 use Rattle.serde_json.specs.Data.{Data, null, boolean, number, string, array, object, Items, no_items, item, Members, no_members, member}
 use Rattle.json_blocks.specs.declared.stop.JsonStop.{JsonStop}
 use Rattle.json_blocks.specs.declared.stop.JsonStop.TheVariants as stops
@@ -84,13 +84,17 @@ named_at zeroth first t = if is_text zeroth t then Some (0 ∷ []) else (if is_t
 
 -- ---- objects
 
-abbrev pub members_at : Data → Option Members
-members_at null = None
-members_at (boolean b) = None
-members_at (number n) = None
-members_at (string s) = None
-members_at (array ds) = None
-members_at (object ms) = Some ms
+-- the members, where those of the key `hash` are passed over if `beside_hash`
+abbrev pub left : Bool → Members → Members
+left beside_hash ms = if beside_hash then without free_key ms else ms
+
+abbrev pub members_at : Bool → Data → Option Members
+members_at beside_hash null = None
+members_at beside_hash (boolean b) = None
+members_at beside_hash (number n) = None
+members_at beside_hash (string s) = None
+members_at beside_hash (array ds) = None
+members_at beside_hash (object ms) = Some (left beside_hash ms)
 
 -- the first member's value, where it has this key, and the members after it
 abbrev pub take_at : List ℕ → Members → Option (Data × Members)
@@ -104,6 +108,14 @@ end_at (member k d ms) = None
 -- a table of these fields, where it is shorter than 2^32 bytes
 unfoldable pub table_from : List (List ℕ) → Option (List ℕ)
 table_from fields = if nat_lt (molecule.full_size fields) (2 ^ 32) then Some (molecule.dynvec fields) else None
+
+-- a table whose first field is a table
+abbrev pub tables_from : List (List ℕ) → List (List ℕ) → Option (List ℕ)
+tables_from inner others = table_from inner >>= (λ first. table_from (first ∷ others))
+
+-- a struct of these fields
+abbrev pub struct_from : List (List ℕ) → Option (List ℕ)
+struct_from fields = Some (concat fields)
 
 -- the fields with one more, where their table stays shorter than 2^32 bytes
 unfoldable pub pushed : List (List ℕ) → List ℕ → Option (List (List ℕ))
@@ -142,7 +154,7 @@ dynvec_at read t = do
 
 unfoldable pub script_at : Data → Option (List ℕ)
 script_at t = do
-  ms ← members_at t
+  ms ← members_at false t
   a ← take_at (codes "args") ms
   args ← content_at a.0
   c ← take_at (codes "code_hash") a.1
@@ -162,37 +174,37 @@ type_script_at (object ms) = script_at (object ms)
 
 unfoldable pub out_point_at : Data → Option (List ℕ)
 out_point_at t = do
-  ms ← members_at t
+  ms ← members_at false t
   i ← take_at (codes "index") ms
   index ← number_at w32 i.0
   h ← take_at (codes "tx_hash") i.1
   tx_hash ← array_at 32 h.0
   last ← end_at h.1
-  Some (concat (tx_hash ∷ index ∷ []))
+  struct_from (tx_hash ∷ index ∷ [])
 
 unfoldable pub cell_input_at : Data → Option (List ℕ)
 cell_input_at t = do
-  ms ← members_at t
+  ms ← members_at false t
   p ← take_at (codes "previous_output") ms
   previous_output ← out_point_at p.0
   s ← take_at (codes "since") p.1
   since ← number_at w64 s.0
   last ← end_at s.1
-  Some (concat (since ∷ previous_output ∷ []))
+  struct_from (since ∷ previous_output ∷ [])
 
 unfoldable pub cell_dep_at : Data → Option (List ℕ)
 cell_dep_at t = do
-  ms ← members_at t
+  ms ← members_at false t
   d ← take_at (codes "dep_type") ms
   dep_type ← named_at (codes "code") (codes "dep_group") d.0
   o ← take_at (codes "out_point") d.1
   out_point ← out_point_at o.0
   last ← end_at o.1
-  Some (concat (out_point ∷ dep_type ∷ []))
+  struct_from (out_point ∷ dep_type ∷ [])
 
 unfoldable pub cell_output_at : Data → Option (List ℕ)
 cell_output_at t = do
-  ms ← members_at t
+  ms ← members_at false t
   c ← take_at (codes "capacity") ms
   capacity ← number_at w64 c.0
   l ← take_at (codes "lock") c.1
@@ -204,8 +216,8 @@ cell_output_at t = do
 
 unfoldable pub transaction_at : Data → Option (List ℕ)
 transaction_at t = do
-  all ← members_at t
-  d ← take_at (codes "cell_deps") (without free_key all)
+  ms ← members_at true t
+  d ← take_at (codes "cell_deps") ms
   cell_deps ← fixvec_at cell_dep_at d.0
   h ← take_at (codes "header_deps") d.1
   header_deps ← fixvec_at (array_at 32) h.0
@@ -220,8 +232,7 @@ transaction_at t = do
   w ← take_at (codes "witnesses") v.1
   witnesses ← dynvec_at content_at w.0
   last ← end_at w.1
-  raw ← table_from (version ∷ cell_deps ∷ header_deps ∷ inputs ∷ outputs ∷ outputs_data ∷ [])
-  table_from (raw ∷ witnesses ∷ [])
+  tables_from (version ∷ cell_deps ∷ header_deps ∷ inputs ∷ outputs ∷ outputs_data ∷ []) (witnesses ∷ [])
 
 -- a hash of 32 bytes under this key, where it is to stand here; else no bytes
 abbrev pub hash_at : Bool → List ℕ → Members → Option (List ℕ × Members)
@@ -234,8 +245,8 @@ hash_at false key ms = Some ([], ms)
 -- a header whose uncles' hash stands at `extra_hash`, or at `uncles_hash`
 unfoldable pub header_with : Bool → Data → Option (List ℕ)
 header_with is_extra t = do
-  all ← members_at t
-  c ← take_at (codes "compact_target") (without free_key all)
+  ms ← members_at true t
+  c ← take_at (codes "compact_target") ms
   compact_target ← number_at w32 c.0
   d ← take_at (codes "dao") c.1
   dao ← array_at 32 d.0
@@ -258,7 +269,7 @@ header_with is_extra t = do
   v ← take_at (codes "version") u.1
   version ← number_at w32 v.0
   last ← end_at v.1
-  Some (concat (version ∷ compact_target ∷ timestamp ∷ height ∷ epoch ∷ parent_hash ∷ transactions_root ∷ proposals_hash ∷ x.0 ∷ u.0 ∷ dao ∷ nonce ∷ []))
+  struct_from (version ∷ compact_target ∷ timestamp ∷ height ∷ epoch ∷ parent_hash ∷ transactions_root ∷ proposals_hash ∷ x.0 ∷ u.0 ∷ dao ∷ nonce ∷ [])
 
 -- the second, where there is no first
 abbrev pub or_else : {A : Type 0} → Option A → Option A → Option A
@@ -270,7 +281,7 @@ header_at t = or_else (header_with false t) (header_with true t)
 
 unfoldable pub uncle_at : Data → Option (List ℕ)
 uncle_at t = do
-  ms ← members_at t
+  ms ← members_at false t
   h ← take_at (codes "header") ms
   header ← header_at h.0
   p ← take_at (codes "proposals") h.1
@@ -280,7 +291,7 @@ uncle_at t = do
 
 unfoldable pub block_at : Data → Option (List ℕ)
 block_at t = do
-  ms ← members_at t
+  ms ← members_at false t
   h ← take_at (codes "header") ms
   header ← header_at h.0
   p ← take_at (codes "proposals") h.1

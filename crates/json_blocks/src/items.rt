@@ -1,10 +1,65 @@
-// The items of the lists of a block.
+// Numbers, bytes and names, as they stand in the objects and lists of a block.
+use crate::digits::number_of;
+use crate::fields::owned;
 use crate::lists::Item;
-use crate::read_parts::{read_dep, read_input, read_output};
-use crate::reading::{array, content};
+use crate::reading::{array, content, digits_in, named};
 use crate::stop::JsonStop;
 use serde_json::Value;
 use std::alloc::Global;
+
+/// A number below 2^32.
+pub(crate) struct U32;
+
+impl Item for U32 {
+    ghost use Rattle.std.specs.Int.{w32};
+    ghost use Rattle.json_blocks.specs.Reading.{number_at};
+
+    ghost reads_as = { number_at w32 };
+
+    #[tactic(auto, unfolding(crate::specs::Reading::number_at))]
+    fn read(alloc: Global, value: &Value) -> Result<Vec<u8>, JsonStop> {
+        let n = number_of(digits_in(value)?)?;
+        if n >= 1 << 32 {
+            return Err(JsonStop::Bad);
+        }
+        owned(alloc, &(n as u32).to_le_bytes())
+    }
+}
+
+/// A number below 2^64.
+pub(crate) struct U64;
+
+impl Item for U64 {
+    ghost use Rattle.std.specs.Int.{w64};
+    ghost use Rattle.json_blocks.specs.Reading.{number_at};
+
+    ghost reads_as = { number_at w64 };
+
+    #[tactic(auto, unfolding(crate::specs::Reading::number_at))]
+    fn read(alloc: Global, value: &Value) -> Result<Vec<u8>, JsonStop> {
+        let n = number_of(digits_in(value)?)?;
+        if n >= 1 << 64 {
+            return Err(JsonStop::Bad);
+        }
+        owned(alloc, &(n as u64).to_le_bytes())
+    }
+}
+
+/// A number below 2^128.
+pub(crate) struct U128;
+
+impl Item for U128 {
+    ghost use Rattle.std.specs.Int.{w128};
+    ghost use Rattle.json_blocks.specs.Reading.{number_at};
+
+    ghost reads_as = { number_at w128 };
+
+    #[tactic(auto, unfolding(crate::specs::Reading::number_at))]
+    fn read(alloc: Global, value: &Value) -> Result<Vec<u8>, JsonStop> {
+        let n = number_of(digits_in(value)?)?;
+        owned(alloc, &n.to_le_bytes())
+    }
+}
 
 /// A hash.
 pub(crate) struct Hash;
@@ -32,7 +87,7 @@ impl Item for ShortId {
     }
 }
 
-/// Bytes.
+/// The encoding of `Bytes`: their count and the bytes.
 pub(crate) struct ByteString;
 
 impl Item for ByteString {
@@ -45,41 +100,30 @@ impl Item for ByteString {
     }
 }
 
-/// A cell dep.
-pub(crate) struct Dep;
+/// How a script's code is looked up.
+pub(crate) struct HashType;
 
-impl Item for Dep {
-    ghost use Rattle.json_blocks.specs.Reading.{cell_dep_at};
+impl Item for HashType {
+    ghost use Rattle.std.specs.Prelude.{codes};
+    ghost use Rattle.json_blocks.specs.Reading.{named_at};
 
-    ghost reads_as = { cell_dep_at };
+    ghost reads_as = { named_at (codes "data") (codes "type") };
 
     fn read(alloc: Global, value: &Value) -> Result<Vec<u8>, JsonStop> {
-        read_dep(alloc, value)
+        named(alloc, value, "data", "type")
     }
 }
 
-/// An input.
-pub(crate) struct Input;
+/// What a cell dep is.
+pub(crate) struct DepType;
 
-impl Item for Input {
-    ghost use Rattle.json_blocks.specs.Reading.{cell_input_at};
+impl Item for DepType {
+    ghost use Rattle.std.specs.Prelude.{codes};
+    ghost use Rattle.json_blocks.specs.Reading.{named_at};
 
-    ghost reads_as = { cell_input_at };
-
-    fn read(alloc: Global, value: &Value) -> Result<Vec<u8>, JsonStop> {
-        read_input(alloc, value)
-    }
-}
-
-/// An output.
-pub(crate) struct Output;
-
-impl Item for Output {
-    ghost use Rattle.json_blocks.specs.Reading.{cell_output_at};
-
-    ghost reads_as = { cell_output_at };
+    ghost reads_as = { named_at (codes "code") (codes "dep_group") };
 
     fn read(alloc: Global, value: &Value) -> Result<Vec<u8>, JsonStop> {
-        read_output(alloc, value)
+        named(alloc, value, "code", "dep_group")
     }
 }

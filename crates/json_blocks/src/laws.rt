@@ -1,5 +1,5 @@
 // The laws of the tables.
-ghost use Rattle.codec_defs.specs.Schema as schema;
+ghost use Rattle.chain_defs.specs.Schema as schema;
 ghost use Rattle.json_defs.specs.Blocks as form;
 ghost use Rattle.json_defs.specs.Laws.{IsReadBack, IsReadOnce, IsTextOfTree, IsTextBack, IsOneOfText};
 

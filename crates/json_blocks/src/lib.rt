@@ -7,11 +7,13 @@
 //! What a block has to keep is left to the rules above.
 #![tactic(auto)]
 
+mod by_keys;
 mod digits;
 mod fields;
 mod items;
 mod laws;
 mod leaves;
+mod list_rows;
 mod lists;
 mod objects;
 mod parts;
@@ -20,6 +22,7 @@ mod read_objects;
 mod read_parts;
 mod reading;
 mod stop;
+mod text;
 mod write;
 
 pub use laws::{form_laws, reading_laws};

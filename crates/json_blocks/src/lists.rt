@@ -1,6 +1,5 @@
-// Lists that are read, item by item.
+// What values are read as, and lists of them, item by item.
 ghost use Rattle.serde_json.specs.View.{view};
-ghost use Rattle.json_blocks.specs.Reading.{Gives, fixvec_at, dynvec_at};
 
 use crate::fields::put;
 use crate::reading::items;
@@ -8,8 +7,9 @@ use crate::stop::JsonStop;
 use mol_write::Builder;
 use serde_json::Value;
 use std::alloc::Global;
+use std::marker::PhantomData;
 
-/// What the items of a list are.
+/// What stands in a place of a block: a member's value, or an item of a list.
 pub(crate) trait Item {
     ghost use Rattle.std.specs.Prelude.{ℕ, List, Option};
     ghost use Rattle.serde_json.specs.Data.{Data};
@@ -24,41 +24,53 @@ pub(crate) trait Item {
 }
 
 /// The fixvec of the items of an array.
-#[tactic(auto, unfolding(crate::specs::Reading::fixvec_at))]
-pub(crate) fn read_fixvec<I: Item>(alloc: Global, value: &Value) -> Result<Vec<u8>, JsonStop>
-    ensures { Gives (λ b. b.items) result (fixvec_at I.Item.reads_as (view value.now)) }
-{
-    let items = items(value)?;
-    if items.len() >= 1 << 32 {
-        return Err(JsonStop::Bad);
+pub(crate) struct Fixvec<I: Item>(PhantomData<I>);
+
+impl<I: Item> Item for Fixvec<I> {
+    ghost use Rattle.json_blocks.specs.Reading.{fixvec_at};
+
+    ghost reads_as = { fixvec_at I.Item.reads_as };
+
+    #[tactic(auto, unfolding(crate::specs::Reading::fixvec_at))]
+    fn read(alloc: Global, value: &Value) -> Result<Vec<u8>, JsonStop> {
+        let items = items(value)?;
+        if items.len() >= 1 << 32 {
+            return Err(JsonStop::Bad);
+        }
+        let mut fixvec = Vec::new(alloc);
+        fixvec.extend_from_slice(&(items.len() as u32).to_le_bytes())?;
+        'items: for item in items {
+            let encoding = match I::read(alloc, item) {
+                Ok(encoding) => encoding,
+                Err(stop) => return Err(stop),
+            };
+            fixvec.extend_from_slice(&encoding)?;
+        }
+        Ok(fixvec)
     }
-    let mut fixvec = Vec::new(alloc);
-    fixvec.extend_from_slice(&(items.len() as u32).to_le_bytes())?;
-    'items: for item in items {
-        let encoding = match I::read(alloc, item) {
-            Ok(encoding) => encoding,
-            Err(stop) => return Err(stop),
-        };
-        fixvec.extend_from_slice(&encoding)?;
-    }
-    Ok(fixvec)
 }
 
 /// The dynvec of the items of an array.
-#[tactic(auto, unfolding(crate::specs::Reading::dynvec_at))]
-pub(crate) fn read_dynvec<I: Item>(alloc: Global, value: &Value) -> Result<Vec<u8>, JsonStop>
-    ensures { Gives (λ b. b.items) result (dynvec_at I.Item.reads_as (view value.now)) }
-{
-    let items = items(value)?;
-    let mut dynvec = Builder::new(alloc);
-    'items: for item in items {
-        let encoding = match I::read(alloc, item) {
-            Ok(encoding) => encoding,
-            Err(stop) => return Err(stop),
-        };
-        if let Err(stop) = put(&mut dynvec, &encoding) {
-            return Err(stop);
+pub(crate) struct Dynvec<I: Item>(PhantomData<I>);
+
+impl<I: Item> Item for Dynvec<I> {
+    ghost use Rattle.json_blocks.specs.Reading.{dynvec_at};
+
+    ghost reads_as = { dynvec_at I.Item.reads_as };
+
+    #[tactic(auto, unfolding(crate::specs::Reading::dynvec_at))]
+    fn read(alloc: Global, value: &Value) -> Result<Vec<u8>, JsonStop> {
+        let items = items(value)?;
+        let mut dynvec = Builder::new(alloc);
+        'items: for item in items {
+            let encoding = match I::read(alloc, item) {
+                Ok(encoding) => encoding,
+                Err(stop) => return Err(stop),
+            };
+            if let Err(stop) = put(&mut dynvec, &encoding) {
+                return Err(stop);
+            }
         }
+        Ok(dynvec.dynvec()?)
     }
-    Ok(dynvec.dynvec()?)
 }

@@ -1,98 +1,189 @@
 // The parts of a transaction, and headers.
-ghost use Rattle.std.specs.Prelude.{OnOk};
-ghost use Rattle.json_defs.specs.Form.{option};
-ghost use Rattle.json_defs.specs.Blocks as form;
-ghost use Rattle.json_blocks.specs.Text.{PutsTree};
+ghost use Rattle.json_defs.specs.Form.{named_byte};
+ghost use Rattle.json_blocks.specs.Text.{IsPlain, PutsTree};
 
-use crate::leaves::{bytes_row, number_row, put_key, put_named};
+use crate::text::{Text, Written};
 use mol_schema::{DepView, HeaderView, InputView, OutPointView, OutputView, ScriptView};
-use outside::NoMemory;
 
-pub(crate) fn write_script(out: &mut Vec<u8>, script: &ScriptView<'_>) -> Result<(), NoMemory>
-    ensures { OnOk result (PutsTree out.old.items out.new.items (form.script.tree script.now)) }
-{
-    bytes_row(out, b'{', "args", script.args())?;
-    bytes_row(out, b',', "code_hash", script.code_hash())?;
-    put_key(out, b',', "hash_type")?;
-    put_named(out, "data", "type", script.hash_type())?;
-    out.push(b'}')?;
-    Ok(())
-}
+impl Written for u32 {
+    ghost use Rattle.json_defs.specs.Form.{hex_number};
 
-/// An optional script: null where there is none.
-fn write_type_script(out: &mut Vec<u8>, script: &Option<ScriptView<'_>>) -> Result<(), NoMemory>
-    ensures { OnOk result (PutsTree out.old.items out.new.items ((option form.script).tree script.now)) }
-{
-    match script {
-        None => {
-            out.extend_from_slice(b"null")?;
-            Ok(())
-        }
-        Some(script) => write_script(out, script),
+    ghost tree = { hex_number.tree };
+
+    fn write(&self, out: &mut Text) {
+        out.put_number(u128::from(*self))
     }
 }
 
-pub(crate) fn write_out_point(out: &mut Vec<u8>, point: &OutPointView<'_>) -> Result<(), NoMemory>
-    ensures { OnOk result (PutsTree out.old.items out.new.items (form.out_point.tree point.now)) }
-{
-    number_row(out, b'{', "index", u128::from(point.index()))?;
-    bytes_row(out, b',', "tx_hash", point.tx_hash())?;
-    out.push(b'}')?;
-    Ok(())
+impl Written for u64 {
+    ghost use Rattle.json_defs.specs.Form.{hex_number};
+
+    ghost tree = { hex_number.tree };
+
+    fn write(&self, out: &mut Text) {
+        out.put_number(u128::from(*self))
+    }
 }
 
-pub(crate) fn write_input(out: &mut Vec<u8>, input: &InputView<'_>) -> Result<(), NoMemory>
-    ensures { OnOk result (PutsTree out.old.items out.new.items (form.cell_input.tree input.now)) }
-{
-    put_key(out, b'{', "previous_output")?;
-    write_out_point(out, &input.previous_output())?;
-    number_row(out, b',', "since", u128::from(input.since()))?;
-    out.push(b'}')?;
-    Ok(())
+impl Written for u128 {
+    ghost use Rattle.json_defs.specs.Form.{hex_number};
+
+    ghost tree = { hex_number.tree };
+
+    fn write(&self, out: &mut Text) {
+        out.put_number(*self)
+    }
 }
 
-pub(crate) fn write_dep(out: &mut Vec<u8>, dep: &DepView<'_>) -> Result<(), NoMemory>
-    ensures { OnOk result (PutsTree out.old.items out.new.items (form.cell_dep.tree dep.now)) }
-{
-    put_key(out, b'{', "dep_type")?;
-    put_named(out, "code", "dep_group", dep.dep_type())?;
-    put_key(out, b',', "out_point")?;
-    write_out_point(out, &dep.out_point())?;
-    out.push(b'}')?;
-    Ok(())
+impl Written for &[u8] {
+    ghost use Rattle.json_defs.specs.Form.{byte_string};
+
+    ghost tree = { λ bytes. byte_string.tree bytes.now };
+
+    fn write(&self, out: &mut Text) {
+        out.put_bytes(self)
+    }
 }
 
-pub(crate) fn write_output(out: &mut Vec<u8>, output: &OutputView<'_>) -> Result<(), NoMemory>
-    ensures { OnOk result (PutsTree out.old.items out.new.items (form.cell_output.tree output.now)) }
+/// A byte that has names for 0 and 1.
+fn put_named(out: &mut Text, zeroth: &str, first: &str, byte: u8)
+    requires zeroth { IsPlain zeroth.now }
+    requires first { IsPlain first.now }
+    ensures { PutsTree out.old out.new ((named_byte zeroth.now first.now).tree byte) }
 {
-    number_row(out, b'{', "capacity", u128::from(output.capacity()))?;
-    put_key(out, b',', "lock")?;
-    write_script(out, &output.lock())?;
-    put_key(out, b',', "type")?;
-    write_type_script(out, &output.type_script())?;
-    out.push(b'}')?;
-    Ok(())
+    if byte == 0 {
+        out.put_text(zeroth)
+    } else if byte == 1 {
+        out.put_text(first)
+    } else {
+        out.put_bytes(&[byte])
+    }
 }
 
-pub(crate) fn write_header(out: &mut Vec<u8>, header: &HeaderView<'_>) -> Result<(), NoMemory>
-    ensures { OnOk result (PutsTree out.old.items out.new.items (form.header.tree header.now)) }
-{
-    number_row(
-        out,
-        b'{',
-        "compact_target",
-        u128::from(header.compact_target()),
-    )?;
-    bytes_row(out, b',', "dao", header.dao())?;
-    number_row(out, b',', "epoch", u128::from(header.epoch()))?;
-    number_row(out, b',', "nonce", header.nonce())?;
-    number_row(out, b',', "number", u128::from(header.number()))?;
-    bytes_row(out, b',', "parent_hash", header.parent_hash())?;
-    bytes_row(out, b',', "proposals_hash", header.proposals_hash())?;
-    number_row(out, b',', "timestamp", u128::from(header.timestamp()))?;
-    bytes_row(out, b',', "transactions_root", header.transactions_root())?;
-    bytes_row(out, b',', "uncles_hash", header.uncles_hash())?;
-    number_row(out, b',', "version", u128::from(header.version()))?;
-    out.push(b'}')?;
-    Ok(())
+/// How a script's code is looked up.
+#[derive(Drop)]
+struct HashType(u8);
+
+impl Written for HashType {
+    ghost use Rattle.std.specs.Prelude.{codes};
+    ghost use Rattle.json_defs.specs.Form.{named_byte};
+
+    ghost tree = { λ h. (named_byte (codes "data") (codes "type")).tree h.0 };
+
+    fn write(&self, out: &mut Text) {
+        put_named(out, "data", "type", self.0)
+    }
+}
+
+/// What a cell dep stands for.
+#[derive(Drop)]
+struct DepType(u8);
+
+impl Written for DepType {
+    ghost use Rattle.std.specs.Prelude.{codes};
+    ghost use Rattle.json_defs.specs.Form.{named_byte};
+
+    ghost tree = { λ d. (named_byte (codes "code") (codes "dep_group")).tree d.0 };
+
+    fn write(&self, out: &mut Text) {
+        put_named(out, "code", "dep_group", self.0)
+    }
+}
+
+impl Written for ScriptView<'_> {
+    ghost use Rattle.json_defs.specs.Blocks as form;
+
+    ghost tree = { form.script.tree };
+
+    fn write(&self, out: &mut Text) {
+        out.row(b'{', "args", &self.args());
+        out.row(b',', "code_hash", &self.code_hash());
+        out.row(b',', "hash_type", &HashType(self.hash_type()));
+        out.put(b"}")
+    }
+}
+
+/// Null where there is no script.
+impl Written for Option<ScriptView<'_>> {
+    ghost use Rattle.json_defs.specs.Form.{option};
+    ghost use Rattle.json_defs.specs.Blocks as form;
+
+    ghost tree = { (option form.script).tree };
+
+    fn write(&self, out: &mut Text) {
+        match self {
+            None => out.put(b"null"),
+            Some(script) => script.write(out),
+        }
+    }
+}
+
+impl Written for OutPointView<'_> {
+    ghost use Rattle.json_defs.specs.Blocks as form;
+
+    ghost tree = { form.out_point.tree };
+
+    fn write(&self, out: &mut Text) {
+        out.row(b'{', "index", &self.index());
+        out.row(b',', "tx_hash", &self.tx_hash());
+        out.put(b"}")
+    }
+}
+
+impl Written for InputView<'_> {
+    ghost use Rattle.json_defs.specs.Blocks as form;
+
+    ghost tree = { form.cell_input.tree };
+
+    fn write(&self, out: &mut Text) {
+        out.row(b'{', "previous_output", &self.previous_output());
+        out.row(b',', "since", &self.since());
+        out.put(b"}")
+    }
+}
+
+impl Written for DepView<'_> {
+    ghost use Rattle.json_defs.specs.Blocks as form;
+
+    ghost tree = { form.cell_dep.tree };
+
+    fn write(&self, out: &mut Text) {
+        out.row(b'{', "dep_type", &DepType(self.dep_type()));
+        out.row(b',', "out_point", &self.out_point());
+        out.put(b"}")
+    }
+}
+
+impl Written for OutputView<'_> {
+    ghost use Rattle.json_defs.specs.Blocks as form;
+
+    ghost tree = { form.cell_output.tree };
+
+    fn write(&self, out: &mut Text) {
+        out.row(b'{', "capacity", &self.capacity());
+        out.row(b',', "lock", &self.lock());
+        out.row(b',', "type", &self.type_script());
+        out.put(b"}")
+    }
+}
+
+impl Written for HeaderView<'_> {
+    ghost use Rattle.json_defs.specs.Blocks as form;
+
+    ghost tree = { form.header.tree };
+
+    fn write(&self, out: &mut Text) {
+        out.row(b'{', "compact_target", &self.compact_target());
+        out.row(b',', "dao", &self.dao());
+        out.row(b',', "epoch", &self.epoch());
+        out.row(b',', "nonce", &self.nonce());
+        out.row(b',', "number", &self.number());
+        out.row(b',', "parent_hash", &self.parent_hash());
+        out.row(b',', "proposals_hash", &self.proposals_hash());
+        out.row(b',', "timestamp", &self.timestamp());
+        out.row(b',', "transactions_root", &self.transactions_root());
+        out.row(b',', "uncles_hash", &self.uncles_hash());
+        out.row(b',', "version", &self.version());
+        out.put(b"}")
+    }
 }

@@ -1,14 +1,15 @@
 // A block, read from its text.
 ghost use Rattle.std.specs.Prelude.{◌≡◌, IfOk, IsTrue, IsUtf8, Some, None, Err};
-ghost use Rattle.codec_defs.specs.Shape.{IsA};
-ghost use Rattle.codec_defs.specs.Schema as schema;
+ghost use Rattle.chain_defs.specs.Shape.{IsA};
+ghost use Rattle.chain_defs.specs.Schema as schema;
 ghost use Rattle.serde_json.specs.Read.{read};
 ghost use Rattle.serde_json.specs.View.{view};
 ghost use Rattle.json_blocks.specs.declared.stop.JsonStop.TheVariants.{Bad};
 ghost use Rattle.json_defs.specs.Blocks as form;
 ghost use Rattle.json_defs.specs.Laws.{IsReadAs};
 
-use crate::read_objects::read_block;
+use crate::lists::Item;
+use crate::read_objects::Block;
 use crate::stop::JsonStop;
 use serde_json::Value;
 use std::alloc::Global;
@@ -40,7 +41,7 @@ pub fn from_json(alloc: Global, text: &[u8]) -> Result<Vec<u8>, JsonStop>
     ensures only { result ≡ Err Bad → (v : schema.Block) → IsTrue (schema.block.encoding v).fits → IsReadAs form.block text.now v → ⊥ }
 {
     match tree_of(alloc, text) {
-        Ok(value) => read_block(alloc, &value),
+        Ok(value) => Block::read(alloc, &value),
         Err(stop) => Err(stop),
     }
 }

@@ -1,11 +1,11 @@
 // The parts of a tree that is read: members by their keys, and numbers and bytes of texts.
-ghost use Rattle.std.specs.Int.{w32, w64, w128};
 ghost use Rattle.serde_json.specs.View.{view, members_view, items_view};
 ghost use Rattle.json_defs.specs.Form.{without};
 ghost use Rattle.json_defs.specs.Blocks.{free_key};
-ghost use Rattle.json_blocks.specs.Reading.{Gives, digits_at, bytes_at, array_at, content_at, number_at, named_at, members_at, take_at, end_at, array_items};
+ghost use Rattle.json_blocks.specs.Reading.{Gives, digits_at, bytes_at, array_at, content_at, named_at, take_at, end_at, array_items};
 
 use crate::digits;
+use crate::fields::owned;
 use crate::stop::JsonStop;
 use serde_json::Value;
 use std::alloc::Global;
@@ -13,16 +13,6 @@ use std::collections::btree_map::Iter;
 
 /// The members of an object, in the order of their keys.
 pub(crate) type Members<'a> = Iter<'a, String, Value>;
-
-/// The members of an object.
-pub(crate) fn members<'a>(value: &'a Value) -> Result<Members<'a>, JsonStop>
-    ensures { Gives (λ ms. members_view ms) result (members_at (view value.now)) }
-{
-    match value {
-        Value::Object(members) => Ok(members.iter()),
-        _ => Err(JsonStop::Bad),
-    }
-}
 
 /// The next member's value, where it has this key.
 pub(crate) fn take<'a>(members: &mut Members<'a>, key: &str) -> Result<&'a Value, JsonStop>
@@ -90,7 +80,7 @@ pub(crate) fn items(value: &Value) -> Result<&[Value], JsonStop>
 }
 
 /// The digits of a text, without its `0x`.
-fn digits_in(value: &Value) -> Result<&[u8], JsonStop>
+pub(crate) fn digits_in(value: &Value) -> Result<&[u8], JsonStop>
     ensures { Gives (λ s. s.now) result (digits_at (view value.now)) }
 {
     match value {
@@ -142,39 +132,6 @@ pub(crate) fn content(alloc: Global, value: &Value) -> Result<Vec<u8>, JsonStop>
     Ok(content)
 }
 
-/// The four bytes of a number below 2^32.
-#[tactic(auto, unfolding(crate::specs::Reading::number_at))]
-pub(crate) fn u32_bytes(value: &Value) -> Result<[u8; 4], JsonStop>
-    ensures { Gives (λ b. b) result (number_at w32 (view value.now)) }
-{
-    let n = digits::number_of(digits_in(value)?)?;
-    if n >= 1 << 32 {
-        return Err(JsonStop::Bad);
-    }
-    Ok((n as u32).to_le_bytes())
-}
-
-/// The eight bytes of a number below 2^64.
-#[tactic(auto, unfolding(crate::specs::Reading::number_at))]
-pub(crate) fn u64_bytes(value: &Value) -> Result<[u8; 8], JsonStop>
-    ensures { Gives (λ b. b) result (number_at w64 (view value.now)) }
-{
-    let n = digits::number_of(digits_in(value)?)?;
-    if n >= 1 << 64 {
-        return Err(JsonStop::Bad);
-    }
-    Ok((n as u64).to_le_bytes())
-}
-
-/// The sixteen bytes of a number below 2^128.
-#[tactic(auto, unfolding(crate::specs::Reading::number_at))]
-pub(crate) fn u128_bytes(value: &Value) -> Result<[u8; 16], JsonStop>
-    ensures { Gives (λ b. b) result (number_at w128 (view value.now)) }
-{
-    let n = digits::number_of(digits_in(value)?)?;
-    Ok(n.to_le_bytes())
-}
-
 /// A byte that has names for 0 and 1.
 #[tactic(auto, unfolding(crate::specs::Reading::named_at))]
 pub(crate) fn named(
@@ -182,21 +139,21 @@ pub(crate) fn named(
     value: &Value,
     zeroth: &str,
     first: &str,
-) -> Result<[u8; 1], JsonStop>
-    ensures { Gives (λ b. b) result (named_at zeroth.now first.now (view value.now)) }
+) -> Result<Vec<u8>, JsonStop>
+    ensures { Gives (λ b. b.items) result (named_at zeroth.now first.now (view value.now)) }
 {
     if let Value::String(text) = value {
         if text.as_str() == zeroth {
-            return Ok([0]);
+            return owned(alloc, &[0]);
         }
         if text.as_str() == first {
-            return Ok([1]);
+            return owned(alloc, &[1]);
         }
     }
     match bytes(alloc, value)?.as_slice() {
         [byte] => {
             if *byte > 1 {
-                Ok([*byte])
+                owned(alloc, &[*byte])
             } else {
                 Err(JsonStop::Bad)
             }

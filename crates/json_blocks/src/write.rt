@@ -3,7 +3,7 @@ ghost use Rattle.std.specs.Prelude.{◌≡◌, IfOk};
 ghost use Rattle.json_defs.specs.Blocks as form;
 ghost use Rattle.json_defs.specs.Blocks.{text_of};
 
-use crate::objects::write_block;
+use crate::text::{Text, Written};
 use mol_schema::BlockView;
 use outside::NoMemory;
 use std::alloc::Global;
@@ -12,7 +12,7 @@ use std::alloc::Global;
 pub fn to_json(alloc: Global, block: &BlockView<'_>) -> Result<Vec<u8>, NoMemory>
     ensures { IfOk result (λ text. text.items ≡ text_of form.block block.now) }
 {
-    let mut text = Vec::with_capacity(alloc, 2 * block.bytes().len())?;
-    write_block(&mut text, block)?;
-    Ok(text)
+    let mut text = Text::with_capacity(alloc, 2 * block.bytes().len())?;
+    block.write(&mut text);
+    text.done()
 }

@@ -1,7 +1,7 @@
 -- The objects of a block in JSON (docs/FORMATS.md, Blocks as JSON): a table of rows for each, by which it is written and
 -- read. A key is one row.
 use Rattle.std.specs.Prelude.{ℕ, List, [], ◌∷◌, ◌++◌, codes, Bool, ◌||◌}
-use Rattle.codec_defs.specs.Schema as schema
+use Rattle.chain_defs.specs.Schema as schema
 use Rattle.serde_json.specs.Data.{object as tree_object, Members}
 use Rattle.serde_json.specs.Written.{compact_text}
 use Rattle.json_defs.specs.Form.{Form, Row, hex_number, byte_string, named_byte, list, option, row, members, members_read, without, is_object}

@@ -1,6 +1,6 @@
 -- What is true of the tables, so that a tree tells its block.
 use Rattle.std.specs.Prelude.{◌≡◌, ℕ, List, IsTrue, Some, IsUtf8}
-use Rattle.codec_defs.specs.Shape.{Shape}
+use Rattle.chain_defs.specs.Shape.{Shape}
 use Rattle.serde_json.specs.Data.{Data}
 use Rattle.serde_json.specs.Read.{read}
 use Rattle.serde_json.specs.Written.{compact_text}

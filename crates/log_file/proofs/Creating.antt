@@ -11,11 +11,11 @@ use Rattle.outside.specs.declared.disk.WriteStop.TheVariants.{DiskFault, NoMemor
 use Rattle.outside.specs.Image.{Image, InArea, content, with_content}
 use Rattle.outside.specs.Disk.{written, write_area, cut_area, Torn, Cut, ComesBy, Follows, IsDurable, OthersRead}
 use Rattle.outside.proofs.Images.{own_content}
-use Rattle.log_defs.specs.Log.{Record, record_bytes, all_record_bytes, magic, first_records, new_log}
-use Rattle.log_defs.specs.LogLaws.{HasFittingBody}
-use Rattle.log_defs.specs.Rest.{IsAtRest, IsSettled, HasNoLonger}
-use Rattle.log_defs.proofs.Records.{record_length, size_of_all}
-use Rattle.log_defs.proofs.Resting.{rest_made}
+use Rattle.disk_defs.specs.Log.{Record, record_bytes, all_record_bytes, magic, first_records, new_log}
+use Rattle.disk_defs.specs.LogLaws.{HasFittingBody}
+use Rattle.disk_defs.specs.Rest.{IsAtRest, IsSettled, HasNoLonger}
+use Rattle.disk_defs.proofs.Records.{record_length, size_of_all}
+use Rattle.disk_defs.proofs.Resting.{rest_made}
 use Rattle.log_file.specs.Pieces.{HasUpTo}
 
 -- the stops of a write are distinct

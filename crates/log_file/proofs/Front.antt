@@ -1,9 +1,9 @@
 -- The start of a log, from its first bytes to its genesis.
 use Rattle.std.proofs.Common.{◌≡◌, ℕ, ◌+◌, take, Option, Some, None, ◌∙◌, subst}
 use Rattle.std.specs.Prelude.{IfSome}
-use Rattle.time_defs.specs.Specification.{Specification}
+use Rattle.chain_defs.specs.Specification.{Specification}
 use Rattle.outside.specs.Image.{Image}
-use Rattle.log_defs.specs.Log.{Record, magic, is_specification, is_genesis, IsNoLogFrom}
+use Rattle.disk_defs.specs.Log.{Record, magic, is_specification, is_genesis, IsNoLogFrom}
 use Rattle.log_file.specs.Grammar.{AreBlocks, BlocksValue, IsGenesisOf}
 use Rattle.log_file.specs.Reading.{ReaderValue, IsReading, HasPassed, IsOtherHere}
 use Rattle.log_file.specs.Opening.{HasRead}

@@ -9,11 +9,11 @@ use Rattle.outside.specs.declared.disk.Area.TheVariants.{Log}
 use Rattle.outside.specs.Image.{Image, with_content, InArea}
 use Rattle.outside.specs.Disk.{written, write_area, Torn, ComesBy, Follows, IsDurable}
 use Rattle.outside.proofs.Torn.{tears_to_the_written}
-use Rattle.log_defs.specs.Log.{Record, record_bytes}
-use Rattle.log_defs.specs.LogLaws.{HasFittingBody}
-use Rattle.log_defs.specs.Rest.{IsAtRest, IsBeforeOrAfter, IsSettled, IsNoLonger, IsAppended, HasAppended}
-use Rattle.log_defs.proofs.Records.{record_length}
-use Rattle.log_defs.proofs.Resting.{rest_kept, rest_grown}
+use Rattle.disk_defs.specs.Log.{Record, record_bytes}
+use Rattle.disk_defs.specs.LogLaws.{HasFittingBody}
+use Rattle.disk_defs.specs.Rest.{IsAtRest, IsBeforeOrAfter, IsSettled, IsNoLonger, IsAppended, HasAppended}
+use Rattle.disk_defs.proofs.Records.{record_length}
+use Rattle.disk_defs.proofs.Resting.{rest_kept, rest_grown}
 use Rattle.log_file.specs.Pieces.{after_gate}
 
 -- ---- The bytes of a log

@@ -3,20 +3,20 @@ use Rattle.std.proofs.Common.{◌≡◌, ◌⊎◌, inl, inr, ℕ, ◌<◌, Bool
 use Rattle.std.specs.Prelude.{◌==◌, is_none, slice_get, IsTrue}
 use Rattle.std.proofs.lemmas.Bool.{and_right, eqb-true}
 use Rattle.std.proofs.lemmas.List.{length-map, length_push, map_push}
-use Rattle.codec_defs.specs.Shape.{decoded}
-use Rattle.codec_defs.proofs.ShapeLaws.{IsA-decoded}
-use Rattle.codec_defs.specs.Schema.{Block}
-use Rattle.codec_defs.specs.Schema as shapes
+use Rattle.chain_defs.specs.Shape.{decoded}
+use Rattle.chain_defs.proofs.ShapeLaws.{IsA-decoded}
+use Rattle.chain_defs.specs.Schema.{Block}
+use Rattle.chain_defs.specs.Schema as shapes
 use Rattle.cell_defs.specs.Ext.{is_ext}
 use Rattle.chain_defs.specs.Kept.{kept_limit}
 use Rattle.chain_defs.proofs.KeptLaws.{slice_get-pushed}
-use Rattle.fold_defs.specs.First.{first_failing}
-use Rattle.fit_laws.specs.Laws.{IsCanonical, AreCanonical}
+use Rattle.chain_defs.specs.First.{first_failing}
+use Rattle.cell_defs.specs.FitLaws.{IsCanonical, AreCanonical}
 use Rattle.chain_tree.specs.declared.entry.Entry.{Entry}
 use Rattle.chain_tree.specs.Blocks.{IndexesBlocks}
 use Rattle.chain_tree.specs.Told.{Stored, blocks_of}
-use Rattle.genesis_defs.specs.Genesis.{is_first, genesis_rules, broken_by, broken_genesis_rule}
-use Rattle.log_defs.specs.Log.{record_limit, is_genesis}
+use Rattle.rule_defs.specs.Genesis.{is_first, genesis_rules, broken_by, broken_genesis_rule}
+use Rattle.disk_defs.specs.Log.{record_limit, is_genesis}
 use Rattle.log_file.specs.Grammar.{record_of, AreBlocks}
 
 pub limit_is : record_limit ≡ 999999

@@ -6,12 +6,11 @@ use Rattle.std.proofs.lemmas.Bool.{eqb-true, eq-eqb}
 use Rattle.outside.specs.declared.disk.Area.TheVariants.{Log}
 use Rattle.outside.specs.Image.{Image, InArea}
 use Rattle.outside.specs.Disk.{written, write_area, Torn, ComesBy, IsDurable}
-use Rattle.outside.proofs.Images.{own_content}
 use Rattle.outside.proofs.Torn.{tears_to_the_written}
-use Rattle.log_defs.specs.Log.{Record, log_of}
-use Rattle.log_defs.specs.Rest.{EndsAt, IsAtRest, IsSettled, HasLog}
-use Rattle.log_defs.proofs.Contents.{ends_say}
-use Rattle.log_defs.proofs.Resting.{closed_rest, ends_torn, rest_mended}
+use Rattle.disk_defs.specs.Log.{Record, log_of}
+use Rattle.disk_defs.specs.Rest.{EndsAt, IsAtRest, IsSettled, HasLog}
+use Rattle.disk_defs.proofs.Contents.{ends_say}
+use Rattle.disk_defs.proofs.Resting.{closed_rest, ends_torn, rest_mended}
 use Rattle.log_file.specs.Opening.{mended}
 
 -- ---- What is written
@@ -66,16 +65,6 @@ pub told_leaves : (reads : Option Image) (place : ℕ) (gate : Bool) (images : I
 told_leaves None place gate images Leaves is same weaker = tt
 told_leaves (Some now) place gate images Leaves is same weaker = λ records end durable.
     weaker (HasLog (SaysSame now) images) (leaves_open now place records images (eqb-true (slice_index now.log place) 1 (sym same ∙ is)) end durable)
-
--- where nothing is written
-pub leaves_now : (now : Image) (images : Image → Type 0) → IsDurable Log images now → (image : Image) → images image → HasLog (SaysSame now) images image
-leaves_now now images durable image left = (image, left, (image.log, ap log_of (durable image left), own_content Log image))
-
-pub told_leaves_now : (reads : Option Image) (place : ℕ) (images : Image → Type 0) (Leaves : (Image → Type 0) → Type 0)
-    → ((P : Image → Type 0) → ((image : Image) → images image → P image) → Leaves P)
-    → IfSome reads (λ now. (records : List Record) → EndsAt place records now.log → IsDurable Log images now → Leaves (HasLog (SaysSame now) images))
-told_leaves_now None place images Leaves weaker = tt
-told_leaves_now (Some now) place images Leaves weaker = λ records end durable. weaker (HasLog (SaysSame now) images) (leaves_now now images durable)
 
 -- ---- At rest
 

@@ -10,9 +10,9 @@ use Rattle.std.proofs.lemmas.List.{take_at, take-append-le, take_rest, take-take
 use borrow.Rule.Slice.PartMut.{put_mid, post_of}
 use Rattle.outside.specs.Image.{Image}
 use Rattle.cell_defs.specs.Ext.{count_at}
-use Rattle.codec_defs.specs.Schema.{Block}
-use Rattle.log_defs.specs.Log.{Record, record_at, record_bytes, record_limit, block_of_record, magic}
-use Rattle.log_defs.proofs.Records.{record_length, IsRecordAt, parts_at, prefix_kept}
+use Rattle.chain_defs.specs.Schema.{Block}
+use Rattle.disk_defs.specs.Log.{Record, record_at, record_bytes, record_limit, block_of_record, magic}
+use Rattle.disk_defs.proofs.Records.{record_length, IsRecordAt, parts_at, prefix_kept}
 use Rattle.log_file.specs.Grammar.{record_of}
 use Rattle.log_file.specs.Reading.{ReaderValue, IsReading, IsAt, HasPassed, IsOther, IsOtherHere, IsWrongHere}
 

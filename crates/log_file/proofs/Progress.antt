@@ -7,23 +7,23 @@ use Rattle.std.specs.Cmp.Lexicographic.{bytes_decides}
 use Rattle.std.proofs.lemmas.Bool.{and_from, and_parts, and_right, le-leb, leb-true}
 use Rattle.std.proofs.lemmas.List.{append_assoc, append-nil, length-append, length-drop, length_push, map_push, drop-drop}
 use Rattle.std.proofs.lemmas.List.Elements.{All-nil, All-push}
-use Rattle.codec_defs.specs.Shape.{encoded}
-use Rattle.codec_defs.proofs.ShapeLaws.{IsA-decoded}
-use Rattle.codec_defs.specs.Schema.{Block}
-use Rattle.codec_defs.specs.Schema as shapes
+use Rattle.chain_defs.specs.Shape.{encoded}
+use Rattle.chain_defs.proofs.ShapeLaws.{IsA-decoded}
+use Rattle.chain_defs.specs.Schema.{Block}
+use Rattle.chain_defs.specs.Schema as shapes
 use Rattle.chain_defs.specs.Kept.{block_list, blocks_of_item}
-use Rattle.time_defs.specs.Specification.{Specification, broken_specification_rule, specification_of}
+use Rattle.chain_defs.specs.Specification.{Specification, broken_specification_rule, specification_of}
 use Rattle.chain_tree.specs.declared.entry.Entry.{Entry}
 use Rattle.chain_tree.specs.Blocks.{IndexesBlocks}
 use Rattle.chain_tree.specs.Told.{Stored, blocks_of}
 use Rattle.outside.specs.Image.{Image}
-use Rattle.genesis_defs.specs.Genesis.{broken_genesis_rule}
-use Rattle.log_defs.specs.Log.{Record, record_at, record_bytes, all_record_bytes, records_of, end_of_log, magic, LogContent, record_limit, are_first, block_of_record, blocks_over, content_of_records, log_of, is_specification, is_genesis, stop_of_records, IsNoLogFrom}
-use Rattle.log_defs.specs.LogLaws.{HasFittingBody, grown}
-use Rattle.log_defs.specs.Rest.{EndsAt}
-use Rattle.log_defs.proofs.Records.{record_length, parts_at, records_of_none, records_of_some, size_of_all, size-push}
-use Rattle.log_defs.proofs.Contents.{adds_a_block}
-use Rattle.log_defs.proofs.Stopping.{past_specification, at_specification, at_genesis, stops_at_block, stops_past, stops_at_start, stops_in_records}
+use Rattle.rule_defs.specs.Genesis.{broken_genesis_rule}
+use Rattle.disk_defs.specs.Log.{Record, record_at, record_bytes, all_record_bytes, records_of, end_of_log, magic, LogContent, record_limit, are_first, block_of_record, blocks_over, content_of_records, log_of, is_specification, is_genesis, stop_of_records, IsNoLogFrom}
+use Rattle.disk_defs.specs.LogLaws.{HasFittingBody, grown}
+use Rattle.disk_defs.specs.Rest.{EndsAt}
+use Rattle.disk_defs.proofs.Records.{record_length, parts_at, records_of_none, records_of_some, size_of_all, size-push}
+use Rattle.disk_defs.proofs.Contents.{adds_a_block}
+use Rattle.disk_defs.proofs.Stopping.{past_specification, at_specification, at_genesis, stops_at_block, stops_past, stops_at_start, stops_in_records}
 use Rattle.log_file.specs.Grammar.{record_of, ext_in, NamesBody, AreBlocks, BlocksValue, IsGenesisOf, IsGrownBy}
 use Rattle.log_file.specs.Pieces.{block_record}
 use Rattle.log_file.specs.Reading.{ReaderValue, IsReading, IsAt, HasPassed, IsOther, IsOtherHere, IsWrongHere}

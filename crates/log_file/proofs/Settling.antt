@@ -5,11 +5,11 @@ use Rattle.outside.specs.declared.disk.Area.TheVariants.{Log}
 use Rattle.outside.specs.Image.{Image}
 use Rattle.outside.specs.Disk.{OthersRead, NoneNew, SameImages, IsDurable, LeavesOnly, IsAsBefore, IsOnlyRead}
 use Rattle.outside.proofs.Moments.{leaves_also, leaves_then}
-use Rattle.time_defs.specs.Specification.{Specification}
+use Rattle.chain_defs.specs.Specification.{Specification}
 use Rattle.chain_tree.specs.declared.entry.Entry.{Entry}
 use Rattle.chain_tree.specs.Told.{Stored}
-use Rattle.log_defs.specs.Log.{Record, LogContent, log_of, records_of, end_of_log}
-use Rattle.log_defs.specs.Rest.{EndsAt, IsSettled, HasLog}
+use Rattle.disk_defs.specs.Log.{Record, LogContent, log_of, records_of, end_of_log}
+use Rattle.disk_defs.specs.Rest.{EndsAt, IsSettled, HasLog}
 use Rattle.log_file.specs.Opening.{IsOpened, mended}
 use Rattle.log_file.proofs.Creating.{others_same}
 use Rattle.log_file.proofs.Front.{on_same}

@@ -2,11 +2,11 @@
 use Rattle.std.proofs.Common.{◌≡◌, ℕ, ◌<◌, Bool, eqb, List, length, take, drop, get_or, Option, Some, None, sym, ap, ◌∙◌, subst, arith}
 use Rattle.std.specs.Prelude.{slice_index, IfSome, ◌==◌}
 use Rattle.std.proofs.lemmas.List.{get_or-take}
-use Rattle.time_defs.specs.Specification.{Specification}
+use Rattle.chain_defs.specs.Specification.{Specification}
 use Rattle.outside.specs.Image.{Image}
-use Rattle.log_defs.specs.Log.{records_of, magic, LogContent, IsNoLogFrom}
-use Rattle.log_defs.specs.Rest.{EndsAt}
-use Rattle.log_defs.proofs.Resting.{gate_there}
+use Rattle.disk_defs.specs.Log.{records_of, magic, LogContent, IsNoLogFrom}
+use Rattle.disk_defs.specs.Rest.{EndsAt}
+use Rattle.disk_defs.proofs.Resting.{gate_there}
 use Rattle.log_file.specs.Grammar.{BlocksValue}
 use Rattle.log_file.specs.Reading.{ReaderValue, IsReading}
 use Rattle.log_file.specs.Opening.{IsOpened, HasRead, HasReadAll, IsNoContentFrom}

@@ -1,16 +1,16 @@
 -- What the records of a log are judged as.
 use Rattle.std.specs.Prelude.{◌≡◌, ℕ, ◌<◌, ◌≤◌, true, List, [], ◌∷◌, ◌++◌, length, Option, Some, None, slice_get, IsTrue}
-use Rattle.codec_defs.specs.Shape.{encoded, decoded}
-use Rattle.codec_defs.specs.Schema.{Block}
-use Rattle.codec_defs.specs.Schema as shapes
+use Rattle.chain_defs.specs.Shape.{encoded, decoded}
+use Rattle.chain_defs.specs.Schema.{Block}
+use Rattle.chain_defs.specs.Schema as shapes
 use Rattle.chain_defs.specs.Kept.{place_of, kept_limit}
 use Rattle.cell_defs.specs.Ext.{is_ext}
-use Rattle.fit_laws.specs.Laws.{IsCanonical, AreCanonical}
+use Rattle.cell_defs.specs.FitLaws.{IsCanonical, AreCanonical}
 use Rattle.chain_tree.specs.declared.entry.Entry.{Entry}
 use Rattle.chain_tree.specs.Blocks.{Describes, IndexesBlocks}
 use Rattle.chain_tree.specs.Told.{Stored, blocks_of}
-use Rattle.log_defs.specs.Log.{Record, parts_of_body, block_of_record, is_genesis}
-use Rattle.log_defs.specs.LogLaws.{HasFittingBody}
+use Rattle.disk_defs.specs.Log.{Record, parts_of_body, block_of_record, is_genesis}
+use Rattle.disk_defs.specs.LogLaws.{HasFittingBody}
 use Rattle.log_file.specs.Pieces.{block_record}
 
 abbrev pub record_of : ℕ → List ℕ → Record

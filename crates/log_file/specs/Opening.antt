@@ -1,8 +1,8 @@
 -- What a log is opened as.
 use Rattle.std.specs.Prelude.{◌≡◌, ℕ, ◌+◌, ◌<◌, ◌==◌, List, [], ◌∷◌, ◌++◌, All, map, length, drop, slice_index, Some, None, if◌then◌else◌}
-use Rattle.codec_defs.specs.Shape.{encoded}
-use Rattle.codec_defs.specs.Schema.{block}
-use Rattle.time_defs.specs.Specification.{Specification, specification_of}
+use Rattle.chain_defs.specs.Shape.{encoded}
+use Rattle.chain_defs.specs.Schema.{block}
+use Rattle.chain_defs.specs.Specification.{Specification, specification_of}
 use Rattle.chain_tree.specs.declared.entry.Entry.{Entry}
 use Rattle.chain_tree.specs.Blocks.{IndexesBlocks}
 use Rattle.chain_tree.specs.Told.{Stored, blocks_of}
@@ -12,8 +12,8 @@ use Rattle.outside.specs.Disk.{write_area}
 use Rattle.log_file.specs.Grammar.{record_of, ext_in, BlocksValue}
 use Rattle.log_file.specs.Pieces.{block_record}
 use Rattle.log_file.specs.Reading.{ReaderValue, IsReading}
-use Rattle.log_defs.specs.Log.{Record, record_bytes, all_record_bytes, record_at, records_of, LogContent, content_of_records, log_of, stop_of_records}
-use Rattle.log_defs.specs.LogLaws.{HasFittingBody}
+use Rattle.disk_defs.specs.Log.{Record, record_bytes, all_record_bytes, record_at, records_of, LogContent, content_of_records, log_of, stop_of_records}
+use Rattle.disk_defs.specs.LogLaws.{HasFittingBody}
 
 -- The entries name the bodies of these records, which stand one after the other from this place on.
 abbrev pub NameBodies : ℕ → List Record → List Entry → Type 0

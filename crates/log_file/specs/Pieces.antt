@@ -4,7 +4,7 @@ use Rattle.std.specs.Int.{w32, to_le_bytes}
 use Rattle.outside.specs.declared.disk.Area.TheVariants.{Log}
 use Rattle.outside.specs.Image.{Image, InArea}
 use Rattle.outside.specs.Disk.{ComesBy}
-use Rattle.log_defs.specs.Log.{Record, body_of_parts}
+use Rattle.disk_defs.specs.Log.{Record, body_of_parts}
 use Rattle.log_file.specs.declared.log.Rec.{Rec}
 
 -- the record of a block with its ext

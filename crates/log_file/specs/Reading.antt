@@ -1,7 +1,7 @@
 -- A log that is read from start to end.
 use Rattle.std.specs.Prelude.{◌≡◌, ◌⊎◌, ℕ, ◌+◌, ◌<◌, Bool, false, List, length, take, drop, Option, Some, None}
-use Rattle.codec_defs.specs.Schema.{Block}
-use Rattle.log_defs.specs.Log.{Record, record_bytes, record_at, record_limit, block_of_record}
+use Rattle.chain_defs.specs.Schema.{Block}
+use Rattle.disk_defs.specs.Log.{Record, record_bytes, record_at, record_limit, block_of_record}
 
 -- What contracts see of a `Reader`: the length of the log, the place that it has come to, and the bytes from there on that are
 -- in memory.

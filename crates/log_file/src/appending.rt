@@ -4,8 +4,8 @@ ghost use Rattle.std.specs.Prelude.{◌≡◌, ◌+◌, ◌<◌, ◌≤◌, ◌^
 ghost use Rattle.outside.specs.Causes.{HasCause};
 ghost use Rattle.outside.specs.Disk.{OthersRead, LeavesOnly};
 ghost use Rattle.outside.specs.declared.disk.Area.TheVariants.{Log as log_area};
-ghost use Rattle.log_defs.specs.Log.{Record};
-ghost use Rattle.log_defs.specs.Rest.{IsSettled, IsNoLonger, HasAppended};
+ghost use Rattle.disk_defs.specs.Log.{Record};
+ghost use Rattle.disk_defs.specs.Rest.{IsSettled, IsNoLonger, HasAppended};
 ghost use Rattle.log_file.specs.Pieces.{after_gate, Names};
 
 use crate::body::Body;

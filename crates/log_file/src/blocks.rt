@@ -1,14 +1,14 @@
 // The blocks that the records of a log hold.
 
 ghost use Rattle.std.specs.Prelude.{◌≡◌, ◌≢◌, ◌⊎◌, ◌+◌, ◌<◌, ◌^◌, List, [], Some, None, Err, length, IfOk, OnOk, IfErr, IfSome, is_some, option_map, false, true};
-ghost use Rattle.codec_defs.specs.Shape.{decoded};
-ghost use Rattle.codec_defs.specs.Schema as schema;
-ghost use Rattle.codec_defs.specs.Schema.{Block};
+ghost use Rattle.chain_defs.specs.Shape.{decoded};
+ghost use Rattle.chain_defs.specs.Schema as schema;
+ghost use Rattle.chain_defs.specs.Schema.{Block};
 ghost use Rattle.chain_defs.specs.Kept.{place_of};
 ghost use Rattle.chain_tree.specs.Entries.{place_of_hash, FollowsParent};
 ghost use Rattle.chain_tree.specs.Blocks.{Describes, IndexesBlocks};
 ghost use Rattle.chain_tree.specs.Told.{blocks_of};
-ghost use Rattle.log_defs.specs.Log.{may_stand_on, block_of_record, record_limit, is_genesis};
+ghost use Rattle.disk_defs.specs.Log.{may_stand_on, block_of_record, record_limit, is_genesis};
 ghost use Rattle.log_file.specs.Grammar.{record_of, AreBlocks, blocks_with, IsGenesisOf, IsGrownBy, IsJudged};
 ghost use Rattle.log_file.specs.Stops.{OfDamage, in_log};
 

@@ -3,7 +3,7 @@
 ghost use Rattle.std.specs.Prelude.{◌≡◌, ◌+◌, ◌<◌, ◌^◌, ◌++◌, ◌∷◌, [], length, IfSome, OnOk, OnErr};
 ghost use Rattle.std.specs.Option.{option_map};
 ghost use Rattle.std.specs.Int.{w32, to_le_bytes};
-ghost use Rattle.log_defs.specs.Log.{parts_of_body, body_of_parts};
+ghost use Rattle.disk_defs.specs.Log.{parts_of_body, body_of_parts};
 ghost use Rattle.log_file.specs.Pieces.{block_record, after_gate};
 
 use crate::number::read_count;

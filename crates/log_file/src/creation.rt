@@ -7,8 +7,8 @@ ghost use Rattle.outside.specs.Image.{with_content};
 ghost use Rattle.outside.specs.Disk.{IsDurable, OthersRead, LeavesOnly};
 ghost use Rattle.outside.specs.declared.disk.Area.TheVariants.{Log as log_area};
 ghost use Rattle.outside.specs.declared.disk.WriteStop.TheVariants.{DiskFault, NoMemory as no_memory};
-ghost use Rattle.log_defs.specs.Log.{record_bytes, first_records, new_log};
-ghost use Rattle.log_defs.specs.Rest.{IsSettled, HasNoLonger};
+ghost use Rattle.disk_defs.specs.Log.{record_bytes, first_records, new_log};
+ghost use Rattle.disk_defs.specs.Rest.{IsSettled, HasNoLonger};
 ghost use Rattle.log_file.specs.Grammar.{record_of};
 ghost use Rattle.log_file.specs.Pieces.{HasUpTo};
 

@@ -2,8 +2,8 @@
 
 ghost use Rattle.std.specs.Prelude.{◌≡◌, ◌+◌, ◌<◌, ◌^◌, [], Some, length, slice_get, unwrap_or, IfOk};
 ghost use Rattle.std.specs.Option.{option_map};
-ghost use Rattle.genesis_defs.specs.Genesis as rules;
-ghost use Rattle.time_defs.specs.Dao.{occupied_by_type, is_rated as dao_is_rated};
+ghost use Rattle.rule_defs.specs.Genesis as rules;
+ghost use Rattle.chain_defs.specs.Dao.{occupied_by_type, is_rated as dao_is_rated};
 ghost use Rattle.chain_defs.specs.Hashes.{transaction_hash};
 ghost use Rattle.cell_defs.specs.Cell as cells;
 
@@ -32,7 +32,7 @@ fn has_no_uncles_or_proposals(block: &BlockView<'_>) -> bool
 }
 
 /// G4: the C and the AR of its DAO field are above 0.
-#[tactic(auto, unfolding(time_defs::specs::Dao::field_of_bytes))]
+#[tactic(auto, unfolding(chain_defs::specs::Dao::field_of_bytes))]
 fn is_rated(block: &BlockView<'_>) -> bool
     ensures { result ≡ dao_is_rated block.now.header.dao }
 {
@@ -137,7 +137,7 @@ fn all_hold_capacity(block: &BlockView<'_>) -> bool
 }
 
 /// The first of G2 to G7 that a block breaks.
-#[tactic(auto, unfolding(fold_defs::specs::First::first_failing))]
+#[tactic(auto, unfolding(chain_defs::specs::First::first_failing))]
 fn broken_by(alloc: Global, block: &BlockView<'_>) -> Result<Option<u8>, NoMemory>
     ensures { IfOk result (λ broken. broken ≡ rules.broken_by (Some block.now)) }
 {
@@ -163,7 +163,7 @@ fn broken_by(alloc: Global, block: &BlockView<'_>) -> Result<Option<u8>, NoMemor
 }
 
 /// The first of G1 to G7 that the bytes break as the genesis of a store (docs/RULES.md, "The genesis").
-#[tactic(auto, unfolding(genesis_defs::specs::Genesis::broken_genesis_rule))]
+#[tactic(auto, unfolding(rule_defs::specs::Genesis::broken_genesis_rule))]
 pub fn genesis_ok(alloc: Global, b: &[u8]) -> Result<Option<u8>, NoMemory>
     ensures { IfOk result (λ broken. broken ≡ rules.broken_genesis_rule b.now) }
 {

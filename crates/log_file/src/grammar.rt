@@ -2,9 +2,9 @@
 
 ghost use Rattle.std.specs.Prelude.{◌≡◌, ◌+◌, ◌<◌, ◌≤◌, ◌^◌, ◌==◌, slice_index, IfSome, IsNone, IsTrue, option_map, length, take, false, true};
 ghost use Rattle.std.specs.Str.{bytes_eq};
-ghost use Rattle.time_defs.specs.Specification.{specification_of};
-ghost use Rattle.log_defs.specs.Log as form;
-ghost use Rattle.log_defs.specs.Log.{is_specification};
+ghost use Rattle.chain_defs.specs.Specification.{specification_of};
+ghost use Rattle.disk_defs.specs.Log as form;
+ghost use Rattle.disk_defs.specs.Log.{is_specification};
 ghost use Rattle.log_file.specs.Grammar.{record_of};
 
 use crate::number::read_count;

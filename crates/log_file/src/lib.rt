@@ -2,7 +2,7 @@
 //! that a crash at any moment leaves the records that were there, or those and the new one.
 //!
 //! The contract of use: [`create`], [`append`] and [`open`] say of each moment what a crash may leave, in the words
-//! `IsSettled`, `IsAtRest` and `HasLog` of `log_defs`; after `Ok` the log is settled with its records. [`open`]
+//! `IsSettled`, `IsAtRest` and `HasLog` of `disk_defs`; after `Ok` the log is settled with its records. [`open`]
 //! answers what a log says, or that LOG is none, exactly by `log_of`; it holds no block, and shows each to a [`Visitor`] as
 //! it is read. [`Body`] is filled before the disk is touched,
 //! so that `append` takes no memory. [`genesis_ok`], [`parts`] and [`ext_form`] tell what the records of a log may

@@ -3,7 +3,7 @@
 ghost use Rattle.std.specs.Prelude.{◌≡◌, ◌+◌, ◌≤◌, length, slice_range};
 ghost use Rattle.std.specs.Int.{w32, to_le_bytes};
 ghost use Rattle.cell_defs.specs.Ext.{count_at};
-ghost use Rattle.time_defs.specs.Specification.{u64_field};
+ghost use Rattle.chain_defs.specs.Specification.{u64_field};
 
 /// The number that the four bytes from `at` on are.
 pub(crate) fn read_count(bytes: &[u8], at: usize) -> u32

@@ -4,8 +4,8 @@ ghost use Rattle.std.specs.Prelude.{◌≡◌, ◌≢◌, ◌⊎◌, ◌+◌, �
 ghost use Rattle.outside.specs.Causes.{HasCause, CountsFault};
 ghost use Rattle.outside.specs.Disk.{OthersRead, IsDurable, NoneNew, IsAsBefore, LeavesOnly, IsOnlyRead};
 ghost use Rattle.outside.specs.declared.disk.Area.TheVariants.{Log as log_area};
-ghost use Rattle.log_defs.specs.Log.{Record, LogContent, log_of, records_of, end_of_log, IsNoLogFrom};
-ghost use Rattle.log_defs.specs.Rest.{EndsAt, IsSettled, HasLog};
+ghost use Rattle.disk_defs.specs.Log.{Record, LogContent, log_of, records_of, end_of_log, IsNoLogFrom};
+ghost use Rattle.disk_defs.specs.Rest.{EndsAt, IsSettled, HasLog};
 ghost use Rattle.log_file.specs.Grammar.{AreBlocks};
 ghost use Rattle.log_file.specs.Opening.{IsOpened, mended};
 ghost use Rattle.log_file.specs.Stops.{OfDamage, IsInLog};

@@ -4,8 +4,8 @@ ghost use Rattle.std.specs.Prelude.{◌≡◌, ◌≢◌, ◌+◌, ◌*◌, ◌<
 ghost use Rattle.outside.specs.Causes.{CountsFault};
 ghost use Rattle.outside.specs.Disk.{IsAsBefore};
 ghost use Rattle.chain_tree.specs.Told.{blocks_of};
-ghost use Rattle.time_defs.specs.Specification.{Specification, specification_of};
-ghost use Rattle.log_defs.specs.Log.{magic, record_at, is_specification, is_genesis, IsNoLogFrom};
+ghost use Rattle.chain_defs.specs.Specification.{Specification, specification_of};
+ghost use Rattle.disk_defs.specs.Log.{magic, record_at, is_specification, is_genesis, IsNoLogFrom};
 ghost use Rattle.log_file.specs.Grammar.{AreBlocks, blocks_with, IsGenesisOf, IsGrownBy};
 ghost use Rattle.log_file.specs.Reading.{IsReading, IsAt, HasPassed, IsOtherHere, IsWrongHere};
 ghost use Rattle.log_file.specs.Opening.{HasRead, HasReadAll, IsNoContentFrom};

@@ -1,6 +1,6 @@
 // Rows of files.
 ghost use Rattle.std.specs.Prelude.{◌≡◌};
-ghost use Rattle.vm_defs.specs.Memory.{new_memory};
+ghost use Rattle.machine_defs.specs.Memory.{new_memory};
 
 use elf_load::{ElfStop, judge, load};
 use row_table::Row;

@@ -1,9 +1,9 @@
 // Rows of whole programs.
 
+use machine_defs::Outcome;
 use program_run::{Execution, execute};
 use row_table::Row;
 use std::alloc::Global;
-use vm_defs::Outcome;
 
 const BUDGET: u64 = 1 << 40;
 

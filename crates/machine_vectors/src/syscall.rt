@@ -2,9 +2,9 @@
 ghost use Rattle.std.specs.Prelude.{◌≡◌, true};
 
 use crate::shown::Shown;
+use machine_defs::{PAGE_COUNT, PAGE_SIZE};
 use row_table::Row;
 use std::alloc::Global;
-use vm_defs::{PAGE_COUNT, PAGE_SIZE};
 use vm_mem::{MemFault, Memory, Width};
 use vm_step::Machine;
 use vm_sys::{Sys, handle};

@@ -6,22 +6,22 @@ use Rattle.std.specs.Option.{option_and_then}
 use Rattle.std.proofs.lemmas.List.{take_more, map-append}
 use Rattle.std.proofs.lemmas.Bool.Decides.{nat_tests}
 use Rattle.outside.specs.Image.{Image}
-use Rattle.codec_defs.specs.Schema.{OutPoint, Block}
+use Rattle.chain_defs.specs.Schema.{OutPoint, Block}
 use Rattle.chain_defs.specs.Branch.{branch}
 use Rattle.chain_defs.specs.Kept.{block_at}
 use Rattle.chain_defs.specs.Tip.{tip, tip_place, best_branch}
 use Rattle.cell_defs.specs.Events.{events}
 use Rattle.cell_defs.specs.Row.{Row, live_row, row_on, ListsRows}
-use Rattle.fold_defs.proofs.FoldLemmas.{keep-push, verdicts-push}
+use Rattle.chain_defs.proofs.FoldLemmas.{keep-push, verdicts-push}
 use Rattle.verdict_defs.specs.declared.verdict.Verdict.{Verdict}
 use Rattle.verdict_defs.specs.Verdict.{joins}
 use Rattle.verdict_defs.specs.Chain.{Chain, verdict_over, chain_after, verdicts_over, chain_over, chain_of_genesis}
-use Rattle.log_defs.specs.Log.{LogContent, log_of}
+use Rattle.disk_defs.specs.Log.{LogContent, log_of}
 use Rattle.store_defs.specs.Store.{Keeps, store_of, store_of_log, StandsFor, IsSound}
-use Rattle.node_core.specs.Node.{NodeValue, IsNew, IsSoundOn, IsOn, IsOnlyImage}
-use Rattle.node_core.specs.Snapshot.{OthersReadBut}
-use Rattle.codec_defs.specs.Shape.{encoded}
-use Rattle.codec_defs.specs.Schema as schema
+use Rattle.node_store.specs.Node.{NodeValue, IsNew, IsSoundOn, IsOn, IsOnlyImage}
+use Rattle.node_store.specs.Snapshot.{OthersReadBut}
+use Rattle.chain_defs.specs.Shape.{encoded}
+use Rattle.chain_defs.specs.Schema as schema
 use Rattle.gen_defs.specs.Start as start
 use Rattle.report_defs.specs.Simulation.{live_cells, height_of, counts_over, generated_items, generated_counts}
 use Rattle.made_chain.proofs.LiveCells.{as-many-as-rows}

@@ -1,3 +1,5 @@
+pub mod ItemLemmas
+pub mod SessionLemmas
 pub mod LiveCells
 pub mod ImportLemmas
 pub mod SoakLemmas

@@ -15,7 +15,7 @@ use Rattle.std.proofs.lemmas.Map.Keys.{any_passes_from_place}
 use Rattle.std.proofs.lemmas.Map.Made.{is_some-lookup}
 use Rattle.std.proofs.lemmas.Map.Steps.{length-le_from_keys}
 use Rattle.std.proofs.lemmas.Option.{slice_get-map, slice_get-get_or, slice_get_within, get_or_from_slice_get}
-use Rattle.codec_defs.specs.Schema.{OutPoint}
+use Rattle.chain_defs.specs.Schema.{OutPoint}
 use Rattle.cell_defs.specs.Cell.{Cell}
 use Rattle.cell_defs.specs.Events.{Event, Makes, Spends, same_out_point, last_naming, cell_left, cell_after}
 use Rattle.cell_defs.specs.Row.{Row, out_point_cmp, IsRising, ListsRows}

@@ -5,8 +5,8 @@ use Rattle.std.specs.List.{filter}
 use Rattle.std.proofs.lemmas.List.{take_all, length-map}
 use Rattle.std.proofs.lemmas.List.FromFn.{length-map-range_with_len}
 use Rattle.std.proofs.lemmas.Result.{IfOk-weaker}
-use Rattle.codec_defs.specs.Shape.{encoded}
-use Rattle.codec_defs.specs.Schema as schema
+use Rattle.chain_defs.specs.Shape.{encoded}
+use Rattle.chain_defs.specs.Schema as schema
 use Rattle.chain_defs.specs.Tip.{tip, best_branch}
 use Rattle.cell_defs.specs.Events.{events}
 use Rattle.verdict_defs.specs.Verdict.{joins}
@@ -15,8 +15,8 @@ use Rattle.gen_defs.specs.Start as start
 use Rattle.gen_defs.specs.Chain.{block_made, blocks_made}
 use Rattle.report_defs.specs.declared.counts.Counts.{Counts}
 use Rattle.report_defs.specs.Simulation.{live_cells, height_of, counts_over, generated_items, AreSoakCounts}
-use Rattle.soak_laws.specs.Laws.{NamesNoLater, PrefixesReplay, GeneratedNameNoLater, JoinedAreCounted}
-use Rattle.sessions.specs.Sessions.{items_in, IsKeptAfter}
+use Rattle.report_defs.specs.SoakLaws.{NamesNoLater, PrefixesReplay, GeneratedNameNoLater, JoinedAreCounted}
+use Rattle.made_chain.specs.Sessions.{items_in, IsKeptAfter}
 use Rattle.made_chain.specs.Soak.{last_acked, IsPlayed}
 use Rattle.made_chain.proofs.ImportLemmas.{counts-are}
 

@@ -1,7 +1,7 @@
 -- What is true of the live cells as a list.
 use Rattle.std.specs.Prelude.{◌≡◌, ◌↔◌, List, map, Some}
 use Rattle.std.specs.List.{Contains, IsDistinct}
-use Rattle.codec_defs.specs.Schema.{OutPoint}
+use Rattle.chain_defs.specs.Schema.{OutPoint}
 use Rattle.cell_defs.specs.Cell.{Cell}
 use Rattle.cell_defs.specs.Events.{Event, same_out_point, cell_after}
 use Rattle.report_defs.specs.Simulation.{live_cells}

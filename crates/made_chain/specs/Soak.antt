@@ -2,8 +2,8 @@
 use Rattle.std.specs.Prelude.{ℕ, ◌+◌, ◌*◌, ◌^◌, ◌%◌, ◌≤◌, List, [], ◌∷◌, ◌++◌, map, Option, Some, None}
 use Rattle.std.specs.List.{range_with_len}
 use Rattle.verdict_defs.specs.Chain.{Chain}
-use Rattle.sessions.specs.declared.plan.Session.{Session}
-use Rattle.sessions.specs.Sessions.{IsKeptAfter}
+use Rattle.made_chain.specs.declared.plan.Session.{Session}
+use Rattle.made_chain.specs.Sessions.{IsKeptAfter}
 
 -- how a session is stopped: how many calls of its disk it passes, or all, and what it picks
 pub record Stop : Type 0 where

@@ -5,11 +5,11 @@ ghost use Rattle.chain_defs.specs.Tip as tips;
 ghost use Rattle.cell_defs.specs.Events.{events};
 ghost use Rattle.verdict_defs.specs.Verdict as rules;
 ghost use Rattle.verdict_defs.specs.Chain.{verdict_over, chain_after, verdicts_over, chain_over, chain_of_genesis};
-ghost use Rattle.node_core.specs.Node.{IsItsOwn, IsOnlyImage, IsSoundNode, IsSoundOn};
+ghost use Rattle.node_store.specs.Node.{IsItsOwn, IsOnlyImage, IsSoundNode, IsSoundOn};
 ghost use Rattle.report_defs.specs.Simulation.{live_cells, height_of, counts_over, generated_counts};
 
 use chain_gen::{Made, make};
-use node_core::{HELD, Node, judge};
+use node_store::{HELD, Judging, Node, judge};
 use outside::{Disk, NoMemory, Steps};
 use outside_mem::MemDisk;
 use report_defs::Counts;
@@ -66,9 +66,10 @@ pub fn open_new<D: Disk, L: Ledger>(
 }
 
 /// Imports an item.
-fn import_item<D: Disk, L: Ledger>(
+fn import_item<D: Disk, J: Judging, L: Ledger>(
     alloc: Global,
     disk: &mut D,
+    judge: &J,
     node: Node,
     item: &[u8],
     steps: &mut Steps<L>,
@@ -84,16 +85,17 @@ fn import_item<D: Disk, L: Ledger>(
         drop(node);
         return Err(NoMemory);
     }
-    match node.import(alloc, disk, item, steps) {
+    match node.import(alloc, disk, judge, item, steps) {
         Ok(answer) => Ok(answer),
         Err(_) => Err(NoMemory),
     }
 }
 
 /// Imports items one after the other, and counts those that join.
-fn import_all<D: Disk, L: Ledger>(
+fn import_all<D: Disk, J: Judging, L: Ledger>(
     alloc: Global,
     disk: &mut D,
+    judge: &J,
     opened: Node,
     items: &[Vec<u8>],
     steps: &mut Steps<L>,
@@ -107,7 +109,7 @@ fn import_all<D: Disk, L: Ledger>(
     let mut node = opened;
     let mut joined = 0u64;
     'importing: for i in 0..items.len() {
-        let (next, verdict) = match import_item(alloc, disk, node, &items[i], steps) {
+        let (next, verdict) = match import_item(alloc, disk, judge, node, &items[i], steps) {
             Ok(answer) => answer,
             Err(stop) => return Err(stop),
         };
@@ -136,9 +138,10 @@ pub fn counted(alloc: Global, node: &Node, joined: u64) -> Result<Counts, NoMemo
 }
 
 /// Imports a chain into a new store on this disk, and counts.
-fn count_on<D: Disk, L: Ledger>(
+fn count_on<D: Disk, J: Judging, L: Ledger>(
     alloc: Global,
     disk: &mut D,
+    judge: &J,
     made: &Made,
     steps: &mut Steps<L>,
 ) -> Result<Counts, NoMemory>
@@ -147,13 +150,14 @@ fn count_on<D: Disk, L: Ledger>(
         ≡ counts_over (chain_of_genesis made.now.spec.items made.now.genesis.items) (map (λ bytes. bytes.items) made.now.blocks.items)) }
 {
     let opened = open_new(alloc, disk, &made.spec, &made.genesis, steps)?;
-    let (node, joined) = import_all(alloc, disk, opened, &made.blocks, steps)?;
+    let (node, joined) = import_all(alloc, disk, judge, opened, &made.blocks, steps)?;
     counted(alloc, &node, joined)
 }
 
 /// Makes a chain, and counts it on a disk of its own.
-fn count_made<L: Ledger>(
+fn count_made<J: Judging, L: Ledger>(
     alloc: Global,
+    judge: &J,
     seed: u64,
     count: u32,
     blank: Blank,
@@ -167,15 +171,20 @@ fn count_made<L: Ledger>(
     let made = make(alloc, seed, count)?;
     let mut disk = MemDisk::new(alloc, Vec::new(alloc));
     let mut steps = Steps::<L>::new(blank);
-    count_on(alloc, &mut disk, &made, &mut steps)
+    count_on(alloc, &mut disk, judge, &made, &mut steps)
 }
 
 /// What is counted where the blocks of a seed, so many of them, at most 20,000, are imported one after the other over their genesis.
 /// They are kept on a disk in memory, and steps are counted for no one. `Err` is want of memory, also where the disk meets it.
 /// That nothing else gives it rests on the generated genesis keeping its rules, which is tested.
-pub fn counts_of(alloc: Global, seed: u64, count: u32) -> Result<Counts, NoMemory>
+pub fn counts_of<J: Judging>(
+    alloc: Global,
+    judge: &J,
+    seed: u64,
+    count: u32,
+) -> Result<Counts, NoMemory>
     requires { count ≤ 20000 }
     ensures { IfOk result (λ counts. counts ≡ generated_counts seed count) }
 {
-    count_made::<Brand>(alloc, seed, count, Blank::new(1))
+    count_made::<J, Brand>(alloc, judge, seed, count, Blank::new(1))
 }

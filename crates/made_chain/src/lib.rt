@@ -1,15 +1,20 @@
-//! A generated chain, imported into a node over a disk in memory, and counted.
+//! The generated chain, imported into a node over a disk in memory, and counted: [`counts_of`] imports it once, and
+//! [`soak_counts_of`] in sessions over one store, each of which a crash ends; [`play`] plays such a list of sessions.
 //!
-//! [`counts_of`] is the contract of use: where there is memory, it gives what `report_defs` counts where the blocks of a seed are
-//! imported over their genesis. [`soak_counts_of`] gives the same after sessions that are stopped at one call of the disk after
-//! the other. The chain is made by `chain_gen`, and judged and kept by `node_core`; the disk and the count of steps are this
-//! crate's own, so that no crate above hands one in.
+//! The chain is made by `chain_gen`, judged by who is handed in, and kept by `node_store`; the disk and the count of steps are
+//! this crate's own.
 #![tactic(auto)]
 
 mod counting;
 mod laws;
+mod outcome;
+mod plan;
+mod playing;
 mod soaking;
 
 pub use counting::counts_of;
 pub use laws::live_cells_laws;
+pub use outcome::{End, Played};
+pub use plan::Session;
+pub use playing::{play, session};
 pub use soaking::soak_counts_of;

@@ -1,20 +1,19 @@
 // The blocks of a generated chain are imported in sessions that are stopped at one call of the disk after the other, and counted.
 ghost use Rattle.std.specs.Prelude.{◌≡◌, ◌+◌, ◌*◌, ◌^◌, ◌≤◌, ◌<◌, length, map, replicate, All, IfOk, OnOk, IsSome};
 ghost use Rattle.verdict_defs.specs.Chain.{Chain, chain_of_genesis};
-ghost use Rattle.node_core.specs.Node.{IsOnlyImage, IsSoundNode};
-ghost use Rattle.sessions.specs.Sessions.{items_in, items_of, AreShort, IsShort, HasSoundImage};
-ghost use Rattle.soak_laws.specs.Laws.{NamesNoLater};
+ghost use Rattle.node_store.specs.Node.{IsOnlyImage, IsSoundNode};
+ghost use Rattle.made_chain.specs.Sessions.{items_in, items_of, AreShort, IsShort, HasSoundImage};
+ghost use Rattle.report_defs.specs.SoakLaws.{NamesNoLater};
 ghost use Rattle.report_defs.specs.Simulation.{AreSoakCounts, counts_over};
 ghost use Rattle.made_chain.specs.Soak.{stop_of, stops_of, IsPlayed};
 
 use crate::counting::{SIZE_BOUND, counted, open_new};
+use crate::{Session, play};
 use chain_gen::{Made, make};
-use node_core::{HELD, Node};
+use node_store::{HELD, Judging, Node};
 use outside::{Crashing, Disk, NoMemory, Steps};
 use outside_mem::MemDisk;
-use report_defs::Counts;
-use sessions::{Session, play};
-use soak_laws::soak_laws;
+use report_defs::{Counts, soak_laws};
 use std::alloc::Global;
 use std::marker::Brand;
 use std::sync::ledger::{Blank, Ledger};
@@ -79,9 +78,10 @@ fn sessions_over(alloc: Global, seed: u64, items: &[Vec<u8>]) -> Result<Vec<Sess
 }
 
 /// Plays sessions, of which the last must give so many verdicts.
-fn play_all<D: Crashing, L: Ledger>(
+fn play_all<D: Crashing, J: Judging, L: Ledger>(
     alloc: Global,
     disk: &mut D,
+    judge: &J,
     sessions: &[Session],
     size: u64,
     steps: &mut Steps<L>,
@@ -91,7 +91,7 @@ fn play_all<D: Crashing, L: Ledger>(
     ensures kept { (chain : Chain) → IsOnlyImage chain (D.reads_as disk.old) (D.images disk.old)
         → OnOk result ((kept : Chain) × IsPlayed chain (map items_of sessions.now) size kept × IsOnlyImage kept (D.reads_as disk.new) (D.images disk.new)) }
 {
-    let played = match play(alloc, disk, sessions, steps) {
+    let played = match play(alloc, disk, judge, sessions, steps) {
         Ok(played) => played,
         Err(stop) => return Err(stop),
     };
@@ -124,9 +124,10 @@ fn open_kept<D: Disk, L: Ledger>(
 
 /// Imports a chain into a new store on this disk, again and again in sessions, and counts. As many items joined as there are blocks
 /// beside the genesis.
-fn soak_on<D: Crashing, L: Ledger>(
+fn soak_on<D: Crashing, J: Judging, L: Ledger>(
     alloc: Global,
     disk: &mut D,
+    judge: &J,
     seed: u64,
     made: &Made,
     steps: &mut Steps<L>,
@@ -141,7 +142,14 @@ fn soak_on<D: Crashing, L: Ledger>(
     let opened = open_new(alloc, disk, &made.spec, &made.genesis, steps)?;
     let before = opened.tree().len();
     drop(opened);
-    match play_all(alloc, disk, &sessions, made.blocks.len() as u64, steps) {
+    match play_all(
+        alloc,
+        disk,
+        judge,
+        &sessions,
+        made.blocks.len() as u64,
+        steps,
+    ) {
         Ok(()) => {}
         Err(stop) => return Err(stop),
     }
@@ -151,8 +159,9 @@ fn soak_on<D: Crashing, L: Ledger>(
 }
 
 /// Makes a chain, and soaks a store of it on a disk of its own.
-fn soak_made<L: Ledger>(
+fn soak_made<J: Judging, L: Ledger>(
     alloc: Global,
+    judge: &J,
     seed: u64,
     count: u32,
     blank: Blank,
@@ -167,16 +176,21 @@ fn soak_made<L: Ledger>(
     let made = make(alloc, seed, count)?;
     let mut disk = MemDisk::new(alloc, Vec::new(alloc));
     let mut steps = Steps::<L>::new(blank);
-    soak_on(alloc, &mut disk, seed, &made, &mut steps)
+    soak_on(alloc, &mut disk, judge, seed, &made, &mut steps)
 }
 
 /// What is counted where the blocks of a seed, so many of them, at most 100, are imported over their genesis in 4 times as many
 /// sessions and two: session k is stopped after k calls of the disk, and the last is not. They are kept on a disk in memory, and
 /// steps are counted for no one. `Err` is want of memory, also where the disk meets it in the last session or outside the sessions.
 /// Where two hashes of the genesis and the blocks are equal, nothing is said of the counts.
-pub fn soak_counts_of(alloc: Global, seed: u64, count: u32) -> Result<Counts, NoMemory>
+pub fn soak_counts_of<J: Judging>(
+    alloc: Global,
+    judge: &J,
+    seed: u64,
+    count: u32,
+) -> Result<Counts, NoMemory>
     requires { count ≤ 100 }
     ensures { IfOk result (λ counts. AreSoakCounts seed count counts) }
 {
-    soak_made::<Brand>(alloc, seed, count, Blank::new(1))
+    soak_made::<J, Brand>(alloc, judge, seed, count, Blank::new(1))
 }

@@ -3,9 +3,9 @@ use Rattle.std.proofs.Common.{◌≡◌, ℕ, suc, List, [], ◌∷◌, ◌++◌
 use Rattle.std.proofs.lemmas.List.{append-nil}
 use Rattle.std.specs.List.{concat}
 use Rattle.std.specs.Int.{w32, to_le_bytes}
-use Rattle.codec_defs.specs.Molecule.{IsDynvec, IsTable, full_size, fixvec}
-use Rattle.codec_defs.specs.Shape.{encoded, bytes}
-use Rattle.codec_defs.proofs.MoleculeLaws.{length-dynvec}
+use Rattle.chain_defs.specs.Molecule.{IsDynvec, IsTable, full_size, fixvec}
+use Rattle.chain_defs.specs.Shape.{encoded, bytes}
+use Rattle.chain_defs.proofs.MoleculeLaws.{length-dynvec}
 
 pub length_of_dynvec : (b : List ℕ) (items : List (List ℕ)) → IsDynvec b items → length b ≡ full_size items
 length_of_dynvec b items is = ap length is.encoding ∙ length-dynvec items

@@ -1,7 +1,7 @@
 -- What the tables of a transaction and of a block are made of: the encodings of their fields (docs/FORMATS.md, "The schema").
 use Rattle.std.specs.Prelude.{◌≡◌, ℕ, List}
-use Rattle.codec_defs.specs.Shape.{encoded, bytes, fixvec, dynvec}
-use Rattle.codec_defs.specs.Schema as schema
+use Rattle.chain_defs.specs.Shape.{encoded, bytes, fixvec, dynvec}
+use Rattle.chain_defs.specs.Schema as schema
 
 -- the lists of a raw transaction
 pub record HasLists (t : schema.RawTransaction) (cell_deps header_deps inputs outputs outputs_data : List ℕ) : Type 0 where

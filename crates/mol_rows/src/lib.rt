@@ -1,7 +1,7 @@
 //! Rows of the schema (docs/FORMATS.md, "The schema"), written from their parts: scripts, outputs, inputs, cell deps, the witness of a
 //! cellbase, and the tables of a transaction and of a block, by the encodings of what they are made of.
 //!
-//! The contract of use: where there is memory, each call gives the encoding of the value that `codec_defs` defines, and all
+//! The contract of use: where there is memory, each call gives the encoding of the value that `chain_defs` defines, and all
 //! but `block_table` its size. Whether a value keeps the rules of a chain is left to the caller.
 #![tactic(auto)]
 

@@ -1,8 +1,8 @@
 // Rows of one size, and bytes.
 ghost use Rattle.std.specs.Prelude.{◌≡◌, ◌+◌, ◌^◌, ◌<◌, length, IfOk};
-ghost use Rattle.codec_defs.specs.Shape as shape;
-ghost use Rattle.codec_defs.specs.Shape.{encoded};
-ghost use Rattle.codec_defs.specs.Schema as schema;
+ghost use Rattle.chain_defs.specs.Shape as shape;
+ghost use Rattle.chain_defs.specs.Shape.{encoded};
+ghost use Rattle.chain_defs.specs.Schema as schema;
 
 use outside::NoMemory;
 use std::alloc::Global;
@@ -21,7 +21,7 @@ pub fn bytes_row(alloc: Global, content: &[u8]) -> Result<Vec<u8>, NoMemory>
 }
 
 /// An input of a since and an out-point.
-#[tactic(auto, unfolding(codec_defs::specs::Schema::out_point, codec_defs::specs::Schema::cell_input), using(crate::proofs::Sizes::input_row_parts))]
+#[tactic(auto, unfolding(chain_defs::specs::Schema::out_point, chain_defs::specs::Schema::cell_input), using(crate::proofs::Sizes::input_row_parts))]
 pub fn input_row(
     alloc: Global,
     since: u64,
@@ -40,7 +40,7 @@ pub fn input_row(
 }
 
 /// A cell dep on an output of a transaction.
-#[tactic(auto, unfolding(codec_defs::specs::Schema::out_point, codec_defs::specs::Schema::cell_dep), using(crate::proofs::Sizes::dep_row_parts))]
+#[tactic(auto, unfolding(chain_defs::specs::Schema::out_point, chain_defs::specs::Schema::cell_dep), using(crate::proofs::Sizes::dep_row_parts))]
 pub fn dep_row(
     alloc: Global,
     tx_hash: &[u8; 32],

@@ -1,9 +1,9 @@
 // Tables and vectors, by the encodings of their parts.
 ghost use Rattle.std.specs.Prelude.{◌≡◌, ◌+◌, ◌^◌, ◌<◌, List, [], ◌∷◌, ℕ, length, None, IfOk, OnOk, ◌++◌};
-ghost use Rattle.codec_defs.specs.Molecule as molecule;
-ghost use Rattle.codec_defs.specs.Shape as shape;
-ghost use Rattle.codec_defs.specs.Shape.{encoded};
-ghost use Rattle.codec_defs.specs.Schema as schema;
+ghost use Rattle.chain_defs.specs.Molecule as molecule;
+ghost use Rattle.chain_defs.specs.Shape as shape;
+ghost use Rattle.chain_defs.specs.Shape.{encoded};
+ghost use Rattle.chain_defs.specs.Schema as schema;
 ghost use Rattle.mol_rows.specs.Rows.{HasLists, HasParts, BlockHasParts};
 
 use crate::rows::bytes_row;
@@ -51,7 +51,7 @@ pub fn dynvec_of_two(alloc: Global, first: &[u8], second: &[u8]) -> Result<Vec<u
 }
 
 /// A script, by its args.
-#[tactic(auto, unfolding(codec_defs::specs::Schema::script), using(crate::proofs::Sizes::length_of_table))]
+#[tactic(auto, unfolding(chain_defs::specs::Schema::script), using(crate::proofs::Sizes::length_of_table))]
 pub fn script_table(
     alloc: Global,
     code_hash: &[u8; 32],
@@ -72,7 +72,7 @@ pub fn script_table(
 }
 
 /// An output with no type script, by the encoding of its lock.
-#[tactic(auto, unfolding(codec_defs::specs::Schema::cell_output), using(crate::proofs::Sizes::length_of_table))]
+#[tactic(auto, unfolding(chain_defs::specs::Schema::cell_output), using(crate::proofs::Sizes::length_of_table))]
 pub fn output_table(alloc: Global, lock: &[u8], capacity: u64) -> Result<Vec<u8>, NoMemory>
     requires { length lock.now < 2 ^ 30 }
     ensures bytes { (script : schema.Script) → lock.now ≡ encoded schema.script script → IfOk result (λ bytes. bytes.items
@@ -87,7 +87,7 @@ pub fn output_table(alloc: Global, lock: &[u8], capacity: u64) -> Result<Vec<u8>
 }
 
 /// A raw transaction, by the encodings of its lists.
-#[tactic(auto, unfolding(codec_defs::specs::Schema::raw_transaction), using(crate::proofs::Sizes::length_of_table))]
+#[tactic(auto, unfolding(chain_defs::specs::Schema::raw_transaction), using(crate::proofs::Sizes::length_of_table))]
 pub fn raw_table(
     alloc: Global,
     version: u32,
@@ -114,7 +114,7 @@ pub fn raw_table(
 }
 
 /// A transaction, by the encodings of its raw part and of its witnesses.
-#[tactic(auto, unfolding(codec_defs::specs::Schema::transaction), using(crate::proofs::Sizes::length_of_table))]
+#[tactic(auto, unfolding(chain_defs::specs::Schema::transaction), using(crate::proofs::Sizes::length_of_table))]
 pub fn transaction_table(alloc: Global, raw: &[u8], witnesses: &[u8]) -> Result<Vec<u8>, NoMemory>
     requires raw { length raw.now < 2 ^ 31 }
     requires witnesses { length witnesses.now < 2 ^ 30 }
@@ -128,7 +128,7 @@ pub fn transaction_table(alloc: Global, raw: &[u8], witnesses: &[u8]) -> Result<
 }
 
 /// The witness of a cellbase, by the encoding of its lock, and its message.
-#[tactic(auto, unfolding(codec_defs::specs::Schema::cellbase_witness), using(crate::proofs::Sizes::length_of_table))]
+#[tactic(auto, unfolding(chain_defs::specs::Schema::cellbase_witness), using(crate::proofs::Sizes::length_of_table))]
 pub fn cellbase_witness_table(
     alloc: Global,
     lock: &[u8],
@@ -148,7 +148,7 @@ pub fn cellbase_witness_table(
 }
 
 /// A block, by the encodings of its header and of its lists.
-#[tactic(auto, unfolding(codec_defs::specs::Schema::block), using(crate::proofs::Sizes::length_of_table))]
+#[tactic(auto, unfolding(chain_defs::specs::Schema::block), using(crate::proofs::Sizes::length_of_table))]
 pub fn block_table(
     alloc: Global,
     header: &[u8; 208],

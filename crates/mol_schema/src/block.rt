@@ -15,7 +15,7 @@ pub struct UncleBlock;
 
 impl Model for UncleBlock {
     ghost use Rattle.std.specs.Prelude.{[]};
-    ghost use Rattle.codec_defs.specs.Schema as schema;
+    ghost use Rattle.chain_defs.specs.Schema as schema;
 
     ghost Value = { schema.UncleBlock };
 
@@ -23,9 +23,9 @@ impl Model for UncleBlock {
 }
 
 impl Row for UncleBlock {
-    ghost use Rattle.codec_defs.specs.Schema.{uncle_block};
-    ghost use Rattle.codec_defs.specs.Checked.{IsUncleBlock};
-    ghost use Rattle.codec_defs.proofs.RowLaws.{uncle_block-check};
+    ghost use Rattle.chain_defs.specs.Schema.{uncle_block};
+    ghost use Rattle.chain_defs.specs.Checked.{IsUncleBlock};
+    ghost use Rattle.chain_defs.proofs.RowLaws.{uncle_block-check};
 
     ghost shape = { uncle_block };
 
@@ -46,7 +46,7 @@ impl Row for UncleBlock {
 /// `table UncleBlock`: an uncle's header and the ids that it proposes.
 pub type UncleView<'a> = View<'a, UncleBlock>;
 
-#[tactic(auto, unfolding(codec_defs::specs::Schema::uncle_block))]
+#[tactic(auto, unfolding(chain_defs::specs::Schema::uncle_block))]
 impl<'a> View<'a, UncleBlock> {
     pub fn header(&self) -> HeaderView<'a>
         ensures { result ≡ self.now.header }
@@ -76,7 +76,7 @@ pub struct Block;
 
 impl Model for Block {
     ghost use Rattle.std.specs.Prelude.{[]};
-    ghost use Rattle.codec_defs.specs.Schema as schema;
+    ghost use Rattle.chain_defs.specs.Schema as schema;
 
     ghost Value = { schema.Block };
 
@@ -84,9 +84,9 @@ impl Model for Block {
 }
 
 impl Row for Block {
-    ghost use Rattle.codec_defs.specs.Schema.{block};
-    ghost use Rattle.codec_defs.specs.Checked.{IsBlock};
-    ghost use Rattle.codec_defs.proofs.RowLaws.{block-check};
+    ghost use Rattle.chain_defs.specs.Schema.{block};
+    ghost use Rattle.chain_defs.specs.Checked.{IsBlock};
+    ghost use Rattle.chain_defs.proofs.RowLaws.{block-check};
 
     ghost shape = { block };
 
@@ -112,7 +112,7 @@ impl Row for Block {
 /// `table Block`.
 pub type BlockView<'a> = View<'a, Block>;
 
-#[tactic(auto, unfolding(codec_defs::specs::Schema::block))]
+#[tactic(auto, unfolding(chain_defs::specs::Schema::block))]
 impl<'a> View<'a, Block> {
     pub fn header(&self) -> HeaderView<'a>
         ensures { result ≡ self.now.header }

@@ -20,9 +20,9 @@ impl Model for ByteVec {
 }
 
 impl Row for ByteVec {
-    ghost use Rattle.codec_defs.specs.Shape.{bytes};
-    ghost use Rattle.codec_defs.specs.Checked.{IsBytes};
-    ghost use Rattle.codec_defs.proofs.Checks.{bytes-check};
+    ghost use Rattle.chain_defs.specs.Shape.{bytes};
+    ghost use Rattle.chain_defs.specs.Checked.{IsBytes};
+    ghost use Rattle.chain_defs.proofs.Checks.{bytes-check};
 
     ghost shape = { bytes };
 

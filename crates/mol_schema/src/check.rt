@@ -1,12 +1,12 @@
 //! What a read checks, once, by kind of shape.
 
 ghost use Rattle.std.specs.Prelude.{◌↔◌, IsTrue};
-ghost use Rattle.codec_defs.specs.Molecule.{IsDynvec, parts_of};
-ghost use Rattle.codec_defs.specs.Checked.{HasFields, IsItems, IsListOf, IsOptionOf};
+ghost use Rattle.chain_defs.specs.Molecule.{IsDynvec, parts_of};
+ghost use Rattle.chain_defs.specs.Checked.{HasFields, IsItems, IsListOf, IsOptionOf};
 
 use crate::parts::{list_item, list_len};
 use crate::view::Row;
-use mol_core::{check_dynvec, check_fixvec, check_table};
+use crate::{check_dynvec, check_fixvec, check_table};
 
 pub(crate) fn has_fields<const N: usize>(b: &[u8]) -> bool
     ensures { IsTrue result ↔ HasFields N b.now }

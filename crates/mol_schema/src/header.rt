@@ -12,7 +12,7 @@ pub struct Header;
 
 impl Model for Header {
     ghost use Rattle.std.specs.Prelude.{[]};
-    ghost use Rattle.codec_defs.specs.Schema as schema;
+    ghost use Rattle.chain_defs.specs.Schema as schema;
 
     ghost Value = { schema.Header };
 
@@ -20,9 +20,9 @@ impl Model for Header {
 }
 
 impl Row for Header {
-    ghost use Rattle.codec_defs.specs.Schema.{header};
-    ghost use Rattle.codec_defs.specs.Checked.{HasLength};
-    ghost use Rattle.codec_defs.proofs.RowLaws.{header-check};
+    ghost use Rattle.chain_defs.specs.Schema.{header};
+    ghost use Rattle.chain_defs.specs.Checked.{HasLength};
+    ghost use Rattle.chain_defs.proofs.RowLaws.{header-check};
 
     ghost shape = { header };
 
@@ -38,7 +38,7 @@ impl Row for Header {
 /// `struct Header`, 208 bytes.
 pub type HeaderView<'a> = View<'a, Header>;
 
-#[tactic(auto, unfolding(codec_defs::specs::Schema::header))]
+#[tactic(auto, unfolding(chain_defs::specs::Schema::header))]
 impl<'a> View<'a, Header> {
     pub fn version(&self) -> u32
         ensures { result ≡ self.now.version }

@@ -1,31 +1,37 @@
-//! Views of the chain's values over the bytes that encode them.
+//! The rows of CKB's blockchain.mol, read strictly and in place (RFC 0008): one view, [`View`], for all of them, each row with its
+//! check and its accessors, over the fixvecs, dynvecs and tables that they are made of.
 //!
-//! Each row of the schema is a `Row`, and has a `View`. `read` answers Some exactly where the bytes are the
-//! encoding of a value of the row, by the strict reading of RFC 0008, and contracts see the view as that value: a
-//! `BlockView` as a `Block`. All is checked by `read`, once. The accessors take constant time, check nothing again,
-//! and give numbers, subslices of the caller's bytes and views of them; nothing is copied or allocated. What the
-//! values have to keep is left to the rules above.
+//! `View::read` answers a view exactly where bytes are the canonical encoding of a value, and contracts see it as that value;
+//! nothing is copied. What the encodings are is said by `chain_defs`.
 #![tactic(auto)]
 
 mod block;
 mod bytes;
 mod check;
+mod dynvec;
+mod fixvec;
 mod header;
+mod layout;
+mod little_endian;
 mod number;
 mod out_point;
 mod out_points;
 mod parts;
 mod script;
+mod table;
 mod transaction;
 mod view;
 mod witness;
 
 pub use block::{BlockView, UncleView};
 pub use bytes::Bytes;
+pub use dynvec::{DynView, check_dynvec};
+pub use fixvec::{FixView, check_fixvec};
 pub use header::HeaderView;
 pub use out_point::{DepView, InputView, OutPointView};
 pub use out_points::OutPointsView;
 pub use script::ScriptView;
+pub use table::{TableView, check_table};
 pub use transaction::{OutputView, RawTxView, TxView};
 pub use view::{Row, View};
 pub use witness::{CellbaseWitnessView, WitnessArgsView};

@@ -12,7 +12,7 @@ pub struct OutPoint;
 
 impl Model for OutPoint {
     ghost use Rattle.std.specs.Prelude.{[]};
-    ghost use Rattle.codec_defs.specs.Schema as schema;
+    ghost use Rattle.chain_defs.specs.Schema as schema;
 
     ghost Value = { schema.OutPoint };
 
@@ -20,9 +20,9 @@ impl Model for OutPoint {
 }
 
 impl Row for OutPoint {
-    ghost use Rattle.codec_defs.specs.Schema.{out_point};
-    ghost use Rattle.codec_defs.specs.Checked.{HasLength};
-    ghost use Rattle.codec_defs.proofs.RowLaws.{out_point-check};
+    ghost use Rattle.chain_defs.specs.Schema.{out_point};
+    ghost use Rattle.chain_defs.specs.Checked.{HasLength};
+    ghost use Rattle.chain_defs.proofs.RowLaws.{out_point-check};
 
     ghost shape = { out_point };
 
@@ -38,7 +38,7 @@ impl Row for OutPoint {
 /// `struct OutPoint`, 36 bytes: an output of a transaction.
 pub type OutPointView<'a> = View<'a, OutPoint>;
 
-#[tactic(auto, unfolding(codec_defs::specs::Schema::out_point))]
+#[tactic(auto, unfolding(chain_defs::specs::Schema::out_point))]
 impl<'a> View<'a, OutPoint> {
     /// The transaction's hash, 32 bytes.
     pub fn tx_hash(&self) -> &'a [u8]
@@ -62,7 +62,7 @@ pub struct CellInput;
 
 impl Model for CellInput {
     ghost use Rattle.std.specs.Prelude.{[]};
-    ghost use Rattle.codec_defs.specs.Schema as schema;
+    ghost use Rattle.chain_defs.specs.Schema as schema;
 
     ghost Value = { schema.CellInput };
 
@@ -70,9 +70,9 @@ impl Model for CellInput {
 }
 
 impl Row for CellInput {
-    ghost use Rattle.codec_defs.specs.Schema.{cell_input};
-    ghost use Rattle.codec_defs.specs.Checked.{HasLength};
-    ghost use Rattle.codec_defs.proofs.RowLaws.{cell_input-check};
+    ghost use Rattle.chain_defs.specs.Schema.{cell_input};
+    ghost use Rattle.chain_defs.specs.Checked.{HasLength};
+    ghost use Rattle.chain_defs.proofs.RowLaws.{cell_input-check};
 
     ghost shape = { cell_input };
 
@@ -88,7 +88,7 @@ impl Row for CellInput {
 /// `struct CellInput`, 44 bytes: an out-point that is spent, and since when it may be.
 pub type InputView<'a> = View<'a, CellInput>;
 
-#[tactic(auto, unfolding(codec_defs::specs::Schema::cell_input))]
+#[tactic(auto, unfolding(chain_defs::specs::Schema::cell_input))]
 impl<'a> View<'a, CellInput> {
     pub fn since(&self) -> u64
         ensures { result ≡ self.now.since }
@@ -109,7 +109,7 @@ pub struct CellDep;
 
 impl Model for CellDep {
     ghost use Rattle.std.specs.Prelude.{[]};
-    ghost use Rattle.codec_defs.specs.Schema as schema;
+    ghost use Rattle.chain_defs.specs.Schema as schema;
 
     ghost Value = { schema.CellDep };
 
@@ -117,9 +117,9 @@ impl Model for CellDep {
 }
 
 impl Row for CellDep {
-    ghost use Rattle.codec_defs.specs.Schema.{cell_dep};
-    ghost use Rattle.codec_defs.specs.Checked.{HasLength};
-    ghost use Rattle.codec_defs.proofs.RowLaws.{cell_dep-check};
+    ghost use Rattle.chain_defs.specs.Schema.{cell_dep};
+    ghost use Rattle.chain_defs.specs.Checked.{HasLength};
+    ghost use Rattle.chain_defs.proofs.RowLaws.{cell_dep-check};
 
     ghost shape = { cell_dep };
 
@@ -135,7 +135,7 @@ impl Row for CellDep {
 /// `struct CellDep`, 37 bytes: a cell that the scripts may read.
 pub type DepView<'a> = View<'a, CellDep>;
 
-#[tactic(auto, unfolding(codec_defs::specs::Schema::cell_dep))]
+#[tactic(auto, unfolding(chain_defs::specs::Schema::cell_dep))]
 impl<'a> View<'a, CellDep> {
     pub fn out_point(&self) -> OutPointView<'a>
         ensures { result ≡ self.now.out_point }

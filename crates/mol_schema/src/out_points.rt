@@ -14,7 +14,7 @@ pub struct OutPointVec;
 
 impl Model for OutPointVec {
     ghost use Rattle.std.specs.Prelude.{List, []};
-    ghost use Rattle.codec_defs.specs.Schema as schema;
+    ghost use Rattle.chain_defs.specs.Schema as schema;
 
     ghost Value = { List schema.OutPoint };
 
@@ -22,9 +22,9 @@ impl Model for OutPointVec {
 }
 
 impl Row for OutPointVec {
-    ghost use Rattle.codec_defs.specs.Schema.{out_points};
-    ghost use Rattle.codec_defs.specs.Checked.{IsItems};
-    ghost use Rattle.codec_defs.proofs.RowLaws.{out_points-check};
+    ghost use Rattle.chain_defs.specs.Schema.{out_points};
+    ghost use Rattle.chain_defs.specs.Checked.{IsItems};
+    ghost use Rattle.chain_defs.proofs.RowLaws.{out_points-check};
 
     ghost shape = { out_points };
 

@@ -2,11 +2,11 @@
 
 ghost use Rattle.std.specs.Prelude.{◌≡◌, ℕ, ◌^◌, ◌<◌, ◌==◌, if◌then◌else◌, None, Some, drop, length, slice_get, slice_index};
 ghost use Rattle.std.specs.Option.{option_copied};
-ghost use Rattle.codec_defs.specs.Molecule.{IsDynvec, items_of_fixvec, parts_of};
-ghost use Rattle.codec_defs.specs.Shape.{table_field};
-ghost use Rattle.codec_defs.specs.Checked.{HasFields, IsBytes, IsItems, IsOptionOf};
+ghost use Rattle.chain_defs.specs.Molecule.{IsDynvec, items_of_fixvec, parts_of};
+ghost use Rattle.chain_defs.specs.Shape.{table_field};
+ghost use Rattle.chain_defs.specs.Checked.{HasFields, IsBytes, IsItems, IsOptionOf};
 
-use mol_core::{DynView, FixView, TableView};
+use crate::{DynView, FixView, TableView};
 
 /// The same slice, with what its type says of the elements.
 pub(crate) fn whole(bytes: &[u8]) -> &[u8]

@@ -14,7 +14,7 @@ pub struct Script;
 
 impl Model for Script {
     ghost use Rattle.std.specs.Prelude.{[]};
-    ghost use Rattle.codec_defs.specs.Schema as schema;
+    ghost use Rattle.chain_defs.specs.Schema as schema;
 
     ghost Value = { schema.Script };
 
@@ -22,9 +22,9 @@ impl Model for Script {
 }
 
 impl Row for Script {
-    ghost use Rattle.codec_defs.specs.Schema.{script};
-    ghost use Rattle.codec_defs.specs.Checked.{IsScript};
-    ghost use Rattle.codec_defs.proofs.RowLaws.{script-check};
+    ghost use Rattle.chain_defs.specs.Schema.{script};
+    ghost use Rattle.chain_defs.specs.Checked.{IsScript};
+    ghost use Rattle.chain_defs.proofs.RowLaws.{script-check};
 
     ghost shape = { script };
 
@@ -46,7 +46,7 @@ impl Row for Script {
 /// `table Script`: a program by its hash, and its arguments.
 pub type ScriptView<'a> = View<'a, Script>;
 
-#[tactic(auto, unfolding(codec_defs::specs::Schema::script))]
+#[tactic(auto, unfolding(chain_defs::specs::Schema::script))]
 impl<'a> View<'a, Script> {
     pub fn code_hash(&self) -> &'a [u8]
         ensures value { result.now ≡ self.now.code_hash }

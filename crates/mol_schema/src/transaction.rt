@@ -17,7 +17,7 @@ pub struct CellOutput;
 
 impl Model for CellOutput {
     ghost use Rattle.std.specs.Prelude.{[]};
-    ghost use Rattle.codec_defs.specs.Schema as schema;
+    ghost use Rattle.chain_defs.specs.Schema as schema;
 
     ghost Value = { schema.CellOutput };
 
@@ -25,9 +25,9 @@ impl Model for CellOutput {
 }
 
 impl Row for CellOutput {
-    ghost use Rattle.codec_defs.specs.Schema.{cell_output};
-    ghost use Rattle.codec_defs.specs.Checked.{IsCellOutput};
-    ghost use Rattle.codec_defs.proofs.RowLaws.{cell_output-check};
+    ghost use Rattle.chain_defs.specs.Schema.{cell_output};
+    ghost use Rattle.chain_defs.specs.Checked.{IsCellOutput};
+    ghost use Rattle.chain_defs.proofs.RowLaws.{cell_output-check};
 
     ghost shape = { cell_output };
 
@@ -49,7 +49,7 @@ impl Row for CellOutput {
 /// `table CellOutput`.
 pub type OutputView<'a> = View<'a, CellOutput>;
 
-#[tactic(auto, unfolding(codec_defs::specs::Schema::cell_output))]
+#[tactic(auto, unfolding(chain_defs::specs::Schema::cell_output))]
 impl<'a> View<'a, CellOutput> {
     /// In shannons.
     pub fn capacity(&self) -> u64
@@ -83,7 +83,7 @@ pub struct RawTransaction;
 
 impl Model for RawTransaction {
     ghost use Rattle.std.specs.Prelude.{[]};
-    ghost use Rattle.codec_defs.specs.Schema as schema;
+    ghost use Rattle.chain_defs.specs.Schema as schema;
 
     ghost Value = { schema.RawTransaction };
 
@@ -91,9 +91,9 @@ impl Model for RawTransaction {
 }
 
 impl Row for RawTransaction {
-    ghost use Rattle.codec_defs.specs.Schema.{raw_transaction};
-    ghost use Rattle.codec_defs.specs.Checked.{IsRawTransaction};
-    ghost use Rattle.codec_defs.proofs.RowLaws.{raw_transaction-check};
+    ghost use Rattle.chain_defs.specs.Schema.{raw_transaction};
+    ghost use Rattle.chain_defs.specs.Checked.{IsRawTransaction};
+    ghost use Rattle.chain_defs.proofs.RowLaws.{raw_transaction-check};
 
     ghost shape = { raw_transaction };
 
@@ -123,7 +123,7 @@ impl Row for RawTransaction {
 /// `table RawTransaction`: what a transaction's hash is of.
 pub type RawTxView<'a> = View<'a, RawTransaction>;
 
-#[tactic(auto, unfolding(codec_defs::specs::Schema::raw_transaction))]
+#[tactic(auto, unfolding(chain_defs::specs::Schema::raw_transaction))]
 impl<'a> View<'a, RawTransaction> {
     pub fn version(&self) -> u32
         ensures { result ≡ self.now.version }
@@ -210,7 +210,7 @@ pub struct Transaction;
 
 impl Model for Transaction {
     ghost use Rattle.std.specs.Prelude.{[]};
-    ghost use Rattle.codec_defs.specs.Schema as schema;
+    ghost use Rattle.chain_defs.specs.Schema as schema;
 
     ghost Value = { schema.Transaction };
 
@@ -218,9 +218,9 @@ impl Model for Transaction {
 }
 
 impl Row for Transaction {
-    ghost use Rattle.codec_defs.specs.Schema.{transaction};
-    ghost use Rattle.codec_defs.specs.Checked.{IsTransaction};
-    ghost use Rattle.codec_defs.proofs.RowLaws.{transaction-check};
+    ghost use Rattle.chain_defs.specs.Schema.{transaction};
+    ghost use Rattle.chain_defs.specs.Checked.{IsTransaction};
+    ghost use Rattle.chain_defs.proofs.RowLaws.{transaction-check};
 
     ghost shape = { transaction };
 
@@ -241,7 +241,7 @@ impl Row for Transaction {
 /// `table Transaction`.
 pub type TxView<'a> = View<'a, Transaction>;
 
-#[tactic(auto, unfolding(codec_defs::specs::Schema::transaction))]
+#[tactic(auto, unfolding(chain_defs::specs::Schema::transaction))]
 impl<'a> View<'a, Transaction> {
     pub fn raw(&self) -> RawTxView<'a>
         ensures { result ≡ self.now.raw }

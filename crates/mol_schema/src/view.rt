@@ -1,8 +1,8 @@
 //! A row of the schema, and its view: what all rows share.
 
 ghost use Rattle.std.specs.Prelude.{◌≡◌, ◌↔◌, ℕ, List, Some, IsTrue};
-ghost use Rattle.codec_defs.specs.Shape.{Shape, IsA, decoded};
-ghost use Rattle.codec_defs.specs.Checked.{IsCheckOf};
+ghost use Rattle.chain_defs.specs.Shape.{Shape, IsA, decoded};
+ghost use Rattle.chain_defs.specs.Checked.{IsCheckOf};
 
 use crate::parts::whole;
 use std::marker::{Model, PhantomData};

@@ -16,7 +16,7 @@ pub struct CellbaseWitness;
 
 impl Model for CellbaseWitness {
     ghost use Rattle.std.specs.Prelude.{[]};
-    ghost use Rattle.codec_defs.specs.Schema as schema;
+    ghost use Rattle.chain_defs.specs.Schema as schema;
 
     ghost Value = { schema.CellbaseWitness };
 
@@ -24,9 +24,9 @@ impl Model for CellbaseWitness {
 }
 
 impl Row for CellbaseWitness {
-    ghost use Rattle.codec_defs.specs.Schema.{cellbase_witness};
-    ghost use Rattle.codec_defs.specs.Checked.{IsCellbaseWitness};
-    ghost use Rattle.codec_defs.proofs.RowLaws.{cellbase_witness-check};
+    ghost use Rattle.chain_defs.specs.Schema.{cellbase_witness};
+    ghost use Rattle.chain_defs.specs.Checked.{IsCellbaseWitness};
+    ghost use Rattle.chain_defs.proofs.RowLaws.{cellbase_witness-check};
 
     ghost shape = { cellbase_witness };
 
@@ -47,7 +47,7 @@ impl Row for CellbaseWitness {
 /// `table CellbaseWitness`: the first witness of a cellbase.
 pub type CellbaseWitnessView<'a> = View<'a, CellbaseWitness>;
 
-#[tactic(auto, unfolding(codec_defs::specs::Schema::cellbase_witness))]
+#[tactic(auto, unfolding(chain_defs::specs::Schema::cellbase_witness))]
 impl<'a> View<'a, CellbaseWitness> {
     /// Whom the reward goes to.
     pub fn lock(&self) -> ScriptView<'a>
@@ -70,7 +70,7 @@ pub struct WitnessArgs;
 
 impl Model for WitnessArgs {
     ghost use Rattle.std.specs.Prelude.{[]};
-    ghost use Rattle.codec_defs.specs.Schema as schema;
+    ghost use Rattle.chain_defs.specs.Schema as schema;
 
     ghost Value = { schema.WitnessArgs };
 
@@ -78,9 +78,9 @@ impl Model for WitnessArgs {
 }
 
 impl Row for WitnessArgs {
-    ghost use Rattle.codec_defs.specs.Schema.{witness_args};
-    ghost use Rattle.codec_defs.specs.Checked.{IsWitnessArgs};
-    ghost use Rattle.codec_defs.proofs.RowLaws.{witness_args-check};
+    ghost use Rattle.chain_defs.specs.Schema.{witness_args};
+    ghost use Rattle.chain_defs.specs.Checked.{IsWitnessArgs};
+    ghost use Rattle.chain_defs.proofs.RowLaws.{witness_args-check};
 
     ghost shape = { witness_args };
 
@@ -104,7 +104,7 @@ impl Row for WitnessArgs {
 /// `table WitnessArgs`: what a witness gives the scripts.
 pub type WitnessArgsView<'a> = View<'a, WitnessArgs>;
 
-#[tactic(auto, unfolding(codec_defs::specs::Schema::witness_args))]
+#[tactic(auto, unfolding(chain_defs::specs::Schema::witness_args))]
 impl<'a> View<'a, WitnessArgs> {
     pub fn lock(&self) -> Option<&'a [u8]>
         ensures { option_copied result ≡ self.now.lock }

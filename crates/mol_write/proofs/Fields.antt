@@ -5,8 +5,8 @@ use Rattle.std.specs.Int.{w32, to_le_bytes}
 use Rattle.std.specs.List.{concat}
 use Rattle.std.proofs.lemmas.List.{take_all, take-append-le, drop-append-le, take-append-drop, length-append, length-take-le, length-drop}
 use Rattle.std.proofs.lemmas.List.Sums.{sum_by-cons, sum_by-append}
-use Rattle.codec_defs.specs.Molecule.{fixvec, offsets, header_size, full_size, dynvec, IsFixvec, IsDynvec}
-use Rattle.codec_defs.proofs.MoleculeLaws.{concat-append, length-dynvec}
+use Rattle.chain_defs.specs.Molecule.{fixvec, offsets, header_size, full_size, dynvec, IsFixvec, IsDynvec}
+use Rattle.chain_defs.proofs.MoleculeLaws.{concat-append, length-dynvec}
 use Rattle.mol_write.specs.Builder.{fields_by_lengths, AllHaveSize}
 
 pub sum-cons : (size : ℕ) (sizes : List ℕ) → sum (size ∷ sizes) ≡ size + sum sizes

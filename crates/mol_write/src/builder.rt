@@ -1,7 +1,7 @@
 // A table or a vector of Molecule (RFC 0008), made of its fields.
 
 ghost use Rattle.std.specs.Prelude.{◌≡◌, ℕ, ◌+◌, ◌^◌, ◌<◌, List, [], ◌∷◌, ◌++◌, length, map, sum, IfOk, OnOk, OnErr};
-ghost use Rattle.codec_defs.specs.Molecule.{offsets, full_size, IsFixvec, IsDynvec, IsTable};
+ghost use Rattle.chain_defs.specs.Molecule.{offsets, full_size, IsFixvec, IsDynvec, IsTable};
 ghost use Rattle.mol_write.specs.Builder.{AllHaveSize};
 
 use outside::NoMemory;

@@ -2,7 +2,7 @@
 //!
 //! The contract of use: contracts see a [`Builder`] as the list of the fields that were pushed.
 //! `table`, `dynvec` and `fixvec` give the encoding of exactly these (`IsTable`, `IsDynvec`,
-//! `IsFixvec` of `codec_defs`), and these are the clauses by which `mol_core` reads them back.
+//! `IsFixvec` of `chain_defs`), and these are the clauses by which `mol_schema` reads them back.
 //! What the fields themselves are is left to the caller.
 #![tactic(auto)]
 

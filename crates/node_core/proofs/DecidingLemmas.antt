@@ -1,14 +1,13 @@
 -- What a block is judged over, and the verdict that it comes to.
-use Rattle.std.proofs.Common.{◌≡◌, ℕ, ◌-◌, ◌<◌, ◌^◌, Bool, true, false, cond, List, [], ◌∷◌, drop, length, Option, Some, None, refl, sym, ap, ◌∙◌, subst, arith}
+use Rattle.std.proofs.Common.{◌≡◌, ℕ, ◌-◌, ◌<◌, Bool, true, false, cond, List, [], ◌∷◌, drop, length, Option, Some, None, refl, sym, ap, ◌∙◌, subst, arith}
 use Rattle.std.specs.Prelude.{Result, Ok, Err, nat_lt, is_some, IsTrue, IfOk}
 use Rattle.std.proofs.lemmas.Bool.Decides.{Decides-ltb}
-use Rattle.std.proofs.lemmas.List.{length-map}
 use Rattle.std.proofs.lemmas.List.Elements.{All-head, All-tail}
-use Rattle.codec_defs.specs.Shape.{decoded}
-use Rattle.codec_defs.specs.Schema.{OutPoint, Transaction, Block, block}
-use Rattle.fold_defs.specs.First.{first_failing}
-use Rattle.fold_defs.proofs.FirstLemmas.{finds_none}
-use Rattle.time_defs.specs.Specification.{Specification}
+use Rattle.chain_defs.specs.Shape.{decoded}
+use Rattle.chain_defs.specs.Schema.{OutPoint, Transaction, Block, block}
+use Rattle.chain_defs.specs.First.{first_failing}
+use Rattle.chain_defs.proofs.FirstLemmas.{finds_none}
+use Rattle.chain_defs.specs.Specification.{Specification}
 use Rattle.chain_defs.specs.Kept.{block_hash, place_of, follows, kept_limit}
 use Rattle.chain_defs.specs.Branch.{branch}
 use Rattle.chain_defs.specs.Tip.{tip_place, best_branch}
@@ -17,39 +16,35 @@ use Rattle.rule_defs.specs.Header.{has_version, parent_of, header_rules}
 use Rattle.cell_defs.specs.Row.{Row, live_row}
 use Rattle.cell_state.specs.State.{StateValue, rows}
 use Rattle.chain_tree.specs.declared.entry.Entry.{Entry}
-use Rattle.chain_tree.specs.Blocks.{IndexesBlocks, IsParent}
+use Rattle.chain_tree.specs.Blocks.{IndexesBlocks}
 use Rattle.chain_tree.specs.Told.{Stored, blocks_of}
 use Rattle.chain_tree.proofs.BlockLemmas.{len-same}
 use Rattle.uncle_rules.specs.Embedded.{UnclesValue}
-use Rattle.tx_defs.specs.Capacity.{fee}
-use Rattle.script_defs.specs.Scene.{scene_of}
-use Rattle.script_defs.specs.Rules.{cycles_of}
-use Rattle.block_defs.specs.Ext.{ext_of}
-use Rattle.block_defs.specs.Rules.{first_broken, broken_in_dry_run}
-use Rattle.tx_defs.specs.Site.{site_after}
-use Rattle.time_defs.specs.Dao.{is_rated}
+use Rattle.rule_defs.specs.Capacity.{fee}
+use Rattle.verdict_defs.specs.Scene.{scene_of}
+use Rattle.verdict_defs.specs.ScriptRules.{cycles_of}
+use Rattle.verdict_defs.specs.Ext.{ext_of}
+use Rattle.verdict_defs.specs.Rules.{first_broken, broken_in_dry_run}
+use Rattle.rule_defs.specs.Site.{site_after}
+use Rattle.chain_defs.specs.Dao.{is_rated}
 use Rattle.block_judge.specs.Standing.{Stands, StandsWhole}
-use Rattle.cell_defs.specs.Fit.{BranchFits}
-use Rattle.verdict_defs.specs.Verdict.{joins, verdict, verdict_of, verdict_of_block, verdict_on, verdict_by_rules}
-use Rattle.verdict_defs.specs.Chain.{Chain, verdict_over}
-use Rattle.tx_pool.specs.declared.assembling.Assembled.{Assembled}
+use Rattle.verdict_defs.specs.Verdict.{verdict, verdict_of, verdict_of_block, verdict_on, verdict_by_rules}
+use Rattle.verdict_defs.specs.Chain.{Chain}
 use Rattle.verdict_defs.specs.Trial.{trial_on, trial_by}
 use Rattle.verdict_defs.specs.declared.verdict.Verdict.{Verdict}
 use Rattle.verdict_defs.specs.declared.verdict.Verdict.TheVariants.{Joined, Known, Refused, Full}
 use Rattle.verdict_defs.specs.declared.trial.Trial.TheVariants as trials
 use Rattle.store_defs.specs.Store.{IsJoined, AreJoined}
-use Rattle.joined_laws.proofs.TypedLaws.{typed-cells-hold-their-own}
-use Rattle.joined_laws.proofs.FitLaws.{what-joins-fits}
-use Rattle.joined_laws.proofs.BranchFitLaws.{branches-fit}
-use Rattle.node_core.specs.declared.deciding.Joining.{Joining}
-use Rattle.node_core.specs.declared.deciding.Decision.{Decision}
-use Rattle.node_core.specs.declared.deciding.Decision.TheVariants.{Joins, Stays}
-use Rattle.reorg.specs.Moves.{AreOf}
-use Rattle.node_core.specs.Node.{KeptValue, kept_of, AreKept, AreOfTip}
-use Rattle.node_core.proofs.JoiningLemmas.{few-heights}
+use Rattle.store_defs.proofs.TypedLaws.{typed-cells-hold-their-own}
+use Rattle.node_store.specs.declared.decision.Joining.{Joining}
+use Rattle.node_store.specs.declared.decision.Decision.{Decision}
+use Rattle.node_store.specs.declared.decision.Decision.TheVariants.{Joins, Stays}
+use Rattle.cell_state.specs.Moves.{AreOf}
+use Rattle.node_store.specs.Kept.{KeptValue, kept_of, AreKept, AreOfTip}
 use Rattle.node_core.proofs.OwnLemmas.{have-own-fees}
-use Rattle.node_core.proofs.SightLemmas.{header-at-sight}
-use Rattle.node_core.specs.Judging.{IsEntryOn, HasPassed, IsJudged, IsDecidedBlock, IsDecided, MayBeKept, IsReadyBlock, IsReadyItem}
+use Rattle.node_core.proofs.SightLemmas.{header-at-sight, wants-passed}
+use Rattle.node_store.specs.Judging.{IsEntryOn, HasPassed, IsJudged, IsDecidedBlock, IsDecided, MayBeKept, IsReadyBlock, IsReadyItem}
+use Rattle.node_store.proofs.EntryLemmas.{within-entries}
 
 pub none-there : {T : Type 0} (o : Option T) → is_some o ≡ false → o ≡ None
 none-there None is = refl
@@ -74,29 +69,6 @@ pub stands-tip : (spec : Specification) (stored : List Stored) (entries : List E
     → tip_place (blocks_of stored) ≡ Some tip → tip < length entries → Stands stored entries tip found
 stands-tip spec stored entries index found tip are live joined is below = stands-on spec stored entries tip found joined are.indexed below (live tip is)
 
--- as many entries as blocks, and how many there may be
-pub as-many : (stored : List Stored) (entries : List Entry) (index : UnclesValue) → AreKept stored entries index → length stored ≡ length entries
-as-many stored entries index are =
-    omega (arith, len-same (blocks_of stored) entries are.indexed, length-map stored (λ (it : Stored). it.block))
-
-pub few-entries : (stored : List Stored) (entries : List Entry) (index : UnclesValue) → AreKept stored entries index → length entries < 2 ^ 24
-few-entries stored entries index are =
-    omega (arith, few-heights (length stored) are.few, as-many stored entries index are)
-
--- an entry of what is kept is one on which a block can be judged
-pub kept-parent : (stored : List Stored) (entries : List Entry) (index : UnclesValue) (place : ℕ) → AreKept stored entries index → place < length entries
-    → IsParent entries place
-kept-parent stored entries index place are within = record { parent = within; few = few-entries stored entries index are; rated = are.rated }
-
--- a place of a block
-pub within-entries : (kept blocks : List Block) (entries : List Entry) (place : ℕ) → kept ≡ blocks → IndexesBlocks kept entries → place < length blocks
-    → place < length entries
-within-entries kept blocks entries place seen indexed below = omega (arith, below, ap length seen, len-same kept entries indexed)
-
-pub within-blocks : (kept blocks : List Block) (entries : List Entry) (place : ℕ) → kept ≡ blocks → IndexesBlocks kept entries → place < length entries
-    → place < length blocks
-within-blocks kept blocks entries place seen indexed below = omega (arith, below, ap length seen, len-same kept entries indexed)
-
 -- all that a block is judged over, where the rows are those of its parent's branch
 pub whole-at-hand : (spec : Specification) (stored : List Stored) (entries : List Entry) (index : UnclesValue) (state : StateValue) (kept : KeptValue) (b : Block)
     (entry : Entry) → kept_of spec stored entries ≡ kept → AreKept stored entries index → IsEntryOn kept.chain.blocks b entry → AreJoined kept.chain kept.exts
@@ -112,25 +84,6 @@ whole-at-hand spec stored entries index state kept b entry whole are on joined l
       uncles = are.uncles;
       fees = have-own-fees spec stored before.joined before.own are.counted;
     }
-
--- all that a block after the tip is judged over
-pub whole-at-tip : (spec : Specification) (stored : List Stored) (entries : List Entry) (index : UnclesValue) (state : StateValue) (kept : KeptValue) (place : ℕ)
-    → kept_of spec stored entries ≡ kept → AreKept stored entries index → AreJoined kept.chain kept.exts → AreOfTip kept.chain.blocks (rows state)
-    → tip_place (blocks_of stored) ≡ Some place → place < length entries → StandsWhole spec stored entries place (rows state) index
-whole-at-tip spec stored entries index state kept place whole are joined live is below =
-    let before : AreJoined (kept_of spec stored entries).chain (kept_of spec stored entries).exts = subst (λ (k : KeptValue). AreJoined k.chain k.exts) (sym whole) joined in
-    record {
-      stands = stands-tip spec stored entries index (rows state) place are (subst (λ (k : KeptValue). AreOfTip k.chain.blocks (rows state)) (sym whole) live)
-          before.joined is below;
-      uncles = are.uncles;
-      fees = have-own-fees spec stored before.joined before.own are.counted;
-    }
-
--- its parent's branch fits
-pub fits-below : (chain : Chain) (entries : List Entry) (parent : ℕ) → IsJoined chain → IndexesBlocks chain.blocks entries → parent < length entries
-    → BranchFits chain.blocks parent
-fits-below chain entries parent joined indexed below =
-    branches-fit what-joins-fits chain parent joined (omega (arith, below, len-same chain.blocks entries indexed))
 
 -- J5 is among the rules on a header.
 pub follows-by-header : (spec : Specification) (on : List Block) (b : Block) → first_failing (header_rules spec on b) ≡ None → IsTrue (follows b (parent_of on))
@@ -158,6 +111,7 @@ may-be-kept chain b joining on passed room rated fees = record {
     hashes = passed.hashes_are;
   };
   sight = passed.sight;
+  wants = wants-passed chain b joining.entry.parent on.new on.on_kept passed.sight;
 }
 
 -- ---- The verdict on a block
@@ -250,11 +204,3 @@ pub trial-passes-else : {E : Type 0} (spec : Specification) (kept : List Block) 
     → IfOk result (λ it. trial_on spec (best_branch kept) t ≡ trials.Passes it.0 it.1)
 trial-passes-else spec kept t tip (Ok it) is found is_fee is_cycles = trial-passes spec kept t tip is it.0 it.1 found is_fee is_cycles
 trial-passes-else spec kept t tip (Err stop) is found is_fee is_cycles = tt
-
--- ---- A block that is assembled
-
-pub joins-made : {E : Type 0} (chain : Chain) (number : ℕ) (hash : List ℕ) (result : Result Assembled E)
-    → IfOk result (λ made. made.broken ≡ None → verdict_over chain made.block.items ≡ Joined number hash)
-    → IfOk result (λ made. made.broken ≡ None → joins (verdict_over chain made.block.items) ≡ true)
-joins-made chain number hash (Ok made) answers = λ unbroken. ap joins (answers unbroken)
-joins-made chain number hash (Err stop) answers = tt

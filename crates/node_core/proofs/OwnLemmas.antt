@@ -4,15 +4,15 @@ use Rattle.std.specs.Prelude.{slice_get}
 use Rattle.std.specs.Option.{option_map}
 use Rattle.std.proofs.lemmas.List.{length-drop}
 use Rattle.std.proofs.lemmas.Option.{slice_get-map}
-use Rattle.time_defs.specs.Specification.{Specification}
+use Rattle.chain_defs.specs.Specification.{Specification}
 use Rattle.chain_defs.specs.Kept.{block_at}
 use Rattle.chain_defs.specs.Branch.{branch}
 use Rattle.chain_tree.specs.Told.{Stored, blocks_of}
 use Rattle.verdict_defs.specs.Chain.{Chain}
 use Rattle.store_defs.specs.Store.{IsJoined, HaveOwnExts}
 use Rattle.store_defs.proofs.ExtLemmas.{length-fees_from}
-use Rattle.joined_laws.proofs.FeeLaws.{exts-hold-fees}
-use Rattle.node_core.specs.Node.{exts_of, CountFees}
+use Rattle.store_defs.proofs.FeeLaws.{exts-hold-fees}
+use Rattle.node_store.specs.Kept.{exts_of, CountFees}
 use Rattle.rewards.specs.Own.{fees_on, HaveOwnFees}
 
 -- Each holds its own fees. Their count is that of the block's transactions, which the exts count.

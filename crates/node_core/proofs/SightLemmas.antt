@@ -1,19 +1,17 @@
 -- What a block that passes at sight says of the rules on a header and on a body, and where memory may be wanted.
 use Rattle.std.proofs.Common.{◌≡◌, ℕ, List, ◌++◌, Some, None, sym}
-use Rattle.codec_defs.specs.Schema.{Block}
-use Rattle.fold_defs.specs.First.{first_failing}
-use Rattle.time_defs.specs.Specification.{Specification}
+use Rattle.chain_defs.specs.Schema.{Block}
+use Rattle.chain_defs.specs.First.{first_failing}
+use Rattle.chain_defs.specs.Specification.{Specification}
 use Rattle.rule_defs.specs.Header.{header_rules}
 use Rattle.rule_defs.specs.Body.{body_rules}
-use Rattle.family_defs.specs.Rules.{uncle_and_cellbase_rules_over, no_cell}
-use Rattle.block_defs.specs.Rules.{broken_at_sight}
+use Rattle.rule_defs.specs.FamilyRules.{uncle_and_cellbase_rules_over, no_cell}
+use Rattle.verdict_defs.specs.Rules.{broken_at_sight}
 use Rattle.chain_defs.specs.Kept.{block_hash, place_of}
 use Rattle.chain_defs.specs.Branch.{branch}
 use Rattle.block_judge.proofs.SightLemmas.{body-asks, kept-first, kept-later}
 use Rattle.verdict_defs.specs.Chain.{Chain}
-use Rattle.node_core.specs.declared.deciding.Joining.{Joining}
-use Rattle.node_core.specs.declared.deciding.Decision.TheVariants.{Joins}
-use Rattle.node_core.specs.Judging.{IsReadyItem, WantsMemory, MayWantMemory}
+use Rattle.node_store.specs.Judging.{WantsMemory}
 
 -- ---- The rules on a header and on a body
 
@@ -43,8 +41,3 @@ wants-passed chain b parent new on passed =
       short = asks.0;
       few = asks.1;
     }
-
--- for an item that joins
-pub wants-joining : (chain : Chain) (item : List ℕ) (joining : Joining) → IsReadyItem chain item (Joins joining) → MayWantMemory chain item
-wants-joining chain item joining (b, is, may) =
-    (b, is, wants-passed chain b joining.entry.parent may.ready.entry.new may.ready.entry.on_kept may.sight)

@@ -3,17 +3,8 @@ ghost use Rattle.std.specs.Prelude.{◌≡◌, length};
 ghost use Rattle.chain_defs.specs.Kept.{block_hash};
 ghost use Rattle.chain_tree.specs.Blocks.{Describes};
 
-use blake2b_ckb::ckbhash;
 use chain_tree::Entry;
 use mol_schema::BlockView;
-
-/// The hash of a block is that of its header.
-#[tactic(auto, unfolding(chain_defs::specs::Kept::header_hash))]
-pub(crate) fn hash_of(block: &BlockView<'_>) -> [u8; 32]
-    ensures { result ≡ block_hash block.now }
-{
-    ckbhash(block.header().bytes())
-}
 
 /// A field of 32 bytes.
 fn copied(field: &[u8]) -> [u8; 32]

@@ -1,31 +1,16 @@
-//! The node over a disk: the kept blocks of a store, and the judging of one item after another over them.
+//! The judge of a node: [`Rules`] says what is to become of an item by the rules J1 to J32, as `import` of `node_store` asks it,
+//! and [`check`] judges a transaction alone after the tip.
 //!
-//! [`Node`] is the contract of use. Its clauses see a `Chain` of `verdict_defs`, and where the records of its log end:
-//! `open` answers the chain that a store keeps; `import` answers the verdict on an item, and where it joins keeps it and
-//! puts its record on the disk, so that at each moment a crash leaves the chain before the item or after it; `check` judges
-//! a transaction alone, and `assemble` makes a block of many; `tip`, `tree` and `state` tell what is kept, and `header`, `block`, `live`, `fetch` and
-//! `counted` what queries ask of the best branch. [`judge`] accepts a specification and a genesis, and
-//! [`NewStore`] makes a store of them. What is looked up of the kept blocks is in kept.rt, and each call over the disk makes
-//! a source of blocks, in over_disk.rt. By which rules a block is judged is left to `block_judge`, how records lie in the
-//! log to `log_file`, what an item is cut from, and the lines that tell of verdicts, to `node_run`.
+//! By which rules a block is judged is left to `block_judge`. An item is a block, or J1; a block is new, and on a kept
+//! parent, or J3; then it is judged at sight, and over the live cells, which go to its parent's branch and back unless it
+//! becomes the tip.
 #![tactic(auto)]
 
-mod area;
+mod checking;
 mod deciding;
 mod entry;
-mod gathering;
-mod kept;
-mod new_store;
-mod node;
 mod over_disk;
-mod queries;
-mod recorded;
-mod snapshot;
 
 pub use block_judge::JudgeStop;
-pub use log_file::LogStop;
-pub use new_store::{NewStop, NewStore, judge};
-pub use node::{HELD, Node};
-pub use pool_defs::Line;
-pub use queries::{Fetched, HeaderAt, Live};
-pub use tx_pool::Assembled;
+pub use checking::check;
+pub use deciding::Rules;

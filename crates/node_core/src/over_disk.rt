@@ -1,105 +1,26 @@
-// What is kept, over its disk: each call makes a source of kept blocks of the disk and the cache, and lets it go.
-ghost use Rattle.std.specs.Prelude.{◌≡◌, ◌≤◌, ◌<◌, ◌==◌, ◌+◌, ◌-◌, ℕ, true, map, length, Ok, Err, Some, None, IfOk, OnOk, IfSome, IsSome, IsTrue};
-ghost use Rattle.std.specs.List.{All, list_any};
-ghost use Rattle.std.specs.Option.{option_map};
+// A transaction alone, over a disk: the call makes a source of kept blocks of the disk and the cache, and lets it go.
+ghost use Rattle.std.specs.Prelude.{◌≡◌, ◌<◌, ◌-◌, Err, IfOk, IfSome, IsSome};
 ghost use Rattle.outside.specs.declared.disk.Damage.{Damage as a_damage};
-ghost use Rattle.outside.specs.declared.disk.ReadStop.TheVariants.{NoMemory, Damaged};
-ghost use Rattle.chain_defs.specs.Branch.{distance};
-ghost use Rattle.chain_defs.specs.Kept.{block_at, kept_limit};
-ghost use Rattle.codec_defs.specs.Schema as schema;
-ghost use Rattle.codec_defs.specs.Shape.{encoded};
+ghost use Rattle.outside.specs.declared.disk.ReadStop.TheVariants.{Damaged};
 ghost use Rattle.chain_defs.specs.Tip.{best_branch};
-ghost use Rattle.chain_tree.specs.Reading.{stop_of};
 ghost use Rattle.cell_state.specs.State.{rows};
-ghost use Rattle.chain_tree.specs.Damages.{IsAtRecord, IsOfBlock};
-ghost use Rattle.reorg.specs.Moves.{AreOf};
-ghost use Rattle.rule_names.specs.Number.{rule_number};
-ghost use Rattle.rule_names.specs.declared.rule.Rule.{Rule};
+ghost use Rattle.rule_defs.specs.RuleNumber.{rule_number};
+ghost use Rattle.rule_defs.specs.declared.rule.Rule.{Rule};
 ghost use Rattle.block_judge.specs.Stops.{read_stop_of};
 ghost use Rattle.block_judge.specs.declared.stop.JudgeStop.TheVariants.{Broken, Read};
 ghost use Rattle.verdict_defs.specs.Trial.{trial_on};
 ghost use Rattle.verdict_defs.specs.declared.trial.Trial.TheVariants.{Passes, Refused};
-ghost use Rattle.verdict_defs.specs.Chain.{verdict_over};
-ghost use Rattle.verdict_defs.specs.Verdict.{joins};
-ghost use Rattle.pool_defs.specs.Assembly.{assembled};
-ghost use Rattle.pool_defs.specs.Laws.{breakable};
-ghost use Rattle.pool_defs.specs.Size.{most_items, most_bytes};
-ghost use Rattle.tx_pool.specs.Assembling.{IsAssembled};
 ghost use Rattle.store_defs.specs.Store.{AreJoined};
-ghost use Rattle.node_core.specs.Node.{IsReadBy, HasOnlyRead, AreOfFound, AreOfTip, AreOfKept};
-ghost use Rattle.node_core.specs.Steps.{moves_for};
-ghost use Rattle.node_core.specs.Judging.{IsReadyItem, IsDecided, MayWantMemory, place_for};
-ghost use Rattle.node_core.specs.Queries.{IsHeaderAt, IsBlockAt, IsLiveCell, IsFetched};
+ghost use Rattle.node_store.specs.Node.{IsReadBy, HasOnlyRead};
+ghost use Rattle.node_store.specs.Kept.{AreOfTip};
 
-use crate::deciding::Decision;
-use crate::kept::Kept;
-use crate::queries::{Fetched, HeaderAt};
+use crate::deciding;
 use block_judge::JudgeStop;
-use block_store::{Cache, Store};
-use cell_model::OutPoint;
 use cell_state::State;
-use mol_schema::{CellbaseWitnessView, TxView};
-use outside::{Disk, ReadStop, Steps};
+use mol_schema::TxView;
+use node_store::{Cache, Kept, Store};
+use outside::Disk;
 use std::alloc::Global;
-use std::sync::ledger::Ledger;
-use tx_pool::Assembled;
-
-/// Leads the live cells of the branch of one place to those of another's.
-pub(crate) fn moved<D: Disk, L: Ledger>(
-    alloc: Global,
-    disk: &mut D,
-    cache: &mut Cache,
-    kept: &Kept,
-    state: State,
-    from: u32,
-    to: u32,
-    steps: &mut Steps<L>,
-) -> Result<State, ReadStop>
-    requires from { from < length kept.now.chain.blocks }
-    requires to { to < length kept.now.chain.blocks }
-    requires own { IfSome (D.reads_as disk.old) (IsReadBy kept.now cache.old.held) }
-    ensures looked { HasOnlyRead D.content_of D.reads_as D.faults disk.old disk.new kept.now cache.old cache.new (stop_of result) }
-    ensures cells { IsSome (D.reads_as disk.old) → AreJoined kept.now.chain kept.now.exts → AreOf kept.now.chain.blocks from (rows state)
-        → IfOk result (λ there. AreOf kept.now.chain.blocks to (rows there)) }
-    ensures below { AreOfKept kept.now.chain.blocks (rows state) → IfOk result (λ there. AreOfKept kept.now.chain.blocks (rows there)) }
-    ensures undamaged { IsSome (D.reads_as disk.old) → AreJoined kept.now.chain kept.now.exts → AreOf kept.now.chain.blocks from (rows state)
-        → (damage : a_damage) → result ≡ Err (Damaged damage) → ⊥ }
-    ensures at_record { IsSome (D.reads_as disk.old) → (damage : a_damage) → result ≡ Err (Damaged damage)
-        → (place : ℕ) × IsAtRecord kept.now.entries place damage }
-    ensures steps { OnOk result (steps.new ≡ steps.old + distance kept.now.chain.blocks from to) }
-    ensures most { steps.new ≤ steps.old + distance kept.now.chain.blocks from to }
-{
-    let mut store = Store::new(alloc, disk, &kept.tree, cache);
-    kept.moved(alloc, &mut store, state, from, to, steps)
-}
-
-/// What is to become of an item, and the live cells where they then stand.
-pub(crate) fn decide<D: Disk, L: Ledger>(
-    alloc: Global,
-    disk: &mut D,
-    cache: &mut Cache,
-    kept: &Kept,
-    state: State,
-    item: &[u8],
-    steps: &mut Steps<L>,
-) -> Result<(State, Decision), ReadStop>
-    requires own { IfSome (D.reads_as disk.old) (IsReadBy kept.now cache.old.held) }
-    ensures looked { HasOnlyRead D.content_of D.reads_as D.faults disk.old disk.new kept.now cache.old cache.new (stop_of result) }
-    ensures ready { IfOk result (λ it. IsReadyItem kept.now.chain item.now it.1) }
-    ensures cells { IsSome (D.reads_as disk.old) → AreJoined kept.now.chain kept.now.exts → AreOfTip kept.now.chain.blocks (rows state)
-        → IfOk result (λ it. AreOfFound kept.now.chain.blocks (place_for kept.now.chain.blocks it.1) (rows it.0)) }
-    ensures below { AreOfKept kept.now.chain.blocks (rows state) → IfOk result (λ it. AreOfKept kept.now.chain.blocks (rows it.0)) }
-    ensures decided { IsSome (D.reads_as disk.old) → AreJoined kept.now.chain kept.now.exts → AreOfTip kept.now.chain.blocks (rows state)
-        → IfOk result (λ it. IsDecided kept.now.chain item.now it.1) }
-    ensures undamaged { IsSome (D.reads_as disk.old) → AreJoined kept.now.chain kept.now.exts → AreOfTip kept.now.chain.blocks (rows state)
-        → (damage : a_damage) → result ≡ Err (Damaged damage) → ⊥ }
-    ensures asked { result ≡ Err NoMemory → MayWantMemory kept.now.chain item.now }
-    ensures most { steps.new ≤ steps.old + (moves_for kept.now.chain item.now - 1) }
-    ensures sight { moves_for kept.now.chain item.now ≡ 0 → disk.new ≡ disk.old }
-{
-    let mut store = Store::new(alloc, disk, &kept.tree, cache);
-    kept.decide(alloc, &mut store, state, item, steps)
-}
 
 /// Judges a transaction alone after the tip, by its live cells.
 pub(crate) fn check<D: Disk>(
@@ -120,92 +41,5 @@ pub(crate) fn check<D: Disk>(
         → (damage : a_damage) → result ≡ Err (Read (Damaged damage)) → ⊥ }
 {
     let mut store = Store::new(alloc, disk, &kept.tree, cache);
-    kept.check(alloc, &mut store, state, tx)
-}
-
-/// Assembles a block after the tip, by its live cells.
-pub(crate) fn assemble<D: Disk>(
-    alloc: Global,
-    disk: &mut D,
-    cache: &mut Cache,
-    kept: &Kept,
-    state: &State,
-    witness: &CellbaseWitnessView<'_>,
-    items: &[Vec<u8>],
-) -> Result<Assembled, ReadStop>
-    requires items { length items.now ≤ most_items }
-    requires bytes { All (λ item. length item.items ≤ most_bytes) items.now }
-    requires witness { length (encoded schema.cellbase_witness witness.now) ≤ most_bytes }
-    requires own { IfSome (D.reads_as disk.old) (IsReadBy kept.now cache.old.held) }
-    ensures looked { HasOnlyRead D.content_of D.reads_as D.faults disk.old disk.new kept.now cache.old cache.new (stop_of result) }
-    ensures assembled { IsSome (D.reads_as disk.old) → AreJoined kept.now.chain kept.now.exts → AreOfTip kept.now.chain.blocks (rows state.now)
-        → IfOk result (IsAssembled (assembled kept.now.chain witness.now (map (λ item. item.items) items.now))) }
-    ensures joins { IsSome (D.reads_as disk.old) → AreJoined kept.now.chain kept.now.exts → AreOfTip kept.now.chain.blocks (rows state.now)
-        → length kept.now.chain.blocks < kept_limit
-        → IfOk result (λ made. made.broken ≡ None → joins (verdict_over kept.now.chain made.block.items) ≡ true) }
-    ensures breaks_few { IsSome (D.reads_as disk.old) → AreJoined kept.now.chain kept.now.exts → AreOfTip kept.now.chain.blocks (rows state.now)
-        → IfOk result (λ made. (rule : ℕ) → made.broken ≡ Some rule → IsTrue (list_any (λ other. other == rule) breakable)) }
-    ensures undamaged { IsSome (D.reads_as disk.old) → AreJoined kept.now.chain kept.now.exts → AreOfTip kept.now.chain.blocks (rows state.now)
-        → (damage : a_damage) → result ≡ Err (Damaged damage) → ⊥ }
-{
-    let mut store = Store::new(alloc, disk, &kept.tree, cache);
-    kept.assemble(alloc, &mut store, state, witness, items)
-}
-
-/// The header at a height of the best branch.
-pub(crate) fn header<D: Disk>(
-    alloc: Global,
-    disk: &mut D,
-    cache: &mut Cache,
-    kept: &Kept,
-    height: u64,
-) -> Result<Option<HeaderAt>, ReadStop>
-    requires own { IfSome (D.reads_as disk.old) (IsReadBy kept.now cache.old.held) }
-    ensures looked { HasOnlyRead D.content_of D.reads_as D.faults disk.old disk.new kept.now cache.old cache.new (stop_of result) }
-    ensures header { IsSome (D.reads_as disk.old) → IfOk result (IsHeaderAt kept.now.chain.blocks height) }
-    ensures none { block_at (best_branch kept.now.chain.blocks) height ≡ None → (result ≡ Ok None) × (disk.new ≡ disk.old) }
-    ensures undamaged { IsSome (D.reads_as disk.old) → (damage : a_damage) → result ≡ Err (Damaged damage) → ⊥ }
-{
-    let mut store = Store::new(alloc, disk, &kept.tree, cache);
-    kept.header(&mut store, height)
-}
-
-/// The bytes of the block at a height of the best branch.
-pub(crate) fn block<D: Disk>(
-    alloc: Global,
-    disk: &mut D,
-    cache: &mut Cache,
-    kept: &Kept,
-    height: u64,
-) -> Result<Option<Vec<u8>>, ReadStop>
-    requires own { IfSome (D.reads_as disk.old) (IsReadBy kept.now cache.old.held) }
-    ensures looked { HasOnlyRead D.content_of D.reads_as D.faults disk.old disk.new kept.now cache.old cache.new (stop_of result) }
-    ensures block { IsSome (D.reads_as disk.old) → IfOk result (λ found. IsBlockAt kept.now.chain.blocks height (option_map (λ bytes. bytes.items) found)) }
-    ensures none { block_at (best_branch kept.now.chain.blocks) height ≡ None → (result ≡ Ok None) × (disk.new ≡ disk.old) }
-    ensures undamaged { IsSome (D.reads_as disk.old) → (damage : a_damage) → result ≡ Err (Damaged damage) → ⊥ }
-{
-    let mut store = Store::new(alloc, disk, &kept.tree, cache);
-    kept.block(alloc, &mut store, height)
-}
-
-/// The live cell with an out-point, by the live cells of the tip, with a copy of its bytes.
-pub(crate) fn fetch<D: Disk>(
-    alloc: Global,
-    disk: &mut D,
-    cache: &mut Cache,
-    kept: &Kept,
-    state: &State,
-    o: OutPoint,
-) -> Result<Option<Fetched>, ReadStop>
-    requires own { IfSome (D.reads_as disk.old) (IsReadBy kept.now cache.old.held) }
-    requires below { AreOfKept kept.now.chain.blocks (rows state.now) }
-    ensures looked { HasOnlyRead D.content_of D.reads_as D.faults disk.old disk.new kept.now cache.old cache.new (stop_of result) }
-    ensures fetched { IsSome (D.reads_as disk.old) → AreOfTip kept.now.chain.blocks (rows state.now) → IfOk result (IsFetched kept.now.chain.blocks o) }
-    ensures none { AreOfTip kept.now.chain.blocks (rows state.now) → IsLiveCell kept.now.chain.blocks o None → (result ≡ Ok None) × (disk.new ≡ disk.old) }
-    ensures undamaged { IsSome (D.reads_as disk.old) → AreOfTip kept.now.chain.blocks (rows state.now)
-        → (damage : a_damage) → result ≡ Err (Damaged damage) → ⊥ }
-    ensures of_block { IsSome (D.reads_as disk.old) → (damage : a_damage) → result ≡ Err (Damaged damage) → IsOfBlock kept.now.entries damage }
-{
-    let mut store = Store::new(alloc, disk, &kept.tree, cache);
-    kept.fetch(alloc, &mut store, state, o)
+    deciding::check(alloc, kept, &mut store, state, tx)
 }

@@ -9,7 +9,7 @@ use Rattle.report_defs.specs.declared.status.Status.{Status}
 use Rattle.report_defs.specs.declared.status.Status.TheVariants.{BadWords, InputFault, DiskFault}
 use Rattle.report_defs.specs.Status.{IsOneOf}
 use Rattle.report_defs.specs.Promise.{init_statuses, import_statuses, query_statuses, question_statuses, answering_statuses, refusing_statuses, standalone_statuses, simulation_statuses, statuses_of}
-use Rattle.node_run.proofs.Tables.{lacks}
+use Rattle.run_text.proofs.Tables.{lacks}
 
 -- what no command without a store answers
 lacks_bad_words : (command : files.Standalone) (status : Status) → IsOneOf (standalone_statuses command) status → status ≡ BadWords → ⊥

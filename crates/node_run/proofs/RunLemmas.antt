@@ -17,11 +17,11 @@ use Rattle.report_defs.specs.Status.{IsOneOf}
 use Rattle.report_defs.specs.Report.{Report, text_of, report_without_lines, file_limit, IsReport, IsReportOfFile, answer_to_query}
 use Rattle.report_defs.specs.Promise.{MatchesReport, KeepsOrder, ReadsFileInOrder, Finds, IsReported}
 use Rattle.report_defs.specs.Survival.{Each, Run, IsDone, IsKeptPrefix, IsKeptBy, IsLeftBy, KeepsStore, KeepsItems, KeepsDisk, Answers, IsPromised, items_of}
-use Rattle.node_run.specs.Store.{Delivers}
-use Rattle.node_run.specs.Question.{DeliversAnswer}
-use Rattle.node_run.specs.Simulation.{IsSimulationPrinted}
-use Rattle.node_run.proofs.LineLemmas.{prefix_of_none}
-use Rattle.node_run.proofs.StoreLemmas.{same_chain, store_of_stands}
+use Rattle.run_text.specs.Store.{Delivers}
+use Rattle.run_question.specs.Question.{DeliversAnswer}
+use Rattle.run_simulation.specs.Simulation.{IsSimulationPrinted}
+use Rattle.run_text.proofs.LineLemmas.{prefix_of_none}
+use Rattle.run_text.proofs.StoreLemmas.{same_chain, store_of_stands}
 
 -- ---- Runs that keep what was kept
 

@@ -2,24 +2,12 @@
 //!
 //! [`run`] is the one call. Its contract says what the sink takes, how far the source is read, how the
 //! run ends and what it leaves of the disk, by the report that `report_defs` defines, for every source,
-//! sink and disk and for any list of runs before it. Each class of commands has a file and a contract of its
-//! own, by which `run` is proved: a query or a question more is a function that finds its answer. Streams and files of
+//! sink and disk and for any list of runs before it. Each class of commands has a crate and a contract of its
+//! own, by which `run` is proved: `run_init`, `run_import`, `run_query`, `run_question`, `run_alone` and `run_simulation`. Streams and files of
 //! the machine are left to `outside_os`, and `main` to the program `ckbdev`.
 #![tactic(auto)]
 
-mod assembly;
-mod dao;
-mod import;
-mod init;
-mod lines;
-mod output;
-mod query;
-mod question;
-mod simulation;
-mod standalone;
-mod store;
 mod top;
-mod words;
 
 pub use report_defs::Status;
 pub use top::run;

@@ -33,10 +33,6 @@ after_still {Fault = Fault} {now = now} same counts = subst (λ (n : ℕ). Count
 pub handed : {T U E : Type 0} (one other : E) → ◌≡◌ {A = Result T E} (Err one) (Err other) → ◌≡◌ {A = Result U E} (Err one) (Err other)
 handed one other same = cc
 
-pub counts-handed : {T U E : Type 0} {before now : ℕ} (one other : E) → CountsFault before now (◌≡◌ {A = Result T E} (Err one) (Err other))
-    → CountsFault before now (◌≡◌ {A = Result U E} (Err one) (Err other))
-counts-handed one other counts = counts-as counts (handed one other) (handed one other)
-
 -- ---- What an answer is not
 
 pub no_answer : {T E : Type 0} (value : T) (stop : E) → Ok value ≡ Err stop → ⊥

@@ -6,8 +6,8 @@ use Rattle.std.proofs.lemmas.List.{map-append, reverse-append}
 use Rattle.outside.specs.declared.disk.Area.{Area}
 use Rattle.outside_mem.specs.declared.history.Recorded.{Recorded}
 use Rattle.outside.specs.Image.{Image, content, InArea}
-use Rattle.outside.specs.Disk.{write_area, Torn, Cut, Follows, OthersRead, Elapses}
-use Rattle.outside_mem.specs.MemoryDisk.{Step, Wrote, Shortened, Synced, Crashed, reads, Leaves, MayLeave, LeftSince, LeavesExactly, LeavesSynced, FailsInPart, WritesInPart, step_of, steps_of}
+use Rattle.outside.specs.Disk.{write_area, Torn, Cut, Follows, OthersRead}
+use Rattle.outside_mem.specs.MemoryDisk.{Step, Wrote, Shortened, Synced, Crashed, reads, Leaves, MayLeave, LeavesExactly, FailsInPart, WritesInPart, step_of, steps_of}
 use Rattle.outside.proofs.Images.{own_content}
 use Rattle.outside.proofs.Torn.{torn_same, tears_to_the_written, cuts_to_any_length}
 
@@ -47,23 +47,6 @@ cut_exact steps area len left image = (
   λ may. let cut = leaves (Shortened area len left ∷ steps) image may in (cut.0, inr cut.1, cut.2),
   λ from. inr (from.0, leaves steps from.0 from.1, from.2),
 )
-
-pub sync_exact : (steps : List Step) (area : Area) → LeavesSynced area steps (Synced area ∷ steps)
-sync_exact steps area image = (
-  λ may. let synced = leaves (Synced area ∷ steps) image may in (inr synced.0, synced.1),
-  λ from. inr (leaves steps image from.0, from.1),
-)
-
--- a call that made no step, and one that made one
-pub elapses_same : (steps : List Step) → Elapses (length steps) (length steps) (LeftSince steps) (LeftSince steps) (MayLeave steps)
-elapses_same steps = record { later = omega arith; nothing_else = λ t image le left. inl left; keeps = λ t image le left. left }
-
-pub elapses_step : (step : Step) (steps : List Step) → Elapses (length steps) (length (step ∷ steps)) (LeftSince steps) (LeftSince (step ∷ steps)) (MayLeave (step ∷ steps))
-elapses_step step steps = record {
-  later = omega arith;
-  nothing_else = λ t image le left. ⊎_elim (λ now. inr now) (λ past. inl past.1) left;
-  keeps = λ t image le left. inr (le, left);
-}
 
 -- the same, where the size of the call is known otherwise
 pub write_exact_of : (steps : List Step) (area : Area) (at : ℕ) (piece : List ℕ) (lost size : ℕ) → length piece + lost ≡ size

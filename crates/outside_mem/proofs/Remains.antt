@@ -10,7 +10,7 @@ use Rattle.outside.specs.Image.{Image, content, with_content, InArea}
 use Rattle.outside.specs.Disk.{written, write_area, Torn, Cut, ComesBy, AreaKept}
 use Rattle.outside.proofs.Torn.{torn_same, cut_same, tears_to_the_written}
 use Rattle.outside_mem.specs.declared.history.Recorded.{Recorded}
-use Rattle.outside_mem.specs.Stored.{Stored, Parts, part, with_part, shown, image_of, nothing, after_write, after_cut, after_sync, IsSettled}
+use Rattle.outside_mem.specs.Stored.{Stored, Parts, part, with_part, shown, image_of, nothing, after_write, after_cut, IsSettled}
 use Rattle.outside_mem.specs.MemoryDisk.{Step, Wrote, Shortened, Synced, Crashed, empty, reads, Leaves, step_of, steps_of}
 use Rattle.outside_mem.specs.Remains.{LeftBy, LeavesIn, HoldsIn, Holds, MayTear}
 use Rattle.outside_mem.proofs.MemoryDisk.{steps_of-push}
@@ -139,17 +139,6 @@ hold_cut area steps stored len left holds = record {
   leaves = λ kept enough. inr (refl, (take (max stored.least kept) stored.bytes, holds.leaves (max stored.least kept) (omega arith), cut_front len stored.least kept stored.bytes enough));
 }
 
-hold_sync : (area : Area) (steps : List Step) (stored : Stored) → HoldsIn area steps stored → HoldsIn area (Synced area ∷ steps) (after_sync stored)
-hold_sync area steps stored holds =
-    let size : length (shown stored) ≡ stored.len = length-take-le stored.len stored.bytes holds.within in
-    let all : (kept : ℕ) → stored.len ≤ kept → take kept (shown stored) ≡ shown stored = λ kept enough. take_all kept (shown stored) (omega (arith, size, enough)) in
-    record {
-      as_read = all stored.len (omega arith) ∙ holds.as_read;
-      at_least = omega arith;
-      within = omega (arith, size);
-      leaves = λ kept enough. (λ is. all kept enough ∙ holds.as_read, subst (LeavesIn area steps) (sym (all kept enough)) (holds.leaves stored.len holds.at_least));
-    }
-
 -- what a step in one area does to what is stored of another
 abbrev Frames : Area → List Step → Step → Type 0
 Frames area steps step = (other : Area) (stored : Stored) → (area ≡ other → ⊥) → ((bytes : List ℕ) (image : Image) → AreaKept other image (with_content area bytes image))
@@ -169,14 +158,6 @@ frame_cut area steps len left other stored apart kept holds = record {
   at_least = holds.at_least;
   within = holds.within;
   leaves = λ n enough. inl (holds.leaves n enough);
-}
-
-frame_sync : (area : Area) (steps : List Step) → Frames area steps (Synced area)
-frame_sync area steps other stored apart kept holds = record {
-  as_read = holds.as_read;
-  at_least = holds.at_least;
-  within = holds.within;
-  leaves = λ n enough. (λ is. absurd (apart is), holds.leaves n enough);
 }
 
 hold_all : (steps : List Step) (step : Step) (area : Area) (parts : Parts) (stored : Stored) → Holds steps parts → HoldsIn area (step ∷ steps) stored → Frames area steps step
@@ -204,11 +185,6 @@ cut_holds steps area len left parts holds =
     hold_all steps (Shortened area len left) area parts (after_cut len left (part area parts)) holds
     (hold_cut area steps (part area parts) len left (holds area)) (frame_cut area steps len left)
 
-pub sync_holds : (steps : List Step) (area : Area) (parts : Parts) → Holds steps parts
-    → Holds (Synced area ∷ steps) (with_part area (after_sync (part area parts)) parts)
-sync_holds steps area parts holds =
-    hold_all steps (Synced area) area parts (after_sync (part area parts)) holds (hold_sync area steps (part area parts) (holds area)) (frame_sync area steps)
-
 -- ---- At first, and after a crash
 
 abbrev no_parts : Parts
@@ -234,17 +210,6 @@ shown_of SnapB parts = refl
 
 all_shown : (stored : Stored) → IsSettled stored → shown stored ≡ stored.bytes
 all_shown stored settled = take_all stored.len stored.bytes (omega (arith, settled.0))
-
-hold_crash : (area : Area) (left : Image) (stored : Stored) → content area left ≡ shown stored → IsSettled stored → HoldsIn area (Crashed left ∷ []) stored
-hold_crash area left stored is settled = record {
-  as_read = sym is;
-  at_least = omega (arith, settled.0, settled.1);
-  within = omega (arith, settled.0);
-  leaves = λ kept enough. take_all kept stored.bytes (omega (arith, enough, settled.1)) ∙ sym (all_shown stored settled) ∙ sym is;
-}
-
-pub crash_holds : (parts : Parts) → ((area : Area) → IsSettled (part area parts)) → Holds (Crashed (image_of parts) ∷ []) parts
-crash_holds parts settled area = hold_crash area (image_of parts) (part area parts) (shown_of area parts) (settled area)
 
 pub crash_leaves : (steps : List Step) (parts : Parts) → ((area : Area) → LeavesIn area steps (part area parts).bytes) → ((area : Area) → IsSettled (part area parts))
     → Leaves steps (image_of parts)

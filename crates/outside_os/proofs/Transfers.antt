@@ -1,5 +1,5 @@
 -- Reads and writes of a file, one after another.
-use Rattle.std.proofs.Common.{⊎_elim, ◌≡◌, ℕ, ◌+◌, ◌-◌, ◌<◌, ◌≤◌, min, max, List, ◌++◌, Option, None, Some, Result, Ok, Err, length, take, drop, refl, sym, subst, ◌∙◌, ap, append_assoc, append-nil, take-append-drop, length-append, length-drop, arith}
+use Rattle.std.proofs.Common.{⊎_elim, ◌≡◌, ℕ, ◌+◌, ◌-◌, ◌<◌, ◌≤◌, min, max, List, ◌++◌, Option, None, Some, Result, Ok, Err, length, take, drop, refl, sym, subst, ◌∙◌, ap, append_assoc, take-append-drop, length-append, length-drop, arith}
 use Rattle.std.specs.Prelude.{IfSome, IfOk, OnErr, IsErr}
 use Rattle.std.proofs.Math.Seq.{take-add, take-append-add}
 use Rattle.std.proofs.lemmas.List.{take_at, drop_at, take_all, drop_all, take-append-le, take-take, length-take, length-take-le, drop-drop}
@@ -93,13 +93,6 @@ changes_then first second both joined x y z one two = record {
   bytes = becomes_then first second both joined x.reads_as y.reads_as z.reads_as one.bytes two.bytes;
   synced = two.synced ∙ one.synced;
 }
-
-pub changes_as : (first second : List ℕ → List ℕ → Type 0) → ((a b : List ℕ) → first a b → second a b) → (x y : Held) → Changes first x y → Changes second x y
-changes_as first second same x y one = record { bytes = becomes x.reads_as one.bytes; synced = one.synced }
-  where
-    becomes : (reads : Option (List ℕ)) → Becomes first reads y.reads_as → Becomes second reads y.reads_as
-    becomes None step = tt
-    becomes (Some a) (b, is, step) = (b, is, same a b step)
 
 pub changes_none : (step : List ℕ → List ℕ → Type 0) → ((a : List ℕ) → step a a) → (x : Held) → Changes step x x
 changes_none step same x = record { bytes = rests x.reads_as; synced = refl }
@@ -200,12 +193,6 @@ written_whole at done piece a b is part start =
     ap (λ (k : ℕ). take (at + k) b) (sym is) ∙ whole.prefix ∙ ap (λ (l : List ℕ). take at a ++ l) (take_all done piece (omega (arith, is))) in
     sym (take-append-drop (at + length piece) b) ∙ ap (λ (l : List ℕ). l ++ drop (at + length piece) b) front ∙ ap (λ (l : List ℕ). take at a ++ piece ++ l) whole.torn.after
 
-written_none : (at : ℕ) (piece a : List ℕ) → WritesInPart at piece 0 a a
-written_none at piece a start = record { torn = torn_same at (length piece) a; prefix = ap (λ (k : ℕ). take k a) (plus_none at) ∙ sym (append-nil (take at a)) }
-  where
-    plus_none : (n : ℕ) → n + 0 ≡ n
-    plus_none n = omega arith
-
 torn_twice : (at size : ℕ) (a b c : List ℕ) → Tears at size a b → Tears at size b c → Tears at size a c
 torn_twice at size a b c one two start =
     let first : Torn at size a b = one start in
@@ -267,13 +254,6 @@ pub record WrittenSoFar (old new : Held) (before now at done : ℕ) (piece : Lis
   pub written : Changes (WritesInPart at piece done) old new
   pub later : before ≤ now
 
-pub begins_writing : (held : Held) (count at : ℕ) (piece : List ℕ) → WrittenSoFar held held count count at 0 piece
-begins_writing held count at piece = record {
-  within = omega arith;
-  written = changes_none (WritesInPart at piece 0) (written_none at piece) held;
-  later = omega arith;
-}
-
 pub goes_on_writing : (old mid new : Held) (before now later at done n : ℕ) (piece part : List ℕ) → WrittenSoFar old mid before now at done piece
     → part ≡ drop done piece → n ≤ length part → Changes (WritesInPart (at + done) part n) mid new → now ≤ later → WrittenSoFar old new before later at (done + n) piece
 goes_on_writing old mid new before now later at done n piece part so_far is fits written rises = record {
@@ -290,11 +270,6 @@ stops_writing old mid new before now at done piece part so_far is torn =
     changes_then (WritesInPart at piece done) (Tears (at + done) (length (drop done piece))) (Tears at (length piece))
     (λ a b c. torn_further at done piece a b c so_far.within) old mid new so_far.written
     (subst (λ (l : List ℕ). Changes (Tears (at + done) (length l)) mid new) is torn)
-
-pub ends_writing : (old new : Held) (before now at done : ℕ) (piece : List ℕ) → WrittenSoFar old new before now at done piece
-    → length piece ≤ done → Changes (Writes at piece) old new
-ends_writing old new before now at done piece so_far all =
-    changes_as (WritesInPart at piece done) (Writes at piece) (λ a b. written_whole at done piece a b (omega (arith, all, so_far.within))) old new so_far.written
 
 pub nothing_cut : (len : ℕ) (held : Held) → Changes (CutsInPart len) held held
 nothing_cut len held = changes_none (CutsInPart len) (λ a within. cut_same len a) held

@@ -3,14 +3,14 @@ use Rattle.std.proofs.Common.{◌≡◌, ℕ, suc, ◌+◌, List, [], ◌∷◌,
 use Rattle.std.specs.Prelude.{IsTrue}
 use Rattle.std.proofs.lemmas.List.{append-nil, append_assoc}
 use Rattle.std.proofs.lemmas.List.Elements.{All-nil}
-use Rattle.codec_defs.specs.Schema.{Transaction, Block, CellbaseWitness}
-use Rattle.fold_defs.specs.First.{AllHold}
-use Rattle.fold_defs.specs.Fold.{keep}
-use Rattle.fold_defs.proofs.FoldLemmas.{keep-append}
-use Rattle.time_defs.specs.Specification.{Specification}
+use Rattle.chain_defs.specs.Schema.{Transaction, Block, CellbaseWitness}
+use Rattle.chain_defs.specs.First.{AllHold}
+use Rattle.chain_defs.specs.Fold.{keep}
+use Rattle.chain_defs.proofs.FoldLemmas.{keep-append}
+use Rattle.chain_defs.specs.Specification.{Specification}
 use Rattle.chain_defs.specs.Tip.{best_branch}
 use Rattle.rule_defs.specs.Body.{has_proposals}
-use Rattle.block_defs.specs.Transactions.{rules_of_transactions, rules_from}
+use Rattle.verdict_defs.specs.Transactions.{rules_of_transactions, rules_from}
 use Rattle.pool_defs.specs.Start.{started, sealed}
 use Rattle.pool_defs.specs.Assembly.{Assembly, start, take_item, assembly, assembled}
 use Rattle.pool_defs.specs.Laws.{LinesStay, TransactionsKeepTheirRules, CommitsStand, left_from}

@@ -9,17 +9,17 @@ use Rattle.std.proofs.lemmas.Slice.Eq.{bytes_eq-Decides}
 use Rattle.std.proofs.lemmas.List.{length-append, length_push}
 use Rattle.std.proofs.lemmas.List.Folds.{list_any-append}
 use Rattle.std.proofs.lemmas.List.Sums.{sum_by-cons, sum_by_push}
-use Rattle.codec_defs.specs.Molecule as molecule
-use Rattle.codec_defs.specs.Shape.{encoded, parts, dynvec, fixvec}
-use Rattle.codec_defs.specs.Schema.{Transaction, transaction, Header, header, UncleBlock, uncle_block, Block, block, proposal_short_id}
-use Rattle.codec_defs.proofs.MoleculeLaws.{length-dynvec, length-fixvec}
-use Rattle.fit_laws.proofs.HashLemmas.{hashes-have-32}
-use Rattle.time_defs.specs.Specification.{Specification}
+use Rattle.chain_defs.specs.Molecule as molecule
+use Rattle.chain_defs.specs.Shape.{encoded, parts, dynvec, fixvec}
+use Rattle.chain_defs.specs.Schema.{Transaction, transaction, Header, header, UncleBlock, uncle_block, Block, block, proposal_short_id}
+use Rattle.chain_defs.proofs.MoleculeLaws.{length-dynvec, length-fixvec}
+use Rattle.cell_defs.proofs.HashLemmas.{hashes-have-32}
+use Rattle.chain_defs.specs.Specification.{Specification}
 use Rattle.chain_defs.specs.Kept.{header_hash}
 use Rattle.chain_defs.specs.Hashes.{transaction_hash, are_distinct}
 use Rattle.rule_defs.specs.Header.{parent_of}
 use Rattle.rule_defs.specs.Body.{counted_length, has_proposals}
-use Rattle.family_defs.specs.Cellbase.{is_cellbase, begins_with_cellbase, has_cellbase}
+use Rattle.rule_defs.specs.Cellbase.{is_cellbase, begins_with_cellbase, has_cellbase}
 use Rattle.pool_defs.specs.Start.{header_after, hash_of_parent, zero_bytes}
 use Rattle.pool_defs.specs.Size.{size_with}
 use Rattle.pool_defs.specs.Assembly.{with_transaction, with_proposal}

@@ -3,18 +3,18 @@ use Rattle.std.proofs.Common.{◌≡◌, ℕ, ◌+◌, ◌<◌, ◌≤◌, true,
 use Rattle.std.specs.Prelude.{IsTrue, slice_get}
 use Rattle.std.proofs.lemmas.List.{append-nil, take-append-le, take_at, length_push, length-drop, length-take-le}
 use Rattle.std.proofs.lemmas.Option.{slice_get_within}
-use Rattle.codec_defs.specs.Shape.{decoded}
-use Rattle.codec_defs.specs.Schema.{Transaction, transaction, Block}
-use Rattle.fold_defs.specs.First.{AllHold, first_failing}
-use Rattle.fold_defs.proofs.FirstLemmas.{finds_none}
-use Rattle.time_defs.specs.Specification.{Specification}
+use Rattle.chain_defs.specs.Shape.{decoded}
+use Rattle.chain_defs.specs.Schema.{Transaction, transaction, Block}
+use Rattle.chain_defs.specs.First.{AllHold, first_failing}
+use Rattle.chain_defs.proofs.FirstLemmas.{finds_none}
+use Rattle.chain_defs.specs.Specification.{Specification}
 use Rattle.chain_defs.proofs.KeptLaws.{slice_get-before, slice_get-push, slice_get-pushed}
 use Rattle.rule_defs.specs.Body.{has_proposals}
-use Rattle.tx_defs.specs.Site.{Site, site_at}
-use Rattle.tx_defs.specs.Capacity.{fee}
-use Rattle.script_defs.specs.Scene.{scene_of}
-use Rattle.script_defs.specs.Rules.{cycles_of}
-use Rattle.block_defs.specs.Transactions.{transaction_rules, left_after, rules_from, rules_of_transactions}
+use Rattle.rule_defs.specs.Site.{Site, site_at}
+use Rattle.rule_defs.specs.Capacity.{fee}
+use Rattle.verdict_defs.specs.Scene.{scene_of}
+use Rattle.verdict_defs.specs.ScriptRules.{cycles_of}
+use Rattle.verdict_defs.specs.Transactions.{transaction_rules, left_after, rules_from, rules_of_transactions}
 use Rattle.pool_defs.specs.Start.{header_after}
 use Rattle.pool_defs.specs.Assembly.{Assembly, with_transaction, with_proposal, with_line, next_site, proposed, committed_at, take_item}
 use Rattle.pool_defs.specs.Laws.{left_from, left_before, IsCommitted}

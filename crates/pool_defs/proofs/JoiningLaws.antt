@@ -6,13 +6,13 @@ use Rattle.std.proofs.lemmas.Bool.Decides.{Decides-eqb}
 use Rattle.std.proofs.lemmas.Bool.{cases_lt}
 use Rattle.std.proofs.lemmas.Slice.Eq.{bytes_eq-Decides}
 use Rattle.std.proofs.lemmas.Option.{slice_get_within}
-use Rattle.codec_defs.specs.Shape.{encoded}
-use Rattle.codec_defs.specs.Schema.{Transaction, Header, UncleBlock, Block, CellbaseWitness}
-use Rattle.codec_defs.specs.Schema as shapes
-use Rattle.fold_defs.specs.First.{first_failing, AllHold}
-use Rattle.fold_defs.proofs.FirstLemmas.{first_failing-holds, first_failing-append-holds}
-use Rattle.time_defs.specs.Specification.{Specification}
-use Rattle.time_defs.specs.Epochs.{epoch_field}
+use Rattle.chain_defs.specs.Shape.{encoded}
+use Rattle.chain_defs.specs.Schema.{Transaction, Header, UncleBlock, Block, CellbaseWitness}
+use Rattle.chain_defs.specs.Schema as shapes
+use Rattle.chain_defs.specs.First.{first_failing, AllHold}
+use Rattle.chain_defs.proofs.FirstLemmas.{first_failing-holds, first_failing-append-holds}
+use Rattle.chain_defs.specs.Specification.{Specification}
+use Rattle.chain_defs.specs.Epochs.{epoch_field}
 use Rattle.chain_defs.specs.Kept.{block_hash, block_at, place_of, IsKept, follows}
 use Rattle.chain_defs.specs.Branch.{branch}
 use Rattle.chain_defs.specs.Tip.{tip_place, best_branch}
@@ -23,11 +23,11 @@ use Rattle.chain_defs.proofs.TipLaws.{tip_place-there, tip_place-below}
 use Rattle.rule_defs.specs.Header.{parent_of, has_version, has_epoch, has_target, is_later}
 use Rattle.rule_defs.specs.Body.{fits_length, has_proposals, commits_to_proposals, commits_to_transactions, has_few_uncles, commits_to_uncles}
 use Rattle.cell_defs.specs.Events.{live_cell}
-use Rattle.family_defs.specs.Uncles.{has_uncles, is_uncle_at}
-use Rattle.family_defs.specs.Cellbase.{has_cellbase, forms_cellbase}
-use Rattle.block_defs.specs.Transactions.{rules_of_transactions}
-use Rattle.block_defs.specs.Rules.{all_rules, first_broken}
-use Rattle.reward_defs.specs.Rules.{pays_reward, has_next_dao, end_rules}
+use Rattle.rule_defs.specs.Uncles.{has_uncles, is_uncle_at}
+use Rattle.rule_defs.specs.Cellbase.{has_cellbase, forms_cellbase}
+use Rattle.verdict_defs.specs.Transactions.{rules_of_transactions}
+use Rattle.verdict_defs.specs.Rules.{all_rules, first_broken}
+use Rattle.rule_defs.specs.RewardRules.{pays_reward, has_next_dao, end_rules}
 use Rattle.verdict_defs.proofs.VerdictLaws.{verdict-joined}
 use Rattle.pool_defs.specs.Start.{header_after, hash_of_parent, committed, sealed}
 use Rattle.pool_defs.specs.Assembly.{Assembly, assembly, assembled}

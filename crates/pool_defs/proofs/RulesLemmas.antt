@@ -3,12 +3,12 @@ use Rattle.std.proofs.Common.{◌≡◌, ℕ, suc, ◌+◌, ◌<◌, Bool, List,
 use Rattle.std.specs.Prelude.{IsTrue}
 use Rattle.std.proofs.lemmas.List.{append-nil, append_assoc}
 use Rattle.std.proofs.lemmas.List.Elements.{All-cons, All-head, All-tail}
-use Rattle.codec_defs.specs.Schema.{OutPoint, Transaction, Block}
-use Rattle.fold_defs.specs.First.{AllHold}
-use Rattle.time_defs.specs.Specification.{Specification}
+use Rattle.chain_defs.specs.Schema.{OutPoint, Transaction, Block}
+use Rattle.chain_defs.specs.First.{AllHold}
+use Rattle.chain_defs.specs.Specification.{Specification}
 use Rattle.cell_defs.specs.Events.{events, events_from, cell_after}
-use Rattle.tx_defs.specs.Site.{Site, site_at}
-use Rattle.block_defs.specs.Transactions.{transaction_rules, left_after, rules_from}
+use Rattle.rule_defs.specs.Site.{Site, site_at}
+use Rattle.verdict_defs.specs.Transactions.{transaction_rules, left_after, rules_from}
 use Rattle.pool_defs.specs.Laws.{left_from}
 
 pub hold-append : (earlier later : List (ℕ × Bool)) → AllHold earlier → AllHold later → AllHold (earlier ++ later)

@@ -2,15 +2,15 @@
 use Rattle.std.proofs.Common.{◌≡◌, ℕ, Bool, true, false, cond, List, [], ◌∷◌, ◌++◌, Option, Some, None, refl, sym, subst}
 use Rattle.std.specs.Prelude.{IsTrue, ◌&&◌, not}
 use Rattle.std.proofs.lemmas.List.{append-nil, append_assoc}
-use Rattle.codec_defs.specs.Shape.{decoded}
-use Rattle.codec_defs.specs.Schema.{Transaction, transaction, Block}
-use Rattle.fold_defs.specs.First.{first_failing}
-use Rattle.fold_defs.specs.Fold.{keep}
-use Rattle.time_defs.specs.Specification.{Specification}
+use Rattle.chain_defs.specs.Shape.{decoded}
+use Rattle.chain_defs.specs.Schema.{Transaction, transaction, Block}
+use Rattle.chain_defs.specs.First.{first_failing}
+use Rattle.chain_defs.specs.Fold.{keep}
+use Rattle.chain_defs.specs.Specification.{Specification}
 use Rattle.chain_defs.specs.Hashes.{proposal_id}
 use Rattle.rule_defs.specs.Body.{fits_length, has_proposals}
-use Rattle.family_defs.specs.Cellbase.{has_cellbase}
-use Rattle.block_defs.specs.Transactions.{is_proposed, transaction_rules}
+use Rattle.rule_defs.specs.Cellbase.{has_cellbase}
+use Rattle.verdict_defs.specs.Transactions.{is_proposed, transaction_rules}
 use Rattle.pool_defs.specs.Assembly.{Assembly, with_transaction, with_proposal, with_line, next_site, proposed, committed_at, propose, judge, take_decoded, take_item}
 use Rattle.pool_defs.specs.declared.line.Line.{Line}
 use Rattle.pool_defs.specs.declared.line.Line.TheVariants.{Commit, Propose, Refused, Later}

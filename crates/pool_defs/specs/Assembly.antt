@@ -1,21 +1,21 @@
 -- The block that is assembled of a list of items, each a transaction, and what becomes of each (docs/RULES.md, "A block that is assembled").
 use Rattle.std.specs.Prelude.{ℕ, ◌&&◌, not, List, [], ◌∷◌, ◌++◌, length, Option, Some, None, is_some, if◌then◌else◌}
-use Rattle.codec_defs.specs.Shape.{decoded}
-use Rattle.codec_defs.specs.Schema.{Transaction, transaction, Block, CellbaseWitness}
-use Rattle.fold_defs.specs.First.{first_failing}
-use Rattle.fold_defs.specs.Fold.{keep}
-use Rattle.time_defs.specs.Specification.{Specification}
+use Rattle.chain_defs.specs.Shape.{decoded}
+use Rattle.chain_defs.specs.Schema.{Transaction, transaction, Block, CellbaseWitness}
+use Rattle.chain_defs.specs.First.{first_failing}
+use Rattle.chain_defs.specs.Fold.{keep}
+use Rattle.chain_defs.specs.Specification.{Specification}
 use Rattle.chain_defs.specs.Kept.{block_hash, place_of}
 use Rattle.chain_defs.specs.Tip.{best_branch}
 use Rattle.chain_defs.specs.Hashes.{proposal_id}
 use Rattle.rule_defs.specs.Body.{fits_length, has_proposals}
-use Rattle.family_defs.specs.Cellbase.{has_cellbase}
-use Rattle.tx_defs.specs.Site.{Site, site_at}
-use Rattle.tx_defs.specs.Capacity.{fee}
-use Rattle.script_defs.specs.Scene.{scene_of}
-use Rattle.script_defs.specs.Rules.{cycles_of}
-use Rattle.block_defs.specs.Transactions.{is_proposed, transaction_rules, left_after}
-use Rattle.block_defs.specs.Rules.{first_broken}
+use Rattle.rule_defs.specs.Cellbase.{has_cellbase}
+use Rattle.rule_defs.specs.Site.{Site, site_at}
+use Rattle.rule_defs.specs.Capacity.{fee}
+use Rattle.verdict_defs.specs.Scene.{scene_of}
+use Rattle.verdict_defs.specs.ScriptRules.{cycles_of}
+use Rattle.verdict_defs.specs.Transactions.{is_proposed, transaction_rules, left_after}
+use Rattle.verdict_defs.specs.Rules.{first_broken}
 use Rattle.verdict_defs.specs.Chain.{Chain}
 use Rattle.pool_defs.specs.Start.{started, sealed}
 use Rattle.pool_defs.specs.declared.line.Line.{Line}

@@ -1,18 +1,18 @@
 -- What may be relied on of a block that is assembled, in words (docs/RULES.md, "A block that is assembled").
 use Rattle.std.specs.Prelude.{◌≡◌, ℕ, suc, ◌<◌, ◌==◌, List, [], ◌∷◌, ◌++◌, take, drop, length, Some, None, IfSome, IsTrue, slice_get}
 use Rattle.std.specs.List.{list_any}
-use Rattle.codec_defs.specs.Shape.{encoded, decoded}
-use Rattle.codec_defs.specs.Schema.{Transaction, transaction, Block, CellbaseWitness}
-use Rattle.codec_defs.specs.Schema as shapes
-use Rattle.fold_defs.specs.First.{AllHold}
-use Rattle.time_defs.specs.Specification.{Specification}
+use Rattle.chain_defs.specs.Shape.{encoded, decoded}
+use Rattle.chain_defs.specs.Schema.{Transaction, transaction, Block, CellbaseWitness}
+use Rattle.chain_defs.specs.Schema as shapes
+use Rattle.chain_defs.specs.First.{AllHold}
+use Rattle.chain_defs.specs.Specification.{Specification}
 use Rattle.chain_defs.specs.Kept.{block_hash, block_at, IsKept, kept_limit}
 use Rattle.chain_defs.specs.Tip.{best_branch}
-use Rattle.tx_defs.specs.Site.{site_at}
-use Rattle.tx_defs.specs.Capacity.{fee}
-use Rattle.script_defs.specs.Scene.{scene_of}
-use Rattle.script_defs.specs.Rules.{cycles_of}
-use Rattle.block_defs.specs.Transactions.{transaction_rules, left_after, rules_of_transactions}
+use Rattle.rule_defs.specs.Site.{site_at}
+use Rattle.rule_defs.specs.Capacity.{fee}
+use Rattle.verdict_defs.specs.Scene.{scene_of}
+use Rattle.verdict_defs.specs.ScriptRules.{cycles_of}
+use Rattle.verdict_defs.specs.Transactions.{transaction_rules, left_after, rules_of_transactions}
 use Rattle.verdict_defs.specs.Chain.{Chain, verdict_over}
 use Rattle.verdict_defs.specs.declared.verdict.Verdict.TheVariants.{Joined}
 use Rattle.pool_defs.specs.Assembly.{assembled}

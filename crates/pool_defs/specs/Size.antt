@@ -1,7 +1,7 @@
 -- How much is assembled, and how many bytes a block without uncles has (docs/FORMATS.md, Molecule).
 use Rattle.std.specs.Prelude.{ℕ, ◌+◌, ◌*◌, ◌^◌, List, length, sum_by}
-use Rattle.codec_defs.specs.Shape.{encoded}
-use Rattle.codec_defs.specs.Schema.{Transaction, transaction}
+use Rattle.chain_defs.specs.Shape.{encoded}
+use Rattle.chain_defs.specs.Schema.{Transaction, transaction}
 
 -- The bytes of a block with these transactions and proposal ids: each transaction has an offset beside its own bytes, and an id has 10.
 unfoldable pub size_with : List Transaction → List (List ℕ) → ℕ

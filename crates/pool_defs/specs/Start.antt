@@ -1,17 +1,17 @@
 -- The block that is assembled before anything is put into it, and its header once all is (docs/RULES.md, "A block that is assembled").
 use Rattle.std.specs.Prelude.{ℕ, ◌+◌, ◌^◌, nat_lt, List, [], ◌∷◌, map, length, replicate, Option, Some, None, if◌then◌else◌}
-use Rattle.codec_defs.specs.Shape.{encoded}
-use Rattle.codec_defs.specs.Schema.{CellInput, CellOutput, Transaction, Header, Block, CellbaseWitness, cellbase_witness}
-use Rattle.time_defs.specs.Epochs.{epoch_field}
-use Rattle.time_defs.specs.Dao.{DaoField, field_bytes}
-use Rattle.time_defs.specs.Specification.{Specification}
+use Rattle.chain_defs.specs.Shape.{encoded}
+use Rattle.chain_defs.specs.Schema.{CellInput, CellOutput, Transaction, Header, Block, CellbaseWitness, cellbase_witness}
+use Rattle.chain_defs.specs.Epochs.{epoch_field}
+use Rattle.chain_defs.specs.Dao.{DaoField, field_bytes}
+use Rattle.chain_defs.specs.Specification.{Specification}
 use Rattle.chain_defs.specs.Kept.{block_hash}
 use Rattle.chain_defs.specs.Median.{median_time}
 use Rattle.chain_defs.specs.Hashes.{transactions_root, proposals_hash, uncles_hash}
 use Rattle.rule_defs.specs.Header.{parent_of}
-use Rattle.family_defs.specs.Cellbase.{null_index}
-use Rattle.reward_defs.specs.Payment.{Owed, NoOutput, Pays, Unpayable, owed_after}
-use Rattle.reward_defs.specs.Field.{next_dao}
+use Rattle.rule_defs.specs.Cellbase.{null_index}
+use Rattle.rule_defs.specs.Payment.{Owed, NoOutput, Pays, Unpayable, owed_after}
+use Rattle.rule_defs.specs.Field.{next_dao}
 
 -- ---- The cellbase
 

@@ -1,10 +1,10 @@
 -- A block of its parts.
 use Rattle.std.proofs.Common.{◌≡◌, ℕ, ◌+◌, ◌^◌, ◌<◌, List, [], ◌∷◌, length, refl, ap, ◌∙◌}
 use Rattle.std.proofs.lemmas.Bool.{and_from}
-use Rattle.codec_defs.specs.Molecule as molecule
-use Rattle.codec_defs.specs.Molecule.{IsTable}
-use Rattle.codec_defs.specs.Shape.{IsA, encoded, dynvec, fixvec}
-use Rattle.codec_defs.specs.Schema as schema
+use Rattle.chain_defs.specs.Molecule as molecule
+use Rattle.chain_defs.specs.Molecule.{IsTable}
+use Rattle.chain_defs.specs.Shape.{IsA, encoded, dynvec, fixvec}
+use Rattle.chain_defs.specs.Schema as schema
 use Rattle.pool_rows.specs.Block.{block_with}
 use Rattle.pool_rows.proofs.Fits.{table-fits}
 

@@ -2,12 +2,12 @@
 use Rattle.std.proofs.Common.{◌≡◌, ℕ, ◌^◌, ◌<◌, List, [], ◌∷◌, length, map, None, Result, Ok, Err, refl, ap, ◌∙◌, subst}
 use Rattle.std.specs.Prelude.{IsTrue, IfOk}
 use Rattle.std.proofs.lemmas.Bool.{and_from, lt-ltb, eq-eqb}
-use Rattle.codec_defs.specs.Molecule as molecule
-use Rattle.codec_defs.specs.Shape.{Encoding, Shape, IsA, encoded, bytes, byte_array, u32, u64, all_fit, table, fixvec, dynvec, option}
-use Rattle.codec_defs.specs.Schema as schema
-use Rattle.codec_defs.specs.Checked.{AreBytes}
-use Rattle.codec_defs.proofs.ShapeLaws.{are_bytes-from}
-use Rattle.family_defs.specs.Cellbase.{null_index}
+use Rattle.chain_defs.specs.Molecule as molecule
+use Rattle.chain_defs.specs.Shape.{Encoding, Shape, IsA, encoded, bytes, byte_array, u32, u64, all_fit, table, fixvec, dynvec, option}
+use Rattle.chain_defs.specs.Schema as schema
+use Rattle.chain_defs.specs.Checked.{AreBytes}
+use Rattle.chain_defs.proofs.ShapeLaws.{are_bytes-from}
+use Rattle.rule_defs.specs.Cellbase.{null_index}
 use Rattle.pool_defs.specs.Start.{cellbase_input, cellbase_with}
 use Rattle.pool_rows.specs.declared.header.Commitments.{Commitments}
 use Rattle.pool_rows.specs.Header.{header_with}

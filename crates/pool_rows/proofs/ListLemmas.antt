@@ -5,12 +5,11 @@ use Rattle.std.specs.Int.{w32, to_le_bytes}
 use Rattle.std.specs.List.{concat}
 use Rattle.std.proofs.lemmas.Bool.{and_from, lt-ltb}
 use Rattle.std.proofs.lemmas.List.{drop_all}
-use Rattle.std.proofs.lemmas.List.Sums.{sum_by-cons}
-use Rattle.codec_defs.specs.Molecule as molecule
-use Rattle.codec_defs.specs.Molecule.{IsDynvec}
-use Rattle.codec_defs.proofs.MoleculeLaws.{length-dynvec}
-use Rattle.codec_defs.specs.Shape.{IsA, encoded, parts, all_fit, dynvec, fixvec}
-use Rattle.codec_defs.specs.Schema.{Transaction, transaction, proposal_short_id}
+use Rattle.chain_defs.specs.Molecule as molecule
+use Rattle.chain_defs.specs.Molecule.{IsDynvec}
+use Rattle.chain_defs.proofs.MoleculeLaws.{length-dynvec}
+use Rattle.chain_defs.specs.Shape.{IsA, encoded, parts, all_fit, fixvec}
+use Rattle.chain_defs.specs.Schema.{Transaction, transaction, proposal_short_id}
 
 -- ---- The transactions
 
@@ -22,43 +21,6 @@ pub record AreListed (ts : List Transaction) (place : ℕ) (items : List (List �
   pub items_are : items ++ parts (map transaction.encoding (drop place ts)) ≡ parts (map transaction.encoding ts)
   pub fit : IsTrue (all_fit (map transaction.encoding (drop place ts))) → IsTrue (all_fit (map transaction.encoding ts))
   pub size : molecule.full_size items + sum_by with_offset (drop place ts) ≡ 4 + sum_by with_offset ts
-
-pub none-listed : (ts : List Transaction) (items : List (List ℕ)) → items ≡ [] → molecule.full_size items ≡ 4 → AreListed ts 0 items
-none-listed ts items none size = record {
-  items_are = ap (λ (list : List (List ℕ)). list ++ parts (map transaction.encoding ts)) none;
-  fit = λ fit. fit;
-  size = omega (arith, size);
-}
-
-pub one-listed : (ts : List Transaction) (place : ℕ) (items more : List (List ℕ)) (bytes : List ℕ) (t : Transaction) → AreListed ts place items
-    → drop place ts ≡ t ∷ drop (place + 1) ts → IsA transaction bytes t → more ≡ items ++ bytes ∷ []
-    → molecule.full_size more ≡ molecule.full_size items + 4 + length bytes → AreListed ts (place + 1) more
-one-listed ts place items more bytes t so_far left is grown size = record {
-  items_are = ap (λ (list : List (List ℕ)). list ++ parts (map transaction.encoding (drop (place + 1) ts))) grown
-      ∙ append_assoc items (bytes ∷ []) (parts (map transaction.encoding (drop (place + 1) ts)))
-      ∙ ap (λ (b : List ℕ). items ++ b ∷ parts (map transaction.encoding (drop (place + 1) ts))) is.encoding
-      ∙ ap (λ (list : List Transaction). items ++ parts (map transaction.encoding list)) (sym left)
-      ∙ so_far.items_are;
-  fit = λ later. so_far.fit (subst (λ (list : List Transaction). IsTrue (all_fit (map transaction.encoding list))) (sym left) (and_from _ _ is.fits later));
-  size =
-      let before = so_far.size in
-      let first = ap (sum_by with_offset) left ∙ sum_by-cons with_offset t (drop (place + 1) ts) in
-      let long = ap length is.encoding in
-      omega (arith, before, first, long, size);
-}
-
-pub all-listed : (ts : List Transaction) (place : ℕ) (items : List (List ℕ)) (bytes : List ℕ) → AreListed ts place items → length ts ≤ place
-    → IsDynvec bytes items → IsA (dynvec transaction) bytes ts
-all-listed ts place items bytes so_far past is =
-    let none = drop_all place ts past in
-    let items_are : items ≡ parts (map transaction.encoding ts) =
-    sym (append-nil items) ∙ ap (λ (list : List Transaction). items ++ parts (map transaction.encoding list)) (sym none) ∙ so_far.items_are in
-    let encoding : bytes ≡ encoded (dynvec transaction) ts = is.encoding ∙ ap molecule.dynvec items_are in
-    let short = subst (λ (b : List ℕ). length b < 2 ^ 32) encoding is.size in
-    record {
-      fits = and_from _ _ (lt-ltb _ _ short) (so_far.fit (subst (λ (list : List Transaction). IsTrue (all_fit (map transaction.encoding list))) (sym none) refl));
-      encoding = encoding;
-    }
 
 size-listed : (ts : List Transaction) (place : ℕ) (items : List (List ℕ)) → AreListed ts place items → length ts ≤ place
     → molecule.full_size items ≡ 4 + sum_by with_offset ts

@@ -1,9 +1,9 @@
 -- The parts that the calls write, as parts of the cellbase.
 use Rattle.std.proofs.Common.{◌≡◌, ℕ, List, [], ◌∷◌, replicate, map, refl, ap, ◌∙◌}
-use Rattle.codec_defs.specs.Molecule as molecule
-use Rattle.codec_defs.specs.Shape.{encoded, bytes, dynvec}
-use Rattle.codec_defs.specs.Schema as schema
-use Rattle.family_defs.specs.Cellbase.{null_index}
+use Rattle.chain_defs.specs.Molecule as molecule
+use Rattle.chain_defs.specs.Shape.{encoded, bytes, dynvec}
+use Rattle.chain_defs.specs.Schema as schema
+use Rattle.rule_defs.specs.Cellbase.{null_index}
 use Rattle.mol_rows.specs.Rows.{HasLists, HasParts}
 use Rattle.pool_defs.specs.Start.{cellbase_input, cellbase_with}
 
@@ -15,10 +15,6 @@ no_items = refl
 pub no_parts : 4 ∷ 0 ∷ 0 ∷ 0 ∷ [] ≡ molecule.dynvec []
 unfolding molecule.dynvec molecule.full_size molecule.header_size molecule.offsets
 no_parts = refl
-
--- the data of one output, which has none
-pub one_content : {outer list : List ℕ} → outer ≡ list → list ≡ molecule.dynvec ((0 ∷ 0 ∷ 0 ∷ 0 ∷ []) ∷ []) → outer ≡ encoded (dynvec bytes) ([] ∷ [])
-one_content outer_is list_is = outer_is ∙ list_is ∙ ap (λ (l : List ℕ). molecule.dynvec (l ∷ [])) no_items
 
 -- a vector of one row, by where the row was made
 pub one_of : (f : List (List ℕ) → List ℕ) {outer list row inner encoding : List ℕ} → outer ≡ list → list ≡ f (row ∷ []) → row ≡ inner → inner ≡ encoding

@@ -1,6 +1,6 @@
 -- A header by its fields.
 use Rattle.std.specs.Prelude.{ℕ, List}
-use Rattle.codec_defs.specs.Schema.{Header}
+use Rattle.chain_defs.specs.Schema.{Header}
 use Rattle.pool_rows.specs.declared.header.Commitments.{Commitments}
 
 -- the header of version 0 and nonce 0 with these fields

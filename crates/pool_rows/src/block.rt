@@ -1,7 +1,7 @@
 // The block that is assembled, of its parts.
 ghost use Rattle.std.specs.Prelude.{◌≡◌, ◌+◌, ◌*◌, ◌^◌, ◌<◌, ◌++◌, length, sum_by, IfOk, OnOk};
-ghost use Rattle.codec_defs.specs.Shape.{IsA, encoded, dynvec, fixvec};
-ghost use Rattle.codec_defs.specs.Schema as schema;
+ghost use Rattle.chain_defs.specs.Shape.{IsA, encoded, dynvec, fixvec};
+ghost use Rattle.chain_defs.specs.Schema as schema;
 ghost use Rattle.pool_defs.specs.Size.{size_with};
 ghost use Rattle.pool_rows.specs.Block.{block_with};
 

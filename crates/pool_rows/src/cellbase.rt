@@ -1,7 +1,7 @@
 // The cellbase of the block that is assembled.
 ghost use Rattle.std.specs.Prelude.{◌≡◌, ◌<◌, ◌≤◌, ◌^◌, List, [], ◌∷◌, map, length, None, IfOk};
-ghost use Rattle.codec_defs.specs.Shape.{IsA, encoded, bytes, dynvec};
-ghost use Rattle.codec_defs.specs.Schema as schema;
+ghost use Rattle.chain_defs.specs.Shape.{IsA, encoded, bytes, dynvec};
+ghost use Rattle.chain_defs.specs.Schema as schema;
 ghost use Rattle.pool_defs.specs.Start.{cellbase_with};
 
 use mol_rows::{

@@ -1,7 +1,7 @@
 // The header of the block that is assembled.
 ghost use Rattle.std.specs.Prelude.{◌≡◌, ◌+◌, ◌++◌, length, IfOk, OnOk};
-ghost use Rattle.codec_defs.specs.Shape.{IsA};
-ghost use Rattle.codec_defs.specs.Schema as schema;
+ghost use Rattle.chain_defs.specs.Shape.{IsA};
+ghost use Rattle.chain_defs.specs.Schema as schema;
 ghost use Rattle.pool_defs.specs.Start.{next_timestamp};
 ghost use Rattle.pool_rows.specs.Header.{header_with};
 

@@ -7,17 +7,17 @@ use Rattle.outside.specs.Causes.{CountsFault, Rose}
 use Rattle.outside.specs.declared.disk.Damage.{Damage}
 use Rattle.outside.specs.declared.disk.ReadStop.{ReadStop}
 use Rattle.outside.specs.declared.disk.ReadStop.TheVariants as read_stop
-use Rattle.vm_defs.specs.declared.outcome.Outcome.TheVariants.{Spent}
-use Rattle.vm_defs.specs.Alone.{answer_ecall, syscall_number}
-use Rattle.vm_defs.specs.Elf.{Program, Segment, load_elf, segments}
-use Rattle.vm_defs.specs.Memory.{Memory}
-use Rattle.vm_defs.specs.Step.{Machine, charged, step_of}
-use Rattle.vm_defs.specs.Program.{Answer, Ended, execution, loading_cycles, new_machine, run, run_loaded}
-use Rattle.sys_defs.specs.Table as table
-use Rattle.sys_defs.specs.Table.{action_of}
-use Rattle.sys_defs.specs.World.{Items, nothing}
-use Rattle.sys_defs.specs.Answer.{syscall}
-use Rattle.sys_laws.proofs.AloneLaws.{runs-alone}
+use Rattle.machine_defs.specs.declared.outcome.Outcome.TheVariants.{Spent}
+use Rattle.machine_defs.specs.Alone.{answer_ecall, syscall_number}
+use Rattle.machine_defs.specs.Elf.{Program, Segment, load_elf, segments}
+use Rattle.machine_defs.specs.Memory.{Memory}
+use Rattle.machine_defs.specs.Step.{Machine, charged, step_of}
+use Rattle.machine_defs.specs.Program.{Answer, Ended, execution, loading_cycles, new_machine, run, run_loaded}
+use Rattle.machine_defs.specs.SyscallTable as table
+use Rattle.machine_defs.specs.SyscallTable.{action_of}
+use Rattle.machine_defs.specs.World.{Items, nothing}
+use Rattle.machine_defs.specs.Answer.{syscall}
+use Rattle.machine_defs.proofs.AloneLaws.{runs-alone}
 use Rattle.vm_mem.specs.Pages.{IsAllocated}
 use Rattle.vm_step.specs.Running.{RunningMachine}
 use Rattle.elf_load.specs.Placing.{HoldsBytes}

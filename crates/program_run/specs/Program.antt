@@ -1,11 +1,11 @@
 -- What a file begins as, what came of it, and where its run wants memory (docs/MACHINE.md, "A run").
 use Rattle.std.specs.Prelude.{◌≡◌, ℕ, ◌<◌, ◌≤◌, List, Result, Ok, Err, true}
-use Rattle.vm_defs.specs.Alone.{answer_ecall}
-use Rattle.vm_defs.specs.Elf.{Program, Segment}
-use Rattle.vm_defs.specs.Program as programs
-use Rattle.vm_defs.specs.Program.{loading_cycles, new_machine}
-use Rattle.vm_defs.specs.Step.{charged}
-use Rattle.sys_defs.specs.World.{Items}
+use Rattle.machine_defs.specs.Alone.{answer_ecall}
+use Rattle.machine_defs.specs.Elf.{Program, Segment}
+use Rattle.machine_defs.specs.Program as programs
+use Rattle.machine_defs.specs.Program.{loading_cycles, new_machine}
+use Rattle.machine_defs.specs.Step.{charged}
+use Rattle.machine_defs.specs.World.{Items}
 use Rattle.vm_mem.specs.Pages.{IsAllocated}
 use Rattle.vm_step.specs.Running.{RunningMachine}
 use Rattle.vm_sys.specs.Running.{IsWithin, RunWants, RunWantsPage}

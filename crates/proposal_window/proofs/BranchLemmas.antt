@@ -4,7 +4,7 @@ use Rattle.std.specs.Prelude.{slice_get}
 use Rattle.std.specs.Option.{option_and_then}
 use Rattle.std.specs.List.{All, cons_option, filter_map}
 use Rattle.std.proofs.lemmas.List.Elements.{All-nil, All-cons, All-head, All-tail, All-append}
-use Rattle.codec_defs.specs.Schema.{Block}
+use Rattle.chain_defs.specs.Schema.{Block}
 use Rattle.chain_defs.specs.Kept.{block_at, parent_place}
 use Rattle.chain_defs.specs.Branch.{places_within, branch_places, branch}
 use Rattle.chain_defs.proofs.KeptLaws.{slice_get-below}
@@ -12,7 +12,7 @@ use Rattle.chain_defs.proofs.BranchLaws.{places_on, parent_place-below}
 use Rattle.chain_tree.specs.declared.entry.Entry.{Entry}
 use Rattle.chain_tree.specs.Blocks.{IndexesBlocks}
 use Rattle.chain_tree.proofs.BlockLemmas.{len-same}
-use Rattle.window_defs.specs.Window.{proposes, proposes_at}
+use Rattle.rule_defs.specs.Window.{proposes, proposes_at}
 
 within-all : (most : ℕ) (kept : List Block) (place : ℕ) → place < length kept → All (λ p. p < length kept) (places_within most kept place)
 within-all zero kept place below = All-nil (λ p. p < length kept)

@@ -8,10 +8,10 @@ use Rattle.std.proofs.lemmas.Bool.{cases_lt}
 use Rattle.std.proofs.lemmas.List.{take_all}
 use Rattle.std.proofs.lemmas.List.Folds.{list_any_more}
 use Rattle.std.proofs.lemmas.Option.{slice_get_within, get_or_from_slice_get, same_Some}
-use Rattle.codec_defs.specs.Schema.{Block}
-use Rattle.time_defs.specs.Specification.{Specification}
-use Rattle.window_defs.specs.Window.{proposed_ids, proposes, proposes_at, earliest}
-use Rattle.window_defs.proofs.WindowLaws.{earliest-range}
+use Rattle.chain_defs.specs.Schema.{Block}
+use Rattle.chain_defs.specs.Specification.{Specification}
+use Rattle.rule_defs.specs.Window.{proposed_ids, proposes, proposes_at, earliest}
+use Rattle.rule_defs.proofs.WindowLaws.{earliest-range}
 
 abbrev pub among : List (List ℕ) → List ℕ → Bool
 among ids id = list_any (λ other. bytes_eq other id) ids

@@ -6,8 +6,8 @@ use Rattle.std.specs.Str.{bytes_eq}
 use Rattle.std.proofs.lemmas.Bool.{or_from, cases_lt}
 use Rattle.std.proofs.lemmas.List.Folds.{list_any-append, list_any_more, list_any_at}
 use Rattle.std.proofs.lemmas.Option.{slice_get_within, get_or_from_slice_get}
-use Rattle.codec_defs.specs.Schema.{Block}
-use Rattle.window_defs.specs.Window.{proposes}
+use Rattle.chain_defs.specs.Schema.{Block}
+use Rattle.rule_defs.specs.Window.{proposes}
 
 -- one more that fails the test
 pub any-next : {X : Type 0} (test : X → Bool) (xs : List X) (i : ℕ) (x : X) → list_any test (take i xs) ≡ false → slice_get xs i ≡ Some x → test x ≡ false

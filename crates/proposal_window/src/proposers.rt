@@ -7,7 +7,7 @@ ghost use Rattle.chain_tree.specs.Entries.{entry_at};
 ghost use Rattle.chain_tree.specs.Blocks.{IndexesBlocks};
 ghost use Rattle.chain_tree.specs.Told.{Stored, blocks_of};
 ghost use Rattle.chain_tree.specs.Reading.{HasRead, stop_of};
-ghost use Rattle.window_defs.specs.Window as window;
+ghost use Rattle.rule_defs.specs.Window as window;
 
 use crate::proposing::is_proposed_at;
 use chain_tree::{Blocks, Tree};

@@ -7,7 +7,7 @@ ghost use Rattle.outside.specs.declared.disk.ReadStop.TheVariants.{Damaged};
 ghost use Rattle.chain_defs.specs.Kept.{block_at};
 ghost use Rattle.chain_tree.specs.Told.{Stored, blocks_of};
 ghost use Rattle.chain_tree.specs.Reading.{HasRead, stop_of};
-ghost use Rattle.window_defs.specs.Window as window;
+ghost use Rattle.rule_defs.specs.Window as window;
 
 use chain_tree::{Blocks, Tree};
 use mol_schema::{BlockView, UncleView};

@@ -107,13 +107,6 @@ pub end_at-extra : (limit most offset : ℕ) (bytes : List ℕ) → 4 ≤ length
 unfolding end_at
 end_at-extra limit most offset bytes long least small past = grind (arith, nat_tests)
 
--- the start of an item
-pub end_at-front : (limit most offset : ℕ) (bytes : List ℕ) → 4 ≤ length bytes
-    → 4 ≤ size_word bytes → size_word bytes ≤ limit → offset + size_word bytes ≤ most
-    → length bytes < size_word bytes → end_at (Some limit) (Some most) offset bytes ≡ Some Cut
-unfolding end_at
-end_at-front limit most offset bytes long least small within short = grind (arith, nat_tests)
-
 -- what stands where the reading does not end
 record IsWhole (limit : ℕ) (input : Option ℕ) (offset : ℕ) (bytes : List ℕ) : Type 0 where
   pub least : 4 ≤ size_word bytes

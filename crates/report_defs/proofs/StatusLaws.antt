@@ -2,16 +2,16 @@
 use Rattle.std.proofs.Common.{◌≡◌, ◌⊎◌, inl, inr, ℕ, Bool, true, false, List, [], ◌∷◌, refl, sym, ap, subst}
 use Rattle.std.specs.Prelude.{Option, Some, None, is_some, ◌||◌, if◌then◌else◌}
 use Rattle.std.specs.List.{list_any}
-use Rattle.codec_defs.specs.Shape.{decoded}
-use Rattle.codec_defs.specs.Schema.{cellbase_witness, CellbaseWitness}
+use Rattle.chain_defs.specs.Shape.{decoded}
+use Rattle.chain_defs.specs.Schema.{cellbase_witness, CellbaseWitness}
 use Rattle.pool_defs.specs.Assembly.{assembled}
 use Rattle.verdict_defs.specs.Verdict.{refuses}
 use Rattle.verdict_defs.specs.Chain.{Chain, verdicts_over}
 use Rattle.verdict_defs.specs.Trial.{trial}
 use Rattle.verdict_defs.specs.declared.trial.Trial.{Trial}
 use Rattle.verdict_defs.specs.declared.trial.Trial.TheVariants.{Passes, Refused}
-use Rattle.time_defs.specs.Specification.{broken_specification_rule}
-use Rattle.genesis_defs.specs.Genesis.{broken_genesis_rule}
+use Rattle.chain_defs.specs.Specification.{broken_specification_rule}
+use Rattle.rule_defs.specs.Genesis.{broken_genesis_rule}
 use Rattle.store_defs.specs.Store.{Store, NoLog, NotALog, Keeps}
 use Rattle.report_defs.specs.declared.command.Command.{Command}
 use Rattle.report_defs.specs.declared.command.Command.TheVariants.{Init, Import, Query, Question, Standalone, Simulation}

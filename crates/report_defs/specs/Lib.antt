@@ -10,3 +10,4 @@ pub mod Promise
 pub mod Survival
 pub mod Lists
 pub mod Laws
+pub mod SoakLaws

@@ -3,18 +3,18 @@ use Rattle.std.specs.Prelude.{ℕ, ◌-◌, ◌^◌, Bool, ◌&&◌, ◌==◌, n
 use Rattle.std.specs.Option.{option_map}
 use Rattle.std.specs.List.{list_all}
 use Rattle.std.specs.Int.{w64, from_le_bytes}
-use Rattle.codec_defs.specs.Shape.{encoded}
-use Rattle.codec_defs.specs.Schema.{Block, header}
-use Rattle.time_defs.specs.Dao.{as_u64}
-use Rattle.time_defs.specs.Epochs.{epoch_number, epoch_index}
-use Rattle.time_defs.specs.Specification.{Specification}
+use Rattle.chain_defs.specs.Shape.{encoded}
+use Rattle.chain_defs.specs.Schema.{Block, header}
+use Rattle.chain_defs.specs.Dao.{as_u64}
+use Rattle.chain_defs.specs.Epochs.{epoch_number, epoch_index}
+use Rattle.chain_defs.specs.Specification.{Specification}
 use Rattle.chain_defs.specs.Kept.{block_at, block_hash}
 use Rattle.chain_defs.specs.Tip.{tip, best_branch}
 use Rattle.cell_defs.specs.Cell.{Cell, script_hash, data_hash, occupied_by}
 use Rattle.cell_defs.specs.Events.{live_cell}
-use Rattle.tx_defs.specs.Site.{site_after}
-use Rattle.tx_defs.specs.Withdrawals.{is_dao_cell, is_withdrawing}
-use Rattle.tx_defs.specs.Capacity.{withdrawn}
+use Rattle.rule_defs.specs.Site.{site_after}
+use Rattle.rule_defs.specs.Withdrawals.{is_dao_cell, is_withdrawing}
+use Rattle.rule_defs.specs.Capacity.{withdrawn}
 use Rattle.verdict_defs.specs.Chain.{Chain}
 use Rattle.report_defs.specs.declared.dao.DaoState.{DaoState}
 use Rattle.report_defs.specs.declared.dao.DaoState.TheVariants.{NotDao, Deposit, Withdrawing}

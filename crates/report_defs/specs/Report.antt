@@ -1,10 +1,10 @@
 -- The report of a run that meets no fault and has memory enough: what it prints and how it ends (docs/COMMANDS.md).
 use Rattle.std.specs.Prelude.{◌≡◌, ◌⊎◌, ℕ, ◌^◌, ◌<◌, ◌≤◌, List, [], ◌∷◌, ◌++◌, map, length, Option, Some, None, if◌then◌else◌}
 use Rattle.std.specs.List.{concat, list_any}
-use Rattle.codec_defs.specs.Shape.{decoded, IsA}
-use Rattle.codec_defs.specs.Schema.{block, Block, cellbase_witness, CellbaseWitness}
+use Rattle.chain_defs.specs.Shape.{decoded, IsA}
+use Rattle.chain_defs.specs.Schema.{block, Block, cellbase_witness, CellbaseWitness}
 use Rattle.chain_defs.specs.Tip.{tip}
-use Rattle.time_defs.specs.Specification.{broken_specification_rule}
+use Rattle.chain_defs.specs.Specification.{broken_specification_rule}
 use Rattle.verdict_defs.specs.declared.verdict.Verdict.{Verdict}
 use Rattle.verdict_defs.specs.Verdict.{refuses}
 use Rattle.verdict_defs.specs.Chain.{Chain, verdicts_over}
@@ -12,13 +12,13 @@ use Rattle.verdict_defs.specs.Trial.{trial}
 use Rattle.verdict_defs.specs.declared.trial.Trial.{Trial}
 use Rattle.verdict_defs.specs.declared.trial.Trial.TheVariants.{Passes, Refused}
 use Rattle.pool_defs.specs.Assembly.{Assembled, assembled}
-use Rattle.genesis_defs.specs.Genesis.{broken_genesis_rule}
+use Rattle.rule_defs.specs.Genesis.{broken_genesis_rule}
 use Rattle.store_defs.specs.Store.{Store, NoLog, NotALog, Keeps}
-use Rattle.vm_defs.specs.Alone.{answer_ecall}
-use Rattle.vm_defs.specs.Program.{execution}
-use Rattle.text_defs.specs.Assembly.{lines_of, Assembles, IsFirstBad}
-use Rattle.text_defs.specs.File.{elf_file}
-use Rattle.text_defs.specs.Listing.{dis}
+use Rattle.machine_defs.specs.Alone.{answer_ecall}
+use Rattle.machine_defs.specs.Program.{execution}
+use Rattle.machine_defs.specs.Assembly.{lines_of, Assembles, IsFirstBad}
+use Rattle.machine_defs.specs.File.{elf_file}
+use Rattle.machine_defs.specs.Listing.{dis}
 use Rattle.json_defs.specs.Blocks as blocks
 use Rattle.json_defs.specs.Laws.{IsReadAs}
 use Rattle.report_defs.specs.declared.command.Command.{Command}

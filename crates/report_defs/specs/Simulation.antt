@@ -1,8 +1,8 @@
 -- What is counted where the blocks of a generated chain are imported (docs/COMMANDS.md, "make" and "soak").
 use Rattle.std.specs.Prelude.{◌≡◌, ℕ, ◌<◌, ◌≤◌, List, [], ◌∷◌, map, length, Option, Some, None}
 use Rattle.std.specs.List.{filter}
-use Rattle.codec_defs.specs.Shape.{encoded}
-use Rattle.codec_defs.specs.Schema.{OutPoint, Block, block}
+use Rattle.chain_defs.specs.Shape.{encoded}
+use Rattle.chain_defs.specs.Schema.{OutPoint, Block, block}
 use Rattle.chain_defs.specs.Kept.{block_hash}
 use Rattle.chain_defs.specs.Tip.{tip, best_branch}
 use Rattle.cell_defs.specs.Cell.{Cell}

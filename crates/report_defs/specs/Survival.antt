@@ -4,7 +4,7 @@
 use Rattle.std.specs.Prelude.{◌≡◌, ◌⊎◌, false, ℕ, ◌≤◌, List, [], ◌∷◌, ◌++◌, length, take, drop, Option, Some, None, IsSome}
 use Rattle.std.specs.List.{concat}
 use Rattle.outside.specs.Image.{Image}
-use Rattle.log_defs.specs.Log.{Record, magic, records_of, body_of_parts}
+use Rattle.disk_defs.specs.Log.{Record, magic, records_of, body_of_parts}
 use Rattle.verdict_defs.specs.Verdict.{joins}
 use Rattle.verdict_defs.specs.Chain.{Chain, chain_of_genesis, chain_after, chain_over, verdict_over}
 use Rattle.store_defs.specs.Store.{Store, Keeps, store_of, StandsFor, IsSound, new_image}

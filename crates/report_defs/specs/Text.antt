@@ -2,15 +2,15 @@
 use Rattle.std.specs.Prelude.{ℕ, List, [], ◌∷◌, ◌++◌, codes, Option, Some, None, Ok, Err}
 use Rattle.std.specs.Fmt.{decimal, signed_decimal}
 use Rattle.hex.specs.Hex.{encode_lower}
-use Rattle.codec_defs.specs.Schema.{Block}
+use Rattle.chain_defs.specs.Schema.{Block}
 use Rattle.chain_defs.specs.Kept.{block_hash}
 use Rattle.verdict_defs.specs.declared.verdict.Verdict.{Verdict}
 use Rattle.verdict_defs.specs.declared.verdict.Verdict.TheVariants.{Joined, Known, Refused, Full}
 use Rattle.verdict_defs.specs.declared.trial.Trial.{Trial}
 use Rattle.verdict_defs.specs.declared.trial.Trial.TheVariants as trials
-use Rattle.vm_defs.specs.declared.outcome.Outcome.{Outcome}
-use Rattle.vm_defs.specs.declared.outcome.Outcome.TheVariants.{Exit, Fault, Spent}
-use Rattle.vm_defs.specs.Program.{Execution}
+use Rattle.machine_defs.specs.declared.outcome.Outcome.{Outcome}
+use Rattle.machine_defs.specs.declared.outcome.Outcome.TheVariants.{Exit, Fault, Spent}
+use Rattle.machine_defs.specs.Program.{Execution}
 use Rattle.report_defs.specs.declared.counts.Counts.{Counts}
 
 abbrev pub line_feed : List ℕ

@@ -5,19 +5,19 @@ use Rattle.std.specs.List.{concat}
 use Rattle.std.proofs.lemmas.Bool.Decides.{eqb_tells}
 use Rattle.std.proofs.lemmas.Option.{slice_get_within}
 use Rattle.outside.specs.Image.{Image}
-use Rattle.codec_defs.specs.Shape.{encoded, decoded}
-use Rattle.codec_defs.proofs.ShapeLaws.{IsA-decoded}
-use Rattle.codec_defs.specs.Schema as schema
-use Rattle.codec_defs.specs.Schema.{Block, CellbaseWitness, cellbase_witness}
-use Rattle.fold_defs.specs.First.{first_failing}
+use Rattle.chain_defs.specs.Shape.{encoded, decoded}
+use Rattle.chain_defs.proofs.ShapeLaws.{IsA-decoded}
+use Rattle.chain_defs.specs.Schema as schema
+use Rattle.chain_defs.specs.Schema.{Block, CellbaseWitness, cellbase_witness}
+use Rattle.chain_defs.specs.First.{first_failing}
 use Rattle.chain_defs.specs.Kept.{block_hash, block_at, kept_limit}
-use Rattle.genesis_defs.specs.Genesis.{is_first, genesis_rules}
+use Rattle.rule_defs.specs.Genesis.{is_first, genesis_rules}
 use Rattle.verdict_defs.specs.declared.verdict.Verdict.{Verdict}
 use Rattle.verdict_defs.specs.Verdict.{joins}
 use Rattle.verdict_defs.specs.Chain.{Chain, verdict_over}
 use Rattle.pool_defs.specs.Assembly.{assembled}
 use Rattle.pool_defs.specs.Laws.{IsFounded, BreaksFew}
-use Rattle.pool_laws.specs.Laws.{IsInRange, UnbrokenIsJoined, KeptIsInRange}
+use Rattle.report_laws.specs.CanonicalLaws.{IsInRange, UnbrokenIsJoined, KeptIsInRange}
 use Rattle.store_defs.specs.Store.{StandsFor, IsJoined}
 use Rattle.store_defs.specs.StoreLaws.{StandsForWhatJoined}
 use Rattle.store_defs.proofs.JoinedLemmas.{is_kept_of_joined}

@@ -1,11 +1,11 @@
 -- An input has at most one report.
 use Rattle.std.proofs.Common.{◌≡◌, ◌⊎◌, inl, inr, ℕ, ◌<◌, ◌≤◌, List, length, refl, sym, ap, ◌∙◌, arith}
 use Rattle.std.specs.Prelude.{Option, Some, None}
-use Rattle.codec_defs.specs.Shape.{encoded, IsA}
-use Rattle.codec_defs.specs.Schema as schema
-use Rattle.text_defs.specs.Assembly.{lines_of}
-use Rattle.text_defs.specs.File.{elf_file}
-use Rattle.text_defs.specs.Laws.{OneCodeAssembles, OneLineIsFirstBad, NoneIsBadOfCode}
+use Rattle.chain_defs.specs.Shape.{encoded, IsA}
+use Rattle.chain_defs.specs.Schema as schema
+use Rattle.machine_defs.specs.Assembly.{lines_of}
+use Rattle.machine_defs.specs.File.{elf_file}
+use Rattle.machine_defs.specs.TextLaws.{OneCodeAssembles, OneLineIsFirstBad, NoneIsBadOfCode}
 use Rattle.json_defs.specs.Blocks as form
 use Rattle.json_defs.specs.Laws.{IsOneOfText}
 use Rattle.store_defs.specs.Store.{Store}

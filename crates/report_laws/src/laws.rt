@@ -1,9 +1,9 @@
 // The laws of reports.
 ghost use Rattle.report_defs.specs.Laws.{OneReport, WhatIsAssembledJoins};
 
+use crate::canonical::canonical_laws;
 use json_blocks::reading_laws;
 use pool_defs::joining_laws;
-use pool_laws::canonical_laws;
 use rv_text::text_laws;
 use store_defs::store_laws;
 

@@ -4,9 +4,9 @@ use Rattle.std.specs.Prelude.{slice_get, IfSome, IsSomeAnd}
 use Rattle.std.specs.Option.{option_map}
 use Rattle.std.proofs.lemmas.List.{length_push, length-map, length-take-le, take-append-le, take_at}
 use Rattle.std.proofs.lemmas.Option.{slice_get_within, slice_get-map, get_or_from_slice_get}
-use Rattle.codec_defs.specs.Schema.{Block}
-use Rattle.time_defs.specs.Specification.{Specification}
-use Rattle.time_defs.specs.Dao.{field_of_bytes}
+use Rattle.chain_defs.specs.Schema.{Block}
+use Rattle.chain_defs.specs.Specification.{Specification}
+use Rattle.chain_defs.specs.Dao.{field_of_bytes}
 use Rattle.chain_defs.specs.Kept.{block_at, parent_place}
 use Rattle.chain_defs.specs.Branch.{places_within, branch_places, branch}
 use Rattle.chain_defs.specs.Hashes.{proposal_id}
@@ -19,10 +19,10 @@ use Rattle.chain_tree.specs.Told.{Stored, blocks_of}
 use Rattle.chain_tree.proofs.EntryLemmas.{there-within}
 use Rattle.chain_tree.proofs.BlockLemmas.{len-same}
 use Rattle.cell_defs.specs.Ext.{count_at}
-use Rattle.window_defs.specs.Window.{proposed_ids}
-use Rattle.reward_defs.specs.Fees.{Paid, paid_in, paid_at}
-use Rattle.reward_defs.specs.Reward.{dao_of, field_at}
-use Rattle.reward_defs.proofs.FeeLaws.{fees-paid, ids-paid}
+use Rattle.rule_defs.specs.Window.{proposed_ids}
+use Rattle.rule_defs.specs.Fees.{Paid, paid_in, paid_at}
+use Rattle.rule_defs.specs.Reward.{dao_of, field_at}
+use Rattle.rule_defs.proofs.FeeLaws.{fees-paid, ids-paid}
 use Rattle.rewards.specs.Own.{HasOwnFees, fees_on}
 use Rattle.rewards.specs.Paid.{ArePaid}
 use Rattle.rewards.specs.Reading.{AreKnownBlocks}

@@ -3,14 +3,14 @@ use Rattle.std.proofs.Common.{◌≡◌, ℕ, zero, suc, ◌+◌, ◌-◌, ◌�
 use Rattle.std.specs.Option.{option_map}
 use Rattle.std.specs.List.{filter, sum_by, range_with_len}
 use Rattle.std.proofs.lemmas.List.Sums.{sum_by-cons}
-use Rattle.codec_defs.specs.Schema.{Block}
-use Rattle.time_defs.specs.Specification.{Specification}
-use Rattle.time_defs.specs.Dao.{as_u64}
+use Rattle.chain_defs.specs.Schema.{Block}
+use Rattle.chain_defs.specs.Specification.{Specification}
+use Rattle.chain_defs.specs.Dao.{as_u64}
 use Rattle.chain_defs.specs.Kept.{block_at}
-use Rattle.window_defs.specs.Window.{proposed_ids, proposes_at, earliest}
-use Rattle.window_defs.proofs.WindowLaws.{earliest-is-earliest}
-use Rattle.reward_defs.specs.Fees.{Paid, paid_at, proposer_share}
-use Rattle.reward_defs.specs.Reward.{is_first_proposed_at, proposer_part, commit_heights}
+use Rattle.rule_defs.specs.Window.{proposed_ids, proposes_at, earliest}
+use Rattle.rule_defs.proofs.WindowLaws.{earliest-is-earliest}
+use Rattle.rule_defs.specs.Fees.{Paid, paid_at, proposer_share}
+use Rattle.rule_defs.specs.Reward.{is_first_proposed_at, proposer_part, commit_heights}
 use Rattle.rewards.specs.Starts.{is_started, AreStarts}
 use Rattle.rewards.proofs.SumLemmas.{Adds}
 use Rattle.rewards.proofs.StartLemmas.{proposes-among, not-at}

@@ -4,7 +4,7 @@ use Rattle.outside.specs.declared.disk.Damage.{Damage}
 use Rattle.outside.specs.declared.disk.ReadStop.{ReadStop}
 use Rattle.outside.specs.declared.disk.ReadStop.TheVariants.{DiskFault, NoMemory, Damaged}
 use Rattle.outside.proofs.Endings.{memory_undamaged, fault_undamaged}
-use Rattle.time_defs.specs.Specification.{Specification}
+use Rattle.chain_defs.specs.Specification.{Specification}
 use Rattle.chain_tree.specs.declared.entry.Entry.{Entry}
 use Rattle.chain_tree.specs.Told.{Stored}
 use Rattle.rewards.specs.Reading.{AreKnownBlocks, IsUndamaged}

@@ -8,12 +8,12 @@ use Rattle.std.proofs.lemmas.Bool.{cases_lt, eq-eqb, ne_eqb, leb-true, and_parts
 use Rattle.std.proofs.lemmas.Bool.Decides.{nat_tests}
 use Rattle.std.proofs.lemmas.List.Folds.{list_any_more}
 use Rattle.std.proofs.lemmas.Option.{slice_get_within, get_or_from_slice_get, same_Some}
-use Rattle.codec_defs.specs.Schema.{Block}
-use Rattle.time_defs.specs.Specification.{Specification, keeps_s3}
+use Rattle.chain_defs.specs.Schema.{Block}
+use Rattle.chain_defs.specs.Specification.{Specification, keeps_s3}
 use Rattle.chain_defs.specs.Kept.{block_at}
-use Rattle.window_defs.specs.Window.{proposed_ids, proposes, proposes_at, earliest, IsEarliest}
-use Rattle.window_defs.proofs.WindowLaws.{earliest-is-earliest}
-use Rattle.reward_defs.specs.Reward.{is_at}
+use Rattle.rule_defs.specs.Window.{proposed_ids, proposes, proposes_at, earliest, IsEarliest}
+use Rattle.rule_defs.proofs.WindowLaws.{earliest-is-earliest}
+use Rattle.rule_defs.specs.Reward.{is_at}
 use Rattle.rewards.specs.Starts.{is_started, AreStarts}
 
 -- ---- One id more that is moved

@@ -1,11 +1,11 @@
 -- The fees of kept blocks, and the exts that keep them.
 use Rattle.std.specs.Prelude.{◌≡◌, ℕ, ◌+◌, ◌<◌, List, length, drop, Some, slice_get, slice_index}
-use Rattle.codec_defs.specs.Schema.{Block}
-use Rattle.time_defs.specs.Specification.{Specification}
+use Rattle.chain_defs.specs.Schema.{Block}
+use Rattle.chain_defs.specs.Specification.{Specification}
 use Rattle.chain_defs.specs.Kept.{parent_place}
 use Rattle.chain_defs.specs.Branch.{branch}
 use Rattle.cell_defs.specs.Ext.{count_at, fee_of}
-use Rattle.tx_defs.specs.Capacity.{fees_from}
+use Rattle.rule_defs.specs.Capacity.{fees_from}
 use Rattle.chain_tree.specs.Told.{Stored, blocks_of}
 
 -- the fees of a block on the parent at a place

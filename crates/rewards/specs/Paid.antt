@@ -1,7 +1,7 @@
 -- What the transactions of a block pay, beside the bytes of its ext and their proposal ids.
 use Rattle.std.specs.Prelude.{◌≡◌, ℕ, ◌+◌, List, length, map, Some, slice_get}
 use Rattle.cell_defs.specs.Ext.{count_at, fee_of}
-use Rattle.reward_defs.specs.Fees.{Paid}
+use Rattle.rule_defs.specs.Fees.{Paid}
 
 -- An ext has their fees, one after another, and the ids are theirs.
 pub record ArePaid (ext : List ℕ) (ids : List (List ℕ)) (paids : List Paid) : Type 0 where

@@ -1,6 +1,6 @@
 -- Kept blocks that are read: what a source of them tells, and what comes of reading it.
 use Rattle.std.specs.Prelude.{◌≡◌, ⊤, List, Option, Some, Result, Ok, Err}
-use Rattle.time_defs.specs.Specification.{Specification}
+use Rattle.chain_defs.specs.Specification.{Specification}
 use Rattle.outside.specs.declared.disk.ReadStop.{ReadStop}
 use Rattle.outside.specs.declared.disk.ReadStop.TheVariants.{DiskFault, NoMemory, Damaged}
 use Rattle.chain_tree.specs.declared.entry.Entry.{Entry}

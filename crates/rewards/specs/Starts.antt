@@ -1,9 +1,9 @@
 -- From which height on a block is the earliest proposer of what it proposes.
 use Rattle.std.specs.Prelude.{◌≡◌, ℕ, ◌+◌, ◌≤◌, Bool, false, nat_le, List, Option, Some, None}
-use Rattle.codec_defs.specs.Schema.{Block}
-use Rattle.time_defs.specs.Specification.{Specification}
-use Rattle.window_defs.specs.Window.{earliest}
-use Rattle.reward_defs.specs.Reward.{is_at}
+use Rattle.chain_defs.specs.Schema.{Block}
+use Rattle.chain_defs.specs.Specification.{Specification}
+use Rattle.rule_defs.specs.Window.{earliest}
+use Rattle.rule_defs.specs.Reward.{is_at}
 
 -- a commit at a height is at or after a start
 abbrev pub is_started : Option ℕ → ℕ → Bool

@@ -1,7 +1,7 @@
 // Amounts in shannons, as far as a u64 goes.
 ghost use Rattle.std.specs.Prelude.{◌≡◌, ◌+◌, ◌≤◌, ℕ, pos};
-ghost use Rattle.time_defs.specs.Dao.{as_u64};
-ghost use Rattle.reward_defs.specs.Fees as fees;
+ghost use Rattle.chain_defs.specs.Dao.{as_u64};
+ghost use Rattle.rule_defs.specs.Fees as fees;
 
 /// The sum of two amounts. None stands for an amount above the greatest u64, and so for the sum with it.
 pub(crate) fn plus(one: Option<u64>, other: Option<u64>) -> Option<u64>

@@ -2,16 +2,16 @@
 ghost use Rattle.std.specs.Prelude.{◌≡◌, ◌+◌, ◌-◌, ◌<◌, ◌≤◌, List, length, Some, Err, IfOk, IsSomeAnd, pos};
 ghost use Rattle.outside.specs.declared.disk.Damage.{Damage};
 ghost use Rattle.outside.specs.declared.disk.ReadStop.TheVariants.{Damaged};
-ghost use Rattle.codec_defs.specs.Schema.{Block};
-ghost use Rattle.time_defs.specs.Dao.{as_u64, miner_part};
+ghost use Rattle.chain_defs.specs.Schema.{Block};
+ghost use Rattle.chain_defs.specs.Dao.{as_u64, miner_part};
 ghost use Rattle.chain_defs.specs.Branch.{branch};
 ghost use Rattle.chain_tree.specs.Damages.{IsOfBlock};
 ghost use Rattle.chain_tree.specs.Entries.{entry_at};
 ghost use Rattle.chain_tree.specs.Blocks.{AreRated, IndexesBlocks};
 ghost use Rattle.chain_tree.specs.Told.{Stored, blocks_of};
 ghost use Rattle.chain_tree.specs.Reading.{HasRead, stop_of};
-ghost use Rattle.reward_defs.specs.Shares.{primary_at, secondary_at};
-ghost use Rattle.reward_defs.specs.Reward.{field_at, part};
+ghost use Rattle.rule_defs.specs.Shares.{primary_at, secondary_at};
+ghost use Rattle.rule_defs.specs.Reward.{field_at, part};
 ghost use Rattle.rewards.specs.Own.{HaveOwnFees};
 
 use crate::amounts::plus;

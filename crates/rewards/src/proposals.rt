@@ -5,13 +5,13 @@ ghost use Rattle.std.specs.Str.{bytes_eq};
 ghost use Rattle.std.specs.HashMap as hashed;
 ghost use Rattle.outside.specs.declared.disk.Damage.{Damage};
 ghost use Rattle.outside.specs.declared.disk.ReadStop.TheVariants.{Damaged};
-ghost use Rattle.time_defs.specs.Dao.{as_u64};
+ghost use Rattle.chain_defs.specs.Dao.{as_u64};
 ghost use Rattle.chain_defs.specs.Branch.{branch};
 ghost use Rattle.chain_tree.specs.Damages.{IsOfBlock};
 ghost use Rattle.chain_tree.specs.Entries.{entry_at};
 ghost use Rattle.chain_tree.specs.Told.{Stored, blocks_of};
 ghost use Rattle.chain_tree.specs.Reading.{HasRead, stop_of};
-ghost use Rattle.reward_defs.specs.Reward.{commit_heights, proposer_part};
+ghost use Rattle.rule_defs.specs.Reward.{commit_heights, proposer_part};
 ghost use Rattle.rewards.specs.Starts.{AreStarts};
 ghost use Rattle.rewards.specs.Reading.{AreKnownBlocks, ComesTo};
 

@@ -12,7 +12,7 @@ ghost use Rattle.chain_tree.specs.Entries.{entry_at};
 ghost use Rattle.chain_tree.specs.Blocks.{IndexesBlocks};
 ghost use Rattle.chain_tree.specs.Told.{Stored, blocks_of};
 ghost use Rattle.chain_tree.specs.Reading.{HasRead, stop_of};
-ghost use Rattle.window_defs.specs.Window.{proposed_ids, proposes, proposes_at};
+ghost use Rattle.rule_defs.specs.Window.{proposed_ids, proposes, proposes_at};
 ghost use Rattle.rewards.specs.Starts as rules;
 ghost use Rattle.rewards.specs.Starts.{AreStarts};
 ghost use Rattle.rewards.specs.Reading.{ComesTo};

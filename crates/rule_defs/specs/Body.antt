@@ -2,9 +2,9 @@
 -- rule's number and whether the block keeps it.
 use Rattle.std.specs.Prelude.{ℕ, ◌-◌, ◌*◌, ◌&&◌, nat_le, Bool, List, [], ◌∷◌, length, sum_by}
 use Rattle.std.specs.Str.{bytes_eq}
-use Rattle.codec_defs.specs.Shape.{encoded}
-use Rattle.codec_defs.specs.Schema.{Block, block}
-use Rattle.time_defs.specs.Specification.{Specification}
+use Rattle.chain_defs.specs.Shape.{encoded}
+use Rattle.chain_defs.specs.Schema.{Block, block}
+use Rattle.chain_defs.specs.Specification.{Specification}
 use Rattle.chain_defs.specs.Hashes.{transactions_root, proposals_hash, uncles_hash, are_distinct}
 
 -- the length of a block that counts: without the proposal ids of its uncles, of 10 bytes each (docs/RULES.md, "What the header commits to")

@@ -1,9 +1,9 @@
 -- The rules on a block's header, J4 to J8, as rows of a list (docs/RULES.md, "A block"). A row has the rule's number and whether the
 -- block keeps it.
 use Rattle.std.specs.Prelude.{ℕ, ◌-◌, ◌==◌, nat_lt, Bool, List, [], ◌∷◌, length, Option}
-use Rattle.codec_defs.specs.Schema.{Header, Block}
-use Rattle.time_defs.specs.Epochs.{epoch_field}
-use Rattle.time_defs.specs.Specification.{Specification}
+use Rattle.chain_defs.specs.Schema.{Header, Block}
+use Rattle.chain_defs.specs.Epochs.{epoch_field}
+use Rattle.chain_defs.specs.Specification.{Specification}
 use Rattle.chain_defs.specs.Kept.{block_at, follows}
 use Rattle.chain_defs.specs.Median.{median_time}
 

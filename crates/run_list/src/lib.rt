@@ -8,3 +8,4 @@
 mod list;
 
 pub use list::{Call, Stop, run_all};
+pub use node_run::run;

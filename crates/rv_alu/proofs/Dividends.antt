@@ -4,8 +4,8 @@ use Rattle.std.specs.Int.RustNames.{int_div, int_rem}
 use Rattle.std.proofs.Math.IntN.{neg_ℤ}
 use Rattle.std.proofs.Math.Nat.{add-mul, mul-add, mul_right_comm, div-le_self, mod-le}
 use Rattle.std.proofs.lemmas.Nat.{div-add-mod'}
-use Rattle.isa_defs.specs.Alu.{bits_of, quotient, remainder, signed, unsigned_quotient, unsigned_remainder}
-use Rattle.isa_defs.proofs.RowLaws.{not_equal}
+use Rattle.machine_defs.specs.Alu.{bits_of, quotient, remainder, signed, unsigned_quotient, unsigned_remainder}
+use Rattle.machine_defs.proofs.RowLaws.{not_equal}
 use Rattle.rv_alu.specs.Laws.{UnsignedDividend, SignedDividend}
 use Rattle.rv_alu.proofs.Halves.{signed-is}
 

@@ -9,7 +9,7 @@ use Rattle.std.proofs.lemmas.Bool.{cases_lt}
 use Rattle.std.proofs.lemmas.Bool.Decides.{nat_tests}
 use Rattle.std.proofs.lemmas.Nat.{mod_below}
 use Rattle.std.proofs.lemmas.Int.{ints, to_z-of_z, of_z-to_z, to_z_pos, fits_signed_mul, int_rem_euclid_is, wrapping_mul-bits}
-use Rattle.isa_defs.specs.Alu.{high, signed}
+use Rattle.machine_defs.specs.Alu.{high, signed}
 use Rattle.rv_alu.specs.Laws.{UnsignedHalves, SignedHalves, MixedHalves}
 
 -- ---- unsigned

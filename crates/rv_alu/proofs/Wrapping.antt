@@ -1,7 +1,7 @@
 -- A sum, a difference or a product has the low 32 bits that it has after it wrapped at 64 bits.
 use Rattle.std.proofs.Common.{◌≡◌, ℕ, ◌%◌, ◌^◌, ap, w32, w64, arith}
 use Rattle.std.specs.Int.{cast_signed, cast_unsigned}
-use Rattle.isa_defs.specs.Alu.{extended}
+use Rattle.machine_defs.specs.Alu.{extended}
 
 low_bits : (n : ℕ) → (n % 2 ^ 64) % 2 ^ 32 ≡ n % 2 ^ 32
 low_bits n = omega arith

@@ -1,8 +1,8 @@
 -- What the RISC-V manual says of products and divisions ("M" Standard Extension), of the numbers that registers hold.
 use Rattle.std.specs.Prelude.{◌≡◌, ℕ, ◌+◌, ◌*◌, ◌%◌, ◌^◌, ◌<◌, pos, ◌+ℤ◌, ◌*ℤ◌}
 use Rattle.std.specs.Int.{w64}
-use Rattle.isa_defs.specs.declared.alu.Alu.TheVariants.{Mul, Mulh, Mulhsu, Mulhu, Div, Divu, Rem, Remu}
-use Rattle.isa_defs.specs.Alu.{signed, value}
+use Rattle.machine_defs.specs.declared.alu.Alu.TheVariants.{Mul, Mulh, Mulhsu, Mulhu, Div, Divu, Rem, Remu}
+use Rattle.machine_defs.specs.Alu.{signed, value}
 
 -- MUL gives the low half of a product, and MULHU, MULH and MULHSU its high half, for two unsigned numbers, two signed
 -- ones, and a signed one by an unsigned one.

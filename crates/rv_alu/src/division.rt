@@ -2,9 +2,9 @@
 
 ghost use Rattle.std.specs.Prelude.{◌≡◌};
 ghost use Rattle.std.specs.Int.{w64};
-ghost use Rattle.isa_defs.specs.Alu.{quotient, remainder, unsigned_quotient, unsigned_remainder};
+ghost use Rattle.machine_defs.specs.Alu.{quotient, remainder, unsigned_quotient, unsigned_remainder};
 
-#[tactic(auto, unfolding(isa_defs::specs::Alu::quotient))]
+#[tactic(auto, unfolding(machine_defs::specs::Alu::quotient))]
 pub(crate) fn quotient(a: u64, b: u64) -> u64
     ensures { result ≡ quotient w64 a b }
 {
@@ -17,7 +17,7 @@ pub(crate) fn quotient(a: u64, b: u64) -> u64
     }
 }
 
-#[tactic(auto, unfolding(isa_defs::specs::Alu::remainder))]
+#[tactic(auto, unfolding(machine_defs::specs::Alu::remainder))]
 pub(crate) fn remainder(a: u64, b: u64) -> u64
     ensures { result ≡ remainder w64 a b }
 {
@@ -30,14 +30,14 @@ pub(crate) fn remainder(a: u64, b: u64) -> u64
     }
 }
 
-#[tactic(auto, unfolding(isa_defs::specs::Alu::unsigned_quotient))]
+#[tactic(auto, unfolding(machine_defs::specs::Alu::unsigned_quotient))]
 pub(crate) fn unsigned_quotient(a: u64, b: u64) -> u64
     ensures { result ≡ unsigned_quotient w64 a b }
 {
     if b == 0 { u64::MAX } else { a / b }
 }
 
-#[tactic(auto, unfolding(isa_defs::specs::Alu::unsigned_remainder))]
+#[tactic(auto, unfolding(machine_defs::specs::Alu::unsigned_remainder))]
 pub(crate) fn unsigned_remainder(a: u64, b: u64) -> u64
     ensures { result ≡ unsigned_remainder a b }
 {

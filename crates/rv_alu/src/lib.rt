@@ -1,21 +1,21 @@
 //! The operations on two registers of RV64I and its extension M (RFC 0003).
 //!
-//! `op` is exact against the values of `isa_defs`, for every operation and every two registers: it wraps,
+//! `op` is exact against the values of `machine_defs`, for every operation and every two registers: it wraps,
 //! shifts, compares and divides as the RISC-V manual says, and has no fault. Which registers an
 //! instruction takes, and what it costs, is left to the machine above.
 #![tactic(auto)]
 
 ghost use Rattle.std.specs.Prelude.{◌≡◌, ◌%◌};
 ghost use Rattle.std.specs.Int.{w64};
-ghost use Rattle.isa_defs.specs.Alu.{value, signed_less, arithmetic_shift};
+ghost use Rattle.machine_defs.specs.Alu.{value, signed_less, arithmetic_shift};
 
 mod division;
 mod laws;
 mod product;
 mod word;
 
-pub use isa_defs::Alu;
 pub use laws::alu_laws;
+pub use machine_defs::Alu;
 
 /// What the operation gives of two registers. A form with an immediate has it as `b`.
 #[tactic(auto, using(crate::proofs::Wrapping::wrapped))]
@@ -56,7 +56,7 @@ pub fn op(k: Alu, a: u64, b: u64) -> u64
 }
 
 // 1 where a is below b as signed numbers.
-#[tactic(auto, unfolding(isa_defs::specs::Alu::signed_less))]
+#[tactic(auto, unfolding(machine_defs::specs::Alu::signed_less))]
 fn signed_less(a: u64, b: u64) -> u64
     ensures { result ≡ signed_less a b }
 {
@@ -64,7 +64,7 @@ fn signed_less(a: u64, b: u64) -> u64
 }
 
 // A shift to the right that fills up with the sign.
-#[tactic(auto, unfolding(isa_defs::specs::Alu::arithmetic_shift))]
+#[tactic(auto, unfolding(machine_defs::specs::Alu::arithmetic_shift))]
 fn arithmetic_shift(a: u64, b: u64) -> u64
     ensures { result ≡ arithmetic_shift w64 a (b % 64) }
 {

@@ -2,7 +2,7 @@
 
 ghost use Rattle.std.specs.Prelude.{◌≡◌, ◌*◌, ◌/◌, ◌^◌, ◌*ℤ◌, pos};
 ghost use Rattle.std.specs.Int.{w64};
-ghost use Rattle.isa_defs.specs.Alu.{high, signed};
+ghost use Rattle.machine_defs.specs.Alu.{high, signed};
 
 pub(crate) fn high_signed(a: u64, b: u64) -> u64
     ensures { result ≡ high (signed w64 a *ℤ signed w64 b) }
@@ -22,7 +22,7 @@ pub(crate) fn high_unsigned(a: u64, b: u64) -> u64
     ((u128::from(a) * u128::from(b)) >> 64) as u64
 }
 
-#[tactic(auto, unfolding(isa_defs::specs::Alu::high))]
+#[tactic(auto, unfolding(machine_defs::specs::Alu::high))]
 fn high(product: i128) -> u64
     ensures { result ≡ high product }
 {

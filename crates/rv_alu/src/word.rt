@@ -2,7 +2,7 @@
 
 ghost use Rattle.std.specs.Prelude.{◌≡◌, ◌%◌, ◌^◌, ◌<◌};
 ghost use Rattle.std.specs.Int.{w32};
-ghost use Rattle.isa_defs.specs.Alu.{extended, low, arithmetic_shift, quotient, remainder, unsigned_quotient, unsigned_remainder};
+ghost use Rattle.machine_defs.specs.Alu.{extended, low, arithmetic_shift, quotient, remainder, unsigned_quotient, unsigned_remainder};
 
 /// The low 32 bits.
 pub(crate) fn low(a: u64) -> u64
@@ -12,7 +12,7 @@ pub(crate) fn low(a: u64) -> u64
 }
 
 /// The low 32 bits, sign-extended.
-#[tactic(auto, unfolding(isa_defs::specs::Alu::extended))]
+#[tactic(auto, unfolding(machine_defs::specs::Alu::extended))]
 pub(crate) fn extended(a: u64) -> u64
     ensures { result ≡ extended a }
 {
@@ -26,7 +26,7 @@ fn half(a: u64) -> u32
     (a % 0x1_0000_0000) as u32
 }
 
-#[tactic(auto, unfolding(isa_defs::specs::Alu::extended, isa_defs::specs::Alu::arithmetic_shift))]
+#[tactic(auto, unfolding(machine_defs::specs::Alu::extended, machine_defs::specs::Alu::arithmetic_shift))]
 pub(crate) fn arithmetic_shift(a: u64, b: u64) -> u64
     ensures { result ≡ extended (arithmetic_shift w32 (low a) (b % 32)) }
 {
@@ -58,7 +58,7 @@ pub(crate) fn unsigned_remainder(a: u64, b: u64) -> u64
     extended(u64::from(half_unsigned_remainder(half(a), half(b))))
 }
 
-#[tactic(auto, unfolding(isa_defs::specs::Alu::quotient))]
+#[tactic(auto, unfolding(machine_defs::specs::Alu::quotient))]
 fn half_quotient(a: u32, b: u32) -> u32
     ensures { result ≡ quotient w32 a b }
 {
@@ -71,7 +71,7 @@ fn half_quotient(a: u32, b: u32) -> u32
     }
 }
 
-#[tactic(auto, unfolding(isa_defs::specs::Alu::remainder))]
+#[tactic(auto, unfolding(machine_defs::specs::Alu::remainder))]
 fn half_remainder(a: u32, b: u32) -> u32
     ensures { result ≡ remainder w32 a b }
 {
@@ -84,14 +84,14 @@ fn half_remainder(a: u32, b: u32) -> u32
     }
 }
 
-#[tactic(auto, unfolding(isa_defs::specs::Alu::unsigned_quotient))]
+#[tactic(auto, unfolding(machine_defs::specs::Alu::unsigned_quotient))]
 fn half_unsigned_quotient(a: u32, b: u32) -> u32
     ensures { result ≡ unsigned_quotient w32 a b }
 {
     if b == 0 { u32::MAX } else { a / b }
 }
 
-#[tactic(auto, unfolding(isa_defs::specs::Alu::unsigned_remainder))]
+#[tactic(auto, unfolding(machine_defs::specs::Alu::unsigned_remainder))]
 fn half_unsigned_remainder(a: u32, b: u32) -> u32
     ensures { result ≡ unsigned_remainder a b }
 {

@@ -4,15 +4,15 @@ use Rattle.std.specs.Option.{option_map}
 use Rattle.std.proofs.lemmas.Int.{ints}
 use Rattle.std.proofs.lemmas.Bool.Decides.{nat_tests}
 use Rattle.std.proofs.lemmas.Bool.{eq-eqb, cases_lt}
-use Rattle.isa_defs.specs.declared.ins.Ins.{Ins}
-use Rattle.isa_defs.specs.declared.ins.Ins.TheVariants.{Lui, Jal, Jalr, Beq, Bne, Lw, Ld, Sw, Sd, Addi, Andi, Slli, Srli, Srai, Addiw, Add, Sub, Xor, Or, And, Addw, Subw, Ebreak}
-use Rattle.isa_defs.specs.Instruction.{bits, part, sign_extended}
-use Rattle.isa_defs.specs.Row.{Row, matches, encoded_in}
-use Rattle.isa_defs.specs.Table.{u_row, j_row, i_row, s_row, b_row, r_row, shift_row, system_row, full_forms}
-use Rattle.isa_defs.specs.Compressed.{c_rd, c_rs2, c_short_rs1, c_short_rs2, zero_register, return_address, stack_pointer, c_immediate, c_shift_amount, c_lui_immediate, c_addi4spn_immediate, c_addi16sp_immediate, c_word_offset, c_double_offset, c_lwsp_offset, c_ldsp_offset, c_swsp_offset, c_sdsp_offset, c_jump_offset, c_branch_offset, compressed_forms}
-use Rattle.isa_defs.specs.Decode.{decode, with_length, HasFullForm}
-use Rattle.isa_defs.proofs.RowLaws.{narrowed, hit}
-use Rattle.isa_defs.proofs.DecodeLaws.{below-c_rd, below-c_rs2, below-c_short_rs1, below-c_short_rs2, below-zero, below-ra, below-sp, ◌also◌}
+use Rattle.machine_defs.specs.declared.ins.Ins.{Ins}
+use Rattle.machine_defs.specs.declared.ins.Ins.TheVariants.{Lui, Jal, Jalr, Beq, Bne, Lw, Ld, Sw, Sd, Addi, Andi, Slli, Srli, Srai, Addiw, Add, Sub, Xor, Or, And, Addw, Subw, Ebreak}
+use Rattle.machine_defs.specs.Instruction.{bits, part, sign_extended}
+use Rattle.machine_defs.specs.Row.{Row, matches, encoded_in}
+use Rattle.machine_defs.specs.Table.{u_row, j_row, i_row, s_row, b_row, r_row, shift_row, system_row, full_forms}
+use Rattle.machine_defs.specs.Compressed.{c_rd, c_rs2, c_short_rs1, c_short_rs2, zero_register, return_address, stack_pointer, c_immediate, c_shift_amount, c_lui_immediate, c_addi4spn_immediate, c_addi16sp_immediate, c_word_offset, c_double_offset, c_lwsp_offset, c_ldsp_offset, c_swsp_offset, c_sdsp_offset, c_jump_offset, c_branch_offset, compressed_forms}
+use Rattle.machine_defs.specs.Decode.{decode, with_length, HasFullForm}
+use Rattle.machine_defs.proofs.RowLaws.{narrowed, hit}
+use Rattle.machine_defs.proofs.DecodeLaws.{below-c_rd, below-c_rs2, below-c_short_rs1, below-c_short_rs2, below-zero, below-ra, below-sp, ◌also◌}
 use Rattle.rv_decode.proofs.FullForms.{IsGiven, r_given, i_given, s_given, b_given, u_given, j_given, shift_given}
 
 -- ---- the full forms that compressed forms stand for

@@ -3,11 +3,11 @@
 use Rattle.std.proofs.Common.{◌≡◌, ℕ, ◌+◌, ◌*◌, ◌/◌, ◌%◌, ◌^◌, ◌<◌, ℤ, pos, Some, bit_and, bit_or, refl, ap, ◌∙◌, lit<, arith}
 use Rattle.std.proofs.lemmas.Nat.{and_mask}
 use Rattle.std.proofs.lemmas.Nat.Bits.{and_high}
-use Rattle.isa_defs.specs.declared.ins.Ins.{Ins}
-use Rattle.isa_defs.specs.Instruction.{bits, sign_extended}
-use Rattle.isa_defs.specs.Row.{encoded_in}
-use Rattle.isa_defs.specs.Table.{rd, rs1, rs2, i_immediate, s_immediate, b_immediate, u_immediate, j_immediate, shift_amount, r_type, i_type, s_type, b_type, u_type, j_type, shift, full_forms}
-use Rattle.isa_defs.proofs.RowLaws.{joined}
+use Rattle.machine_defs.specs.declared.ins.Ins.{Ins}
+use Rattle.machine_defs.specs.Instruction.{bits, sign_extended}
+use Rattle.machine_defs.specs.Row.{encoded_in}
+use Rattle.machine_defs.specs.Table.{rd, rs1, rs2, i_immediate, s_immediate, b_immediate, u_immediate, j_immediate, shift_amount, r_type, i_type, s_type, b_type, u_type, j_type, shift, full_forms}
+use Rattle.machine_defs.proofs.RowLaws.{joined}
 
 -- ---- the fields of a word
 

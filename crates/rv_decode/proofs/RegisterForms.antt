@@ -1,6 +1,6 @@
 -- How the masks of C.JR, C.MV, C.EBREAK, C.JALR and C.ADD lie in one another.
 use Rattle.std.proofs.Common.{◌≡◌, ℕ, bit_and, bit_or, refl, ap, ◌∙◌}
-use Rattle.isa_defs.proofs.RowLaws.{implied, joined}
+use Rattle.machine_defs.proofs.RowLaws.{implied, joined}
 
 -- no rs2 where the half is a jump's or EBREAK's
 pub no_rs2 : (w : ℕ) → bit_and w 0xf07f ≡ 0x8002 → bit_and w 0x7c ≡ 0

@@ -1,12 +1,12 @@
 // The compressed forms, of two bytes. `half` is such a form, in the low 16 bits.
 
 ghost use Rattle.std.specs.Prelude.{◌≡◌, ◌++◌};
-ghost use Rattle.isa_defs.specs.Row.{encoded_in};
-ghost use Rattle.isa_defs.specs.Compressed.{c_rd, c_rs2, c_short_rs1, c_short_rs2, c_immediate, c_shift_amount, c_lui_immediate, c_addi4spn_immediate, c_addi16sp_immediate, c_word_offset, c_double_offset, c_lwsp_offset, c_ldsp_offset, c_swsp_offset, c_sdsp_offset, c_jump_offset, c_branch_offset};
-ghost use Rattle.isa_defs.specs.Compressed.{compressed_forms, quadrant_0_forms, quadrant_1_forms, quadrant_2_forms, c_immediate_and_jump_forms, c_upper_forms, c_arithmetic_forms, c_register_arithmetic_forms, c_shift_and_stack_forms, c_register_forms};
+ghost use Rattle.machine_defs.specs.Row.{encoded_in};
+ghost use Rattle.machine_defs.specs.Compressed.{c_rd, c_rs2, c_short_rs1, c_short_rs2, c_immediate, c_shift_amount, c_lui_immediate, c_addi4spn_immediate, c_addi16sp_immediate, c_word_offset, c_double_offset, c_lwsp_offset, c_ldsp_offset, c_swsp_offset, c_sdsp_offset, c_jump_offset, c_branch_offset};
+ghost use Rattle.machine_defs.specs.Compressed.{compressed_forms, quadrant_0_forms, quadrant_1_forms, quadrant_2_forms, c_immediate_and_jump_forms, c_upper_forms, c_arithmetic_forms, c_register_arithmetic_forms, c_shift_and_stack_forms, c_register_forms};
 
 use crate::fields::{bits, part, sign_extended};
-use isa_defs::Ins;
+use machine_defs::Ins;
 
 const ZERO: u8 = 0;
 
@@ -14,56 +14,56 @@ const RETURN_ADDRESS: u8 = 1;
 
 const STACK_POINTER: u8 = 2;
 
-#[tactic(auto, unfolding(isa_defs::specs::Compressed::c_rd))]
+#[tactic(auto, unfolding(machine_defs::specs::Compressed::c_rd))]
 fn rd(half: u32) -> u8
     ensures { result ≡ c_rd half }
 {
     bits(half, 11, 7) as u8
 }
 
-#[tactic(auto, unfolding(isa_defs::specs::Compressed::c_rs2))]
+#[tactic(auto, unfolding(machine_defs::specs::Compressed::c_rs2))]
 fn rs2(half: u32) -> u8
     ensures { result ≡ c_rs2 half }
 {
     bits(half, 6, 2) as u8
 }
 
-#[tactic(auto, unfolding(isa_defs::specs::Compressed::c_short_rs1))]
+#[tactic(auto, unfolding(machine_defs::specs::Compressed::c_short_rs1))]
 fn short_rs1(half: u32) -> u8
     ensures { result ≡ c_short_rs1 half }
 {
     8 + bits(half, 9, 7) as u8
 }
 
-#[tactic(auto, unfolding(isa_defs::specs::Compressed::c_short_rs2))]
+#[tactic(auto, unfolding(machine_defs::specs::Compressed::c_short_rs2))]
 fn short_rs2(half: u32) -> u8
     ensures { result ≡ c_short_rs2 half }
 {
     8 + bits(half, 4, 2) as u8
 }
 
-#[tactic(auto, unfolding(isa_defs::specs::Compressed::c_immediate))]
+#[tactic(auto, unfolding(machine_defs::specs::Compressed::c_immediate))]
 fn immediate(half: u32) -> i64
     ensures { result ≡ c_immediate half }
 {
     sign_extended(6, part(half, 12, 12, 5) + part(half, 6, 2, 0))
 }
 
-#[tactic(auto, unfolding(isa_defs::specs::Compressed::c_shift_amount))]
+#[tactic(auto, unfolding(machine_defs::specs::Compressed::c_shift_amount))]
 fn shift_amount(half: u32) -> i64
     ensures { result ≡ c_shift_amount half }
 {
     i64::from(part(half, 12, 12, 5) + part(half, 6, 2, 0))
 }
 
-#[tactic(auto, unfolding(isa_defs::specs::Compressed::c_lui_immediate))]
+#[tactic(auto, unfolding(machine_defs::specs::Compressed::c_lui_immediate))]
 fn lui_immediate(half: u32) -> i64
     ensures { result ≡ c_lui_immediate half }
 {
     sign_extended(18, part(half, 12, 12, 17) + part(half, 6, 2, 12))
 }
 
-#[tactic(auto, unfolding(isa_defs::specs::Compressed::c_addi4spn_immediate))]
+#[tactic(auto, unfolding(machine_defs::specs::Compressed::c_addi4spn_immediate))]
 fn addi4spn_immediate(half: u32) -> i64
     ensures { result ≡ c_addi4spn_immediate half }
 {
@@ -71,7 +71,7 @@ fn addi4spn_immediate(half: u32) -> i64
     i64::from(high + part(half, 6, 6, 2) + part(half, 5, 5, 3))
 }
 
-#[tactic(auto, unfolding(isa_defs::specs::Compressed::c_addi16sp_immediate))]
+#[tactic(auto, unfolding(machine_defs::specs::Compressed::c_addi16sp_immediate))]
 fn addi16sp_immediate(half: u32) -> i64
     ensures { result ≡ c_addi16sp_immediate half }
 {
@@ -79,49 +79,49 @@ fn addi16sp_immediate(half: u32) -> i64
     sign_extended(10, high + part(half, 4, 3, 7) + part(half, 2, 2, 5))
 }
 
-#[tactic(auto, unfolding(isa_defs::specs::Compressed::c_word_offset))]
+#[tactic(auto, unfolding(machine_defs::specs::Compressed::c_word_offset))]
 fn word_offset(half: u32) -> i64
     ensures { result ≡ c_word_offset half }
 {
     i64::from(part(half, 12, 10, 3) + part(half, 6, 6, 2) + part(half, 5, 5, 6))
 }
 
-#[tactic(auto, unfolding(isa_defs::specs::Compressed::c_double_offset))]
+#[tactic(auto, unfolding(machine_defs::specs::Compressed::c_double_offset))]
 fn double_offset(half: u32) -> i64
     ensures { result ≡ c_double_offset half }
 {
     i64::from(part(half, 12, 10, 3) + part(half, 6, 5, 6))
 }
 
-#[tactic(auto, unfolding(isa_defs::specs::Compressed::c_lwsp_offset))]
+#[tactic(auto, unfolding(machine_defs::specs::Compressed::c_lwsp_offset))]
 fn lwsp_offset(half: u32) -> i64
     ensures { result ≡ c_lwsp_offset half }
 {
     i64::from(part(half, 12, 12, 5) + part(half, 6, 4, 2) + part(half, 3, 2, 6))
 }
 
-#[tactic(auto, unfolding(isa_defs::specs::Compressed::c_ldsp_offset))]
+#[tactic(auto, unfolding(machine_defs::specs::Compressed::c_ldsp_offset))]
 fn ldsp_offset(half: u32) -> i64
     ensures { result ≡ c_ldsp_offset half }
 {
     i64::from(part(half, 12, 12, 5) + part(half, 6, 5, 3) + part(half, 4, 2, 6))
 }
 
-#[tactic(auto, unfolding(isa_defs::specs::Compressed::c_swsp_offset))]
+#[tactic(auto, unfolding(machine_defs::specs::Compressed::c_swsp_offset))]
 fn swsp_offset(half: u32) -> i64
     ensures { result ≡ c_swsp_offset half }
 {
     i64::from(part(half, 12, 9, 2) + part(half, 8, 7, 6))
 }
 
-#[tactic(auto, unfolding(isa_defs::specs::Compressed::c_sdsp_offset))]
+#[tactic(auto, unfolding(machine_defs::specs::Compressed::c_sdsp_offset))]
 fn sdsp_offset(half: u32) -> i64
     ensures { result ≡ c_sdsp_offset half }
 {
     i64::from(part(half, 12, 10, 3) + part(half, 9, 7, 6))
 }
 
-#[tactic(auto, unfolding(isa_defs::specs::Compressed::c_jump_offset))]
+#[tactic(auto, unfolding(machine_defs::specs::Compressed::c_jump_offset))]
 fn jump_offset(half: u32) -> i64
     ensures { result ≡ c_jump_offset half }
 {
@@ -130,7 +130,7 @@ fn jump_offset(half: u32) -> i64
     sign_extended(12, middle + part(half, 5, 3, 1) + part(half, 2, 2, 5))
 }
 
-#[tactic(auto, unfolding(isa_defs::specs::Compressed::c_branch_offset))]
+#[tactic(auto, unfolding(machine_defs::specs::Compressed::c_branch_offset))]
 fn branch_offset(half: u32) -> i64
     ensures { result ≡ c_branch_offset half }
 {
@@ -138,7 +138,7 @@ fn branch_offset(half: u32) -> i64
     sign_extended(9, high + part(half, 4, 3, 1) + part(half, 2, 2, 5))
 }
 
-#[tactic(auto, unfolding(isa_defs::specs::Row::encoded_in))]
+#[tactic(auto, unfolding(machine_defs::specs::Row::encoded_in))]
 fn quadrant_0(half: u32) -> Option<Ins>
     ensures { result ≡ encoded_in quadrant_0_forms half }
 {
@@ -180,7 +180,7 @@ fn quadrant_0(half: u32) -> Option<Ins>
     }
 }
 
-#[tactic(auto, unfolding(isa_defs::specs::Row::encoded_in))]
+#[tactic(auto, unfolding(machine_defs::specs::Row::encoded_in))]
 fn immediate_or_jump(half: u32) -> Option<Ins>
     ensures { result ≡ encoded_in c_immediate_and_jump_forms half }
 {
@@ -227,7 +227,7 @@ fn immediate_or_jump(half: u32) -> Option<Ins>
 }
 
 // C.LUI is another instruction where its target is the stack pointer.
-#[tactic(auto, unfolding(isa_defs::specs::Row::encoded_in))]
+#[tactic(auto, unfolding(machine_defs::specs::Row::encoded_in))]
 fn upper(half: u32) -> Option<Ins>
     ensures { result ≡ encoded_in c_upper_forms half }
 {
@@ -251,7 +251,7 @@ fn upper(half: u32) -> Option<Ins>
     }
 }
 
-#[tactic(auto, unfolding(isa_defs::specs::Row::encoded_in))]
+#[tactic(auto, unfolding(machine_defs::specs::Row::encoded_in))]
 fn arithmetic(half: u32) -> Option<Ins>
     ensures { result ≡ encoded_in (c_arithmetic_forms ++ c_register_arithmetic_forms) half }
 {
@@ -276,7 +276,7 @@ fn arithmetic(half: u32) -> Option<Ins>
     }
 }
 
-#[tactic(auto, unfolding(isa_defs::specs::Row::encoded_in))]
+#[tactic(auto, unfolding(machine_defs::specs::Row::encoded_in))]
 fn register_arithmetic(half: u32) -> Option<Ins>
     ensures { result ≡ encoded_in c_register_arithmetic_forms half }
 {
@@ -303,7 +303,7 @@ fn quadrant_1(half: u32) -> Option<Ins>
     }
 }
 
-#[tactic(auto, unfolding(isa_defs::specs::Row::encoded_in))]
+#[tactic(auto, unfolding(machine_defs::specs::Row::encoded_in))]
 fn shift_or_stack(half: u32) -> Option<Ins>
     ensures { result ≡ encoded_in c_shift_and_stack_forms half }
 {
@@ -352,7 +352,7 @@ fn shift_or_stack(half: u32) -> Option<Ins>
 }
 
 // Without rs2 these are jumps, or EBREAK where rd is missing too.
-#[tactic(auto, unfolding(isa_defs::specs::Row::encoded_in), using(crate::proofs::RegisterForms::register_masks))]
+#[tactic(auto, unfolding(machine_defs::specs::Row::encoded_in), using(crate::proofs::RegisterForms::register_masks))]
 fn register(half: u32) -> Option<Ins>
     ensures { result ≡ encoded_in c_register_forms half }
 {

@@ -1,7 +1,7 @@
 // The fields of a word, and the numbers that they hold.
 
 ghost use Rattle.std.specs.Prelude.{◌≡◌, ◌+◌, ◌-◌, ◌*◌, ◌^◌, ◌<◌, ◌≤◌};
-ghost use Rattle.isa_defs.specs.Instruction.{bits, part, sign_extended};
+ghost use Rattle.machine_defs.specs.Instruction.{bits, part, sign_extended};
 
 /// Bits `high` to `low` of a word.
 #[inline(always)]

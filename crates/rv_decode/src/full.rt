@@ -1,49 +1,49 @@
 // The full forms, of four bytes: a function for each opcode, exact against its rows of the table.
 
 ghost use Rattle.std.specs.Prelude.{◌≡◌, ◌++◌};
-ghost use Rattle.isa_defs.specs.Row.{encoded_in};
-ghost use Rattle.isa_defs.specs.Table.{u_type, j_type, rd, rs1, rs2, i_immediate, s_immediate, b_immediate, u_immediate, j_immediate, shift_amount, word_shift_amount};
-ghost use Rattle.isa_defs.specs.Table.{full_forms, jump_register_forms, branch_forms, load_forms, store_forms, immediate_forms, shift_forms, word_immediate_forms, word_shift_forms, register_forms, word_register_forms, fence_forms, system_forms};
+ghost use Rattle.machine_defs.specs.Row.{encoded_in};
+ghost use Rattle.machine_defs.specs.Table.{u_type, j_type, rd, rs1, rs2, i_immediate, s_immediate, b_immediate, u_immediate, j_immediate, shift_amount, word_shift_amount};
+ghost use Rattle.machine_defs.specs.Table.{full_forms, jump_register_forms, branch_forms, load_forms, store_forms, immediate_forms, shift_forms, word_immediate_forms, word_shift_forms, register_forms, word_register_forms, fence_forms, system_forms};
 
 use crate::fields::{bits, part, sign_extended};
-use isa_defs::Ins;
+use machine_defs::Ins;
 
-#[tactic(auto, unfolding(isa_defs::specs::Table::rd))]
+#[tactic(auto, unfolding(machine_defs::specs::Table::rd))]
 fn rd(word: u32) -> u8
     ensures { result ≡ rd word }
 {
     bits(word, 11, 7) as u8
 }
 
-#[tactic(auto, unfolding(isa_defs::specs::Table::rs1))]
+#[tactic(auto, unfolding(machine_defs::specs::Table::rs1))]
 fn rs1(word: u32) -> u8
     ensures { result ≡ rs1 word }
 {
     bits(word, 19, 15) as u8
 }
 
-#[tactic(auto, unfolding(isa_defs::specs::Table::rs2))]
+#[tactic(auto, unfolding(machine_defs::specs::Table::rs2))]
 fn rs2(word: u32) -> u8
     ensures { result ≡ rs2 word }
 {
     bits(word, 24, 20) as u8
 }
 
-#[tactic(auto, unfolding(isa_defs::specs::Table::i_immediate))]
+#[tactic(auto, unfolding(machine_defs::specs::Table::i_immediate))]
 fn i_immediate(word: u32) -> i64
     ensures { result ≡ i_immediate word }
 {
     sign_extended(12, bits(word, 31, 20))
 }
 
-#[tactic(auto, unfolding(isa_defs::specs::Table::s_immediate))]
+#[tactic(auto, unfolding(machine_defs::specs::Table::s_immediate))]
 fn s_immediate(word: u32) -> i64
     ensures { result ≡ s_immediate word }
 {
     sign_extended(12, part(word, 31, 25, 5) + part(word, 11, 7, 0))
 }
 
-#[tactic(auto, unfolding(isa_defs::specs::Table::b_immediate))]
+#[tactic(auto, unfolding(machine_defs::specs::Table::b_immediate))]
 fn b_immediate(word: u32) -> i64
     ensures { result ≡ b_immediate word }
 {
@@ -51,14 +51,14 @@ fn b_immediate(word: u32) -> i64
     sign_extended(13, high + part(word, 30, 25, 5) + part(word, 11, 8, 1))
 }
 
-#[tactic(auto, unfolding(isa_defs::specs::Table::u_immediate))]
+#[tactic(auto, unfolding(machine_defs::specs::Table::u_immediate))]
 fn u_immediate(word: u32) -> i64
     ensures { result ≡ u_immediate word }
 {
     sign_extended(32, part(word, 31, 12, 12))
 }
 
-#[tactic(auto, unfolding(isa_defs::specs::Table::j_immediate))]
+#[tactic(auto, unfolding(machine_defs::specs::Table::j_immediate))]
 fn j_immediate(word: u32) -> i64
     ensures { result ≡ j_immediate word }
 {
@@ -66,21 +66,21 @@ fn j_immediate(word: u32) -> i64
     sign_extended(21, high + part(word, 20, 20, 11) + part(word, 30, 21, 1))
 }
 
-#[tactic(auto, unfolding(isa_defs::specs::Table::shift_amount))]
+#[tactic(auto, unfolding(machine_defs::specs::Table::shift_amount))]
 fn shift_amount(word: u32) -> i64
     ensures { result ≡ shift_amount word }
 {
     i64::from(bits(word, 25, 20))
 }
 
-#[tactic(auto, unfolding(isa_defs::specs::Table::word_shift_amount))]
+#[tactic(auto, unfolding(machine_defs::specs::Table::word_shift_amount))]
 fn word_shift_amount(word: u32) -> i64
     ensures { result ≡ word_shift_amount word }
 {
     i64::from(bits(word, 24, 20))
 }
 
-#[tactic(auto, unfolding(isa_defs::specs::Row::encoded_in))]
+#[tactic(auto, unfolding(machine_defs::specs::Row::encoded_in))]
 fn jump_register(word: u32) -> Option<Ins>
     ensures { result ≡ encoded_in jump_register_forms word }
 {
@@ -93,7 +93,7 @@ fn jump_register(word: u32) -> Option<Ins>
     }
 }
 
-#[tactic(auto, unfolding(isa_defs::specs::Row::encoded_in))]
+#[tactic(auto, unfolding(machine_defs::specs::Row::encoded_in))]
 fn branch(word: u32) -> Option<Ins>
     ensures { result ≡ encoded_in branch_forms word }
 {
@@ -111,7 +111,7 @@ fn branch(word: u32) -> Option<Ins>
     }
 }
 
-#[tactic(auto, unfolding(isa_defs::specs::Row::encoded_in))]
+#[tactic(auto, unfolding(machine_defs::specs::Row::encoded_in))]
 fn load(word: u32) -> Option<Ins>
     ensures { result ≡ encoded_in load_forms word }
 {
@@ -130,7 +130,7 @@ fn load(word: u32) -> Option<Ins>
     }
 }
 
-#[tactic(auto, unfolding(isa_defs::specs::Row::encoded_in))]
+#[tactic(auto, unfolding(machine_defs::specs::Row::encoded_in))]
 fn store(word: u32) -> Option<Ins>
     ensures { result ≡ encoded_in store_forms word }
 {
@@ -146,7 +146,7 @@ fn store(word: u32) -> Option<Ins>
     }
 }
 
-#[tactic(auto, unfolding(isa_defs::specs::Row::encoded_in))]
+#[tactic(auto, unfolding(machine_defs::specs::Row::encoded_in))]
 fn immediate(word: u32) -> Option<Ins>
     ensures { result ≡ encoded_in (immediate_forms ++ shift_forms) word }
 {
@@ -164,7 +164,7 @@ fn immediate(word: u32) -> Option<Ins>
     }
 }
 
-#[tactic(auto, unfolding(isa_defs::specs::Row::encoded_in))]
+#[tactic(auto, unfolding(machine_defs::specs::Row::encoded_in))]
 fn shift(word: u32) -> Option<Ins>
     ensures { result ≡ encoded_in shift_forms word }
 {
@@ -179,7 +179,7 @@ fn shift(word: u32) -> Option<Ins>
     }
 }
 
-#[tactic(auto, unfolding(isa_defs::specs::Row::encoded_in))]
+#[tactic(auto, unfolding(machine_defs::specs::Row::encoded_in))]
 fn word_immediate(word: u32) -> Option<Ins>
     ensures { result ≡ encoded_in (word_immediate_forms ++ word_shift_forms) word }
 {
@@ -192,7 +192,7 @@ fn word_immediate(word: u32) -> Option<Ins>
     }
 }
 
-#[tactic(auto, unfolding(isa_defs::specs::Row::encoded_in))]
+#[tactic(auto, unfolding(machine_defs::specs::Row::encoded_in))]
 fn word_shift(word: u32) -> Option<Ins>
     ensures { result ≡ encoded_in word_shift_forms word }
 {
@@ -207,7 +207,7 @@ fn word_shift(word: u32) -> Option<Ins>
     }
 }
 
-#[tactic(auto, unfolding(isa_defs::specs::Row::encoded_in))]
+#[tactic(auto, unfolding(machine_defs::specs::Row::encoded_in))]
 fn register(word: u32) -> Option<Ins>
     ensures { result ≡ encoded_in register_forms word }
 {
@@ -237,7 +237,7 @@ fn register(word: u32) -> Option<Ins>
     }
 }
 
-#[tactic(auto, unfolding(isa_defs::specs::Row::encoded_in))]
+#[tactic(auto, unfolding(machine_defs::specs::Row::encoded_in))]
 fn word_register(word: u32) -> Option<Ins>
     ensures { result ≡ encoded_in word_register_forms word }
 {
@@ -259,7 +259,7 @@ fn word_register(word: u32) -> Option<Ins>
     }
 }
 
-#[tactic(auto, unfolding(isa_defs::specs::Row::encoded_in))]
+#[tactic(auto, unfolding(machine_defs::specs::Row::encoded_in))]
 fn fence(word: u32) -> Option<Ins>
     ensures { result ≡ encoded_in fence_forms word }
 {
@@ -270,7 +270,7 @@ fn fence(word: u32) -> Option<Ins>
     }
 }
 
-#[tactic(auto, unfolding(isa_defs::specs::Row::encoded_in), using(crate::proofs::WholeWord::whole_word))]
+#[tactic(auto, unfolding(machine_defs::specs::Row::encoded_in), using(crate::proofs::WholeWord::whole_word))]
 fn system(word: u32) -> Option<Ins>
     ensures { result ≡ encoded_in system_forms word }
 {

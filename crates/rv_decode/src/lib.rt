@@ -1,25 +1,25 @@
 //! The instruction that a word of code encodes: RV64IM and its compressed forms (RFC 0003).
 //!
-//! `decode` is exact against the instruction table of `isa_defs`, for every word. It reads the word's
+//! `decode` is exact against the instruction table of `machine_defs`, for every word. It reads the word's
 //! fields in place, takes no memory and keeps no state. What an instruction does and costs, and where
 //! words come from, is left to the machine above.
 #![tactic(auto)]
 
 ghost use Rattle.std.specs.Prelude.{◌≡◌, ◌≢◌, ℕ, ◌%◌, ◌^◌, IfSome};
-ghost use Rattle.isa_defs.specs.Instruction.{FitsFormat};
-ghost use Rattle.isa_defs.specs.Decode.{HasFullForm, decode};
+ghost use Rattle.machine_defs.specs.Instruction.{FitsFormat};
+ghost use Rattle.machine_defs.specs.Decode.{HasFullForm, decode};
 
 mod compressed;
 mod fields;
 mod full;
 
-pub use isa_defs::Ins;
+pub use machine_defs::Ins;
 
 /// The instruction at the start of a word of code, and its length in bytes, 2 or 4.
 ///
 /// A compressed form is given as the full form that it stands for, and leaves the upper half of the word
 /// unread. None comes exactly where no row of the table matches.
-#[tactic(auto, unfolding(isa_defs::specs::Decode::decode))]
+#[tactic(auto, unfolding(machine_defs::specs::Decode::decode))]
 pub fn decode(word: u32) -> Option<(Ins, u8)>
     ensures exact { result ≡ decode word }
     // Of a compressed form the low two bytes alone are read.

@@ -3,13 +3,13 @@ use Rattle.std.proofs.Common.{◌≡◌, ℕ, ◌+◌, ◌*◌, ◌/◌, ◌%◌
 use Rattle.std.specs.Option.{option_map}
 use Rattle.std.proofs.lemmas.Nat.{and_mask}
 use Rattle.std.proofs.lemmas.Nat.Bits.{and_high}
-use Rattle.isa_defs.specs.declared.ins.Ins.{Ins}
-use Rattle.isa_defs.specs.Instruction.{bits, sign_extended}
-use Rattle.isa_defs.specs.Row.{encoded_in}
-use Rattle.isa_defs.specs.Decode.{decode, with_length}
-use Rattle.isa_defs.specs.Table.{rd, rs1, rs2, i_immediate, s_immediate, b_immediate, u_immediate, j_immediate, shift_amount, word_shift_amount, r_type, i_type, s_type, b_type, u_type, j_type, shift, word_shift, full_forms}
-use Rattle.isa_defs.proofs.RowLaws.{joined}
-use Rattle.text_defs.specs.declared.operands.Operands.TheVariants.{Registers, Immediate, Shift, WordShift, Store, Branch, Jump, Upper, Bare}
+use Rattle.machine_defs.specs.declared.ins.Ins.{Ins}
+use Rattle.machine_defs.specs.Instruction.{bits, sign_extended}
+use Rattle.machine_defs.specs.Row.{encoded_in}
+use Rattle.machine_defs.specs.Decode.{decode, with_length}
+use Rattle.machine_defs.specs.Table.{rd, rs1, rs2, i_immediate, s_immediate, b_immediate, u_immediate, j_immediate, shift_amount, word_shift_amount, r_type, i_type, s_type, b_type, u_type, j_type, shift, word_shift, full_forms}
+use Rattle.machine_defs.proofs.RowLaws.{joined}
+use Rattle.machine_defs.specs.declared.operands.Operands.TheVariants.{Registers, Immediate, Shift, WordShift, Store, Branch, Jump, Upper, Bare}
 use Rattle.rv_text.specs.Words.{HasBits}
 
 -- ---- the fields of a word

@@ -1,11 +1,11 @@
 -- A line that is an instruction's text is read as its name and its operands.
 use Rattle.std.proofs.Common.{◌≡◌, ℕ, List, take, drop, length, Some, ap, ◌∙◌}
 use Rattle.std.proofs.Math.Seq.{take-append_seam, drop-append_seam}
-use Rattle.isa_defs.specs.declared.ins.Ins.{Ins}
-use Rattle.isa_defs.specs.Instruction.{FitsFormat}
+use Rattle.machine_defs.specs.declared.ins.Ins.{Ins}
+use Rattle.machine_defs.specs.Instruction.{FitsFormat}
 use Rattle.rv_text.specs.declared.names.TheConstants.{TEMPLATES}
-use Rattle.text_defs.specs.declared.operands.Operands.{Operands}
-use Rattle.text_defs.specs.Text.{Form, form, form_of, operands_text, show}
+use Rattle.machine_defs.specs.declared.operands.Operands.{Operands}
+use Rattle.machine_defs.specs.Text.{Form, form, form_of, operands_text, show}
 use Rattle.rv_text.specs.Reading.{space_at, named_in, numbers_in, filled}
 use Rattle.rv_text.proofs.Templates.{blank, template-of}
 use Rattle.rv_text.proofs.ReadBack.{read-back, after-name, spaced}

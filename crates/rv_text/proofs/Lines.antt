@@ -3,7 +3,7 @@ use Rattle.std.proofs.Common.{◌≡◌, ◌≢◌, inl, inr, ℕ, ◌+◌, ◌-
 use Rattle.std.specs.Prelude.{nat_le}
 use Rattle.std.proofs.lemmas.List.{drop-drop, drop_all}
 use Rattle.std.proofs.lemmas.Bool.Decides.{nat_tests}
-use Rattle.text_defs.specs.Assembly.{with_first_byte, lines_of, IsLineOf, IsBad, Assembles, IsFirstBad}
+use Rattle.machine_defs.specs.Assembly.{with_first_byte, lines_of, IsLineOf, IsBad, Assembles, IsFirstBad}
 use Rattle.rv_text.specs.Stops.{IsStopOf, IsStopOfLine}
 use Rattle.rv_text.specs.declared.assembly.AssemblyStop.{AssemblyStop}
 use Rattle.rv_text.specs.declared.assembly.AssemblyStop.TheVariants.{BadLine, NoMemory}

@@ -4,13 +4,13 @@ use Rattle.std.specs.Prelude.{codes, slice_index}
 use Rattle.std.specs.Option.{option_map}
 use Rattle.std.proofs.lemmas.List.{drop-drop, drop_all}
 use Rattle.std.proofs.lemmas.Bool.{eq-eqb}
-use Rattle.isa_defs.proofs.RowLaws.{not_equal}
-use Rattle.isa_defs.specs.declared.ins.Ins.{Ins}
-use Rattle.isa_defs.specs.Row.{encoded_in}
-use Rattle.isa_defs.specs.Table.{full_forms}
-use Rattle.isa_defs.specs.Compressed.{compressed_forms}
-use Rattle.isa_defs.specs.Decode.{decode, with_length}
-use Rattle.text_defs.specs.Listing.{data_of, hex_byte, first_part, line, lines_from, dis}
+use Rattle.machine_defs.proofs.RowLaws.{not_equal}
+use Rattle.machine_defs.specs.declared.ins.Ins.{Ins}
+use Rattle.machine_defs.specs.Row.{encoded_in}
+use Rattle.machine_defs.specs.Table.{full_forms}
+use Rattle.machine_defs.specs.Compressed.{compressed_forms}
+use Rattle.machine_defs.specs.Decode.{decode, with_length}
+use Rattle.machine_defs.specs.Listing.{data_of, hex_byte, first_part, line, lines_from, dis}
 
 mapped : (n : ℕ) (o : Option Ins) (d : Ins × ℕ) → 0 < n → option_map (with_length n) o ≡ Some d → 0 < d.1
 mapped n None d some e = absurd (cc)

@@ -3,9 +3,9 @@ use Rattle.std.proofs.Common.{◌≡◌, ℕ, ◌+◌, ◌<◌, ◌≤◌, Bool,
 use Rattle.std.specs.Str.{bytes_eq}
 use Rattle.std.proofs.lemmas.List.{drop_all}
 use Rattle.std.proofs.Math.Seq.{drop-cons}
-use Rattle.isa_defs.specs.declared.ins.Ins.{Ins}
-use Rattle.text_defs.specs.declared.operands.Operands.{Operands}
-use Rattle.text_defs.specs.Text.{Form, form, form_of}
+use Rattle.machine_defs.specs.declared.ins.Ins.{Ins}
+use Rattle.machine_defs.specs.declared.operands.Operands.{Operands}
+use Rattle.machine_defs.specs.Text.{Form, form, form_of}
 use Rattle.rv_text.specs.Reading.{named_in}
 use Rattle.rv_text.proofs.Steps.{named-here, named-later}
 

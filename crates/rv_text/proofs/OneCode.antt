@@ -2,12 +2,12 @@
 use Rattle.std.proofs.Common.{◌≡◌, ◌⊎◌, inl, inr, ℕ, ◌+◌, List, [], ◌∷◌, ◌++◌, refl, sym, ap, ◌∙◌, subst, arith}
 use Rattle.std.specs.Prelude.{◌≢◌}
 use Rattle.std.specs.Int.{w32, to_le_bytes}
-use Rattle.isa_defs.specs.declared.ins.Ins.{Ins}
-use Rattle.isa_defs.specs.declared.ins.Ins.TheVariants.{Lui, Auipc, Jal, Jalr, Beq, Bne, Blt, Bge, Bltu, Bgeu, Lb, Lh, Lw, Ld, Lbu, Lhu, Lwu, Sb, Sh, Sw, Sd, Addi, Slti, Sltiu, Xori, Ori, Andi, Slli, Srli, Srai, Addiw, Slliw, Srliw, Sraiw, Add, Sub, Sll, Slt, Sltu, Xor, Srl, Sra, Or, And, Mul, Mulh, Mulhsu, Mulhu, Div, Divu, Rem, Remu, Addw, Subw, Sllw, Srlw, Sraw, Mulw, Divw, Divuw, Remw, Remuw, Fence, FenceI, Ecall, Ebreak}
-use Rattle.isa_defs.specs.Instruction.{FitsFormat}
-use Rattle.text_defs.specs.Text.{form_of, operands_text, show, IsWord}
-use Rattle.text_defs.specs.Assembly.{IsSkipped, IsLineOf, IsBad, Assembles, IsFirstBad}
-use Rattle.text_defs.specs.Laws.{OneCodeAssembles, OneLineIsFirstBad, NoneIsBadOfCode}
+use Rattle.machine_defs.specs.declared.ins.Ins.{Ins}
+use Rattle.machine_defs.specs.declared.ins.Ins.TheVariants.{Lui, Auipc, Jal, Jalr, Beq, Bne, Blt, Bge, Bltu, Bgeu, Lb, Lh, Lw, Ld, Lbu, Lhu, Lwu, Sb, Sh, Sw, Sd, Addi, Slti, Sltiu, Xori, Ori, Andi, Slli, Srli, Srai, Addiw, Slliw, Srliw, Sraiw, Add, Sub, Sll, Slt, Sltu, Xor, Srl, Sra, Or, And, Mul, Mulh, Mulhsu, Mulhu, Div, Divu, Rem, Remu, Addw, Subw, Sllw, Srlw, Sraw, Mulw, Divw, Divuw, Remw, Remuw, Fence, FenceI, Ecall, Ebreak}
+use Rattle.machine_defs.specs.Instruction.{FitsFormat}
+use Rattle.machine_defs.specs.Text.{form_of, operands_text, show, IsWord}
+use Rattle.machine_defs.specs.Assembly.{IsSkipped, IsLineOf, IsBad, Assembles, IsFirstBad}
+use Rattle.machine_defs.specs.TextLaws.{OneCodeAssembles, OneLineIsFirstBad, NoneIsBadOfCode}
 use Rattle.rv_text.proofs.OneWord.{one-word}
 use Rattle.rv_text.proofs.OneText.{one-text}
 

@@ -1,11 +1,11 @@
 -- At most one instruction that fits has a text: what is read of the text is its row and its operands, and these give a word that encodes it.
 use Rattle.std.proofs.Common.{◌≡◌, ℕ, ℤ, ◌+◌, ◌*◌, ◌/◌, ◌%◌, ◌^◌, ◌<◌, List, take, drop, Some, refl, sym, ap, ◌∙◌, subst, arith}
-use Rattle.isa_defs.specs.declared.ins.Ins.{Ins}
-use Rattle.isa_defs.specs.Instruction.{FitsFormat, IsImmediate}
-use Rattle.text_defs.specs.declared.operands.Operands.{Operands}
-use Rattle.text_defs.specs.declared.operands.Operands.TheVariants.{Registers, Immediate, Shift, WordShift, Address, Store, Branch, Jump, Upper, Bare}
-use Rattle.text_defs.specs.Text.{form_of, show, IsWord}
-use Rattle.text_defs.specs.Laws.{OneInstructionHasText}
+use Rattle.machine_defs.specs.declared.ins.Ins.{Ins}
+use Rattle.machine_defs.specs.Instruction.{FitsFormat, IsImmediate}
+use Rattle.machine_defs.specs.declared.operands.Operands.{Operands}
+use Rattle.machine_defs.specs.declared.operands.Operands.TheVariants.{Registers, Immediate, Shift, WordShift, Address, Store, Branch, Jump, Upper, Bare}
+use Rattle.machine_defs.specs.Text.{form_of, show, IsWord}
+use Rattle.machine_defs.specs.TextLaws.{OneInstructionHasText}
 use Rattle.rv_text.specs.declared.names.TheConstants.{TEMPLATES}
 use Rattle.rv_text.specs.Reading.{space_at, named_in, numbers_in, filled}
 use Rattle.rv_text.specs.Words.{FitsOperands, HasBits, IsBits}

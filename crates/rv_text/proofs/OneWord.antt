@@ -8,18 +8,18 @@ use Rattle.std.proofs.lemmas.Nat.Bits.{and_high}
 use Rattle.std.proofs.lemmas.Int.{ints}
 use Rattle.std.proofs.lemmas.Bool.{cases_lt}
 use Rattle.std.proofs.lemmas.Bool.Decides.{nat_tests}
-use Rattle.isa_defs.specs.declared.ins.Ins.{Ins}
-use Rattle.isa_defs.specs.Instruction.{bits, part, sign_extended}
-use Rattle.isa_defs.specs.Row.{Row, fits, matches, encoded_in}
-use Rattle.isa_defs.specs.Table.{rd, rs1, rs2, i_immediate, s_immediate, b_immediate, u_immediate, j_immediate, shift_amount, word_shift_amount, full_forms}
-use Rattle.isa_defs.specs.Compressed.{compressed_forms}
-use Rattle.isa_defs.specs.Decode.{decode, with_length}
-use Rattle.isa_defs.proofs.DecodeLaws.{◌also◌}
-use Rattle.isa_defs.proofs.RowLaws.{equal_from_true, implied, joined}
-use Rattle.text_defs.specs.declared.operands.Operands.{Operands}
-use Rattle.text_defs.specs.declared.operands.Operands.TheVariants.{Registers, Immediate, Shift, WordShift, Address, Store, Branch, Jump, Upper, Bare}
-use Rattle.text_defs.specs.Text.{form_of, IsWord, IsZeroWhereUnread}
-use Rattle.text_defs.specs.Laws.{OneWordEncodes}
+use Rattle.machine_defs.specs.declared.ins.Ins.{Ins}
+use Rattle.machine_defs.specs.Instruction.{bits, part, sign_extended}
+use Rattle.machine_defs.specs.Row.{Row, fits, matches, encoded_in}
+use Rattle.machine_defs.specs.Table.{rd, rs1, rs2, i_immediate, s_immediate, b_immediate, u_immediate, j_immediate, shift_amount, word_shift_amount, full_forms}
+use Rattle.machine_defs.specs.Compressed.{compressed_forms}
+use Rattle.machine_defs.specs.Decode.{decode, with_length}
+use Rattle.machine_defs.proofs.DecodeLaws.{◌also◌}
+use Rattle.machine_defs.proofs.RowLaws.{equal_from_true, implied, joined}
+use Rattle.machine_defs.specs.declared.operands.Operands.{Operands}
+use Rattle.machine_defs.specs.declared.operands.Operands.TheVariants.{Registers, Immediate, Shift, WordShift, Address, Store, Branch, Jump, Upper, Bare}
+use Rattle.machine_defs.specs.Text.{form_of, IsWord, IsZeroWhereUnread}
+use Rattle.machine_defs.specs.TextLaws.{OneWordEncodes}
 use Rattle.rv_text.specs.Words.{extended}
 use Rattle.rv_text.proofs.Widths.{extended-is}
 

@@ -10,11 +10,11 @@ use Rattle.std.proofs.lemmas.Str.{digit_value_digit}
 use Rattle.std.proofs.lemmas.Int.{ints}
 use Rattle.std.proofs.lemmas.Bool.Decides.{nat_tests}
 use Rattle.std.proofs.lemmas.Bool.{cases_lt}
-use Rattle.isa_defs.specs.Instruction.{bits, sign_extended, IsImmediate, IsAmount}
+use Rattle.machine_defs.specs.Instruction.{bits, sign_extended, IsImmediate, IsAmount}
 use Rattle.rv_text.specs.declared.read.Numbers.{Numbers}
-use Rattle.text_defs.specs.declared.operands.Operands.{Operands}
-use Rattle.text_defs.specs.declared.operands.Operands.TheVariants.{Registers, Immediate, Shift, WordShift, Address, Store, Branch, Jump, Upper, Bare}
-use Rattle.text_defs.specs.Text.{operands_text, pair, single, based, register, upper}
+use Rattle.machine_defs.specs.declared.operands.Operands.{Operands}
+use Rattle.machine_defs.specs.declared.operands.Operands.TheVariants.{Registers, Immediate, Shift, WordShift, Address, Store, Branch, Jump, Upper, Bare}
+use Rattle.machine_defs.specs.Text.{operands_text, pair, single, based, register, upper}
 use Rattle.rv_text.specs.Words.{FitsOperands}
 use Rattle.rv_text.specs.Reading.{space_at, is_digit, from_digit, leading, next_number, has_minus, numbers_in, signed, filled}
 use Rattle.rv_text.proofs.Steps.{digit-true, digit-here, digit-later, leading-stops, leading-more, no-leading}

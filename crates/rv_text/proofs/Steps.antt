@@ -5,8 +5,8 @@ use Rattle.std.specs.Prelude.{nat_lt}
 use Rattle.std.specs.Str.{bytes_eq}
 use Rattle.std.proofs.lemmas.Bool.Decides.{nat_tests}
 use Rattle.std.proofs.Math.Seq.{drop-cons}
-use Rattle.isa_defs.specs.declared.ins.Ins.{Ins}
-use Rattle.text_defs.specs.Text.{form_of}
+use Rattle.machine_defs.specs.declared.ins.Ins.{Ins}
+use Rattle.machine_defs.specs.Text.{form_of}
 use Rattle.rv_text.specs.Reading.{space_at, is_digit, from_digit, leading, named_in}
 
 pub space-here : (cs : List ℕ) (c : ℕ) → c ≡ 32 → space_at (c ∷ cs) ≡ 0

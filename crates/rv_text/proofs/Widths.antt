@@ -1,7 +1,7 @@
 -- The bits of a number by its width, and by the half of what the bits can hold.
 use Rattle.std.proofs.Common.{◌≡◌, ℕ, ℤ, ◌+◌, ◌-◌, ◌%◌, ◌^◌, ◌<◌, Option, Some, None, MatchOption, refl, sym, ◌∙◌, arith}
 use Rattle.std.specs.Prelude.{◌≢◌}
-use Rattle.isa_defs.specs.Instruction.{sign_extended, IsImmediate}
+use Rattle.machine_defs.specs.Instruction.{sign_extended, IsImmediate}
 use Rattle.rv_text.specs.Words.{IsBits, extended}
 
 pub extended-is : (width half n : ℕ) → 2 ^ (width - 1) ≡ half → 2 ^ width ≡ half + half → sign_extended width n ≡ extended half n

@@ -1,14 +1,14 @@
 -- The word that has an instruction's fixed bits and the bits of its operands encodes it: a line for each instruction,
 -- whose row of the table such a word matches.
 use Rattle.std.proofs.Common.{◌≡◌, ℕ, ◌+◌, ◌%◌, ℤ, refl, sym, ◌∙◌, subst, lit<}
-use Rattle.isa_defs.specs.declared.ins.Ins.{Ins}
-use Rattle.isa_defs.specs.declared.ins.Ins.TheVariants.{Lui, Auipc, Jal, Jalr, Beq, Bne, Blt, Bge, Bltu, Bgeu, Lb, Lh, Lw, Ld, Lbu, Lhu, Lwu, Sb, Sh, Sw, Sd, Addi, Slti, Sltiu, Xori, Ori, Andi, Slli, Srli, Srai, Addiw, Slliw, Srliw, Sraiw, Add, Sub, Sll, Slt, Sltu, Xor, Srl, Sra, Or, And, Mul, Mulh, Mulhsu, Mulhu, Div, Divu, Rem, Remu, Addw, Subw, Sllw, Srlw, Sraw, Mulw, Divw, Divuw, Remw, Remuw, Fence, FenceI, Ecall, Ebreak}
-use Rattle.isa_defs.specs.Instruction.{bits, FitsFormat}
-use Rattle.isa_defs.specs.Table.{rd, rs1, rs2, r_row, i_row, s_row, b_row, u_row, j_row, shift_row, word_shift_row, fence_row, system_row, full_forms}
-use Rattle.isa_defs.proofs.RowLaws.{narrowed, hit}
-use Rattle.text_defs.specs.declared.operands.Operands.TheVariants.{Registers, Immediate, Shift, WordShift, Address, Store, Branch, Jump, Upper, Bare}
+use Rattle.machine_defs.specs.declared.ins.Ins.{Ins}
+use Rattle.machine_defs.specs.declared.ins.Ins.TheVariants.{Lui, Auipc, Jal, Jalr, Beq, Bne, Blt, Bge, Bltu, Bgeu, Lb, Lh, Lw, Ld, Lbu, Lhu, Lwu, Sb, Sh, Sw, Sd, Addi, Slti, Sltiu, Xori, Ori, Andi, Slli, Srli, Srai, Addiw, Slliw, Srliw, Sraiw, Add, Sub, Sll, Slt, Sltu, Xor, Srl, Sra, Or, And, Mul, Mulh, Mulhsu, Mulhu, Div, Divu, Rem, Remu, Addw, Subw, Sllw, Srlw, Sraw, Mulw, Divw, Divuw, Remw, Remuw, Fence, FenceI, Ecall, Ebreak}
+use Rattle.machine_defs.specs.Instruction.{bits, FitsFormat}
+use Rattle.machine_defs.specs.Table.{rd, rs1, rs2, r_row, i_row, s_row, b_row, u_row, j_row, shift_row, word_shift_row, fence_row, system_row, full_forms}
+use Rattle.machine_defs.proofs.RowLaws.{narrowed, hit}
+use Rattle.machine_defs.specs.declared.operands.Operands.TheVariants.{Registers, Immediate, Shift, WordShift, Address, Store, Branch, Jump, Upper, Bare}
 use Rattle.rv_text.specs.Words.{HasBits, FitsOperands}
-use Rattle.text_defs.specs.Text.{form_of, IsWord, IsZeroWhereUnread}
+use Rattle.machine_defs.specs.Text.{form_of, IsWord, IsZeroWhereUnread}
 use Rattle.rv_text.proofs.Formats.{IsFullForm, r_is, i_is, s_is, b_is, u_is, j_is, shift_is, word_shift_is, bare_is}
 
 lui-is : (d : ℕ) (z : ℤ) (bits w : ℕ) → HasBits (Upper d z) bits → w ≡ (0x00000037 + bits) % 4294967296 → IsFullForm (Lui d z) w

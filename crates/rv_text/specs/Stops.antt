@@ -1,6 +1,6 @@
 -- What a stop of the assembler tells.
 use Rattle.std.specs.Prelude.{◌≡◌, ℕ, List}
-use Rattle.text_defs.specs.Assembly.{IsBad, IsFirstBad}
+use Rattle.machine_defs.specs.Assembly.{IsBad, IsFirstBad}
 use Rattle.rv_text.specs.declared.assembly.AssemblyStop.{AssemblyStop}
 use Rattle.rv_text.specs.declared.assembly.AssemblyStop.TheVariants.{BadLine, NoMemory}
 

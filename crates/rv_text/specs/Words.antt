@@ -1,8 +1,8 @@
 -- Where the bits of the operands stand in a word ("Base Instruction Formats", "Immediate Encoding Variants").
 use Rattle.std.specs.Prelude.{◌≡◌, ℕ, ℤ, pos, ◌-ℤ◌, nat_lt, if◌then◌else◌, ◌+◌, ◌*◌, ◌/◌, ◌%◌, ◌^◌, ◌<◌}
-use Rattle.isa_defs.specs.Instruction.{sign_extended, IsImmediate, IsAmount}
-use Rattle.text_defs.specs.declared.operands.Operands.{Operands}
-use Rattle.text_defs.specs.declared.operands.Operands.TheVariants.{Registers, Immediate, Shift, WordShift, Address, Store, Branch, Jump, Upper, Bare}
+use Rattle.machine_defs.specs.Instruction.{sign_extended, IsImmediate, IsAmount}
+use Rattle.machine_defs.specs.declared.operands.Operands.{Operands}
+use Rattle.machine_defs.specs.declared.operands.Operands.TheVariants.{Registers, Immediate, Shift, WordShift, Address, Store, Branch, Jump, Upper, Bare}
 
 abbrev pub FitsOperands : Operands → Type 0
 FitsOperands (Registers rd rs1 rs2) = ((rd < 32) × (rs1 < 32) × (rs2 < 32)) × Unit {0}

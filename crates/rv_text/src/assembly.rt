@@ -1,10 +1,10 @@
 // The words of a text of the assembler.
 ghost use Rattle.std.specs.Prelude.{◌≡◌, ◌≢◌, ◌≤◌, List, ℕ, ◌++◌, length, IfErr, IfOk, IsTrue, MatchOption, OnOk, ◌↔◌};
-ghost use Rattle.isa_defs.specs.declared.ins.Ins.{Ins};
-ghost use Rattle.isa_defs.specs.Instruction.{FitsFormat};
-ghost use Rattle.text_defs.specs.Text as texts;
-ghost use Rattle.text_defs.specs.Text.{IsWord};
-ghost use Rattle.text_defs.specs.Assembly.{Assembles, IsLineOf, IsSkipped, lines_of};
+ghost use Rattle.machine_defs.specs.declared.ins.Ins.{Ins};
+ghost use Rattle.machine_defs.specs.Instruction.{FitsFormat};
+ghost use Rattle.machine_defs.specs.Text as texts;
+ghost use Rattle.machine_defs.specs.Text.{IsWord};
+ghost use Rattle.machine_defs.specs.Assembly.{Assembles, IsLineOf, IsSkipped, lines_of};
 ghost use Rattle.rv_text.specs.Stops.{IsStopOf, IsStopOfLine};
 ghost use Rattle.rv_text.specs.Reading.{line_end};
 

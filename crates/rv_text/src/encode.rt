@@ -1,12 +1,11 @@
 // The word that encodes an instruction.
 ghost use Rattle.std.specs.Prelude.{◌≡◌, ◌≢◌, ℕ, ◌+◌, ◌-◌, ◌*◌, ◌%◌, ◌^◌, ◌<◌, ◌≤◌, ◌↔◌, pos, ◌-ℤ◌, ◌≤ℤ◌, ◌<ℤ◌, IfSome, IsSome, MatchOption};
-ghost use Rattle.isa_defs.specs.Instruction.{FitsFormat, IsAmount, IsImmediate};
-ghost use Rattle.text_defs.specs.Text.{IsWord};
+ghost use Rattle.machine_defs.specs.Instruction.{FitsFormat, IsAmount, IsImmediate};
+ghost use Rattle.machine_defs.specs.Text.{IsWord};
 ghost use Rattle.rv_text.specs.Words.{FitsOperands, HasBits, HasPair, IsBits, extended};
 
 use crate::table::form_of;
-use isa_defs::Ins;
-use text_defs::Operands;
+use machine_defs::{Ins, Operands};
 
 /// The word of the full form that encodes an instruction, with zeros where decoding does not look.
 ///

@@ -1,6 +1,6 @@
 // The file that the assembler writes.
 ghost use Rattle.std.specs.Prelude.{◌≡◌, IfOk};
-ghost use Rattle.text_defs.specs.File as layout;
+ghost use Rattle.machine_defs.specs.File as layout;
 
 use std::alloc::{AllocError, Global};
 
@@ -15,7 +15,7 @@ const HEAD: [u8; 96] = [
 const ALIGNMENT: u64 = 4096;
 
 /// An ELF file of this code: 120 bytes of headers, and the code.
-#[tactic(auto, unfolding(text_defs::specs::File::elf_file, text_defs::specs::File::head))]
+#[tactic(auto, unfolding(machine_defs::specs::File::elf_file, machine_defs::specs::File::head))]
 pub fn elf_file(alloc: Global, code: &[u8]) -> Result<Vec<u8>, AllocError>
     ensures { IfOk result (λ file. file.items ≡ layout.elf_file code.now) }
 {

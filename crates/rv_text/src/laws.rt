@@ -1,5 +1,5 @@
 // The laws of the texts.
-ghost use Rattle.text_defs.specs.Laws.{OneWordEncodes, OneInstructionHasText, OneCodeAssembles, OneLineIsFirstBad, NoneIsBadOfCode};
+ghost use Rattle.machine_defs.specs.TextLaws.{OneWordEncodes, OneInstructionHasText, OneCodeAssembles, OneLineIsFirstBad, NoneIsBadOfCode};
 
 /// States that a word, an instruction by its text, the code of lines and their first bad line are each at most one, and that
 /// lines that stand for code have no bad one. It does nothing.

@@ -5,7 +5,7 @@
 //! - `dis`: the listing of code. `assemble`: the words of a text. `elf_file`: the file of some code.
 //! - `text_laws`: what a text, a word and the lines of a text tell is at most one.
 //!
-//! Each is exact against the definitions of `text_defs`, over the instruction table of `isa_defs`. The commands that read
+//! Each is exact against the definitions of `machine_defs`, over the instruction table of `machine_defs`. The commands that read
 //! and print are left to the layer above.
 #![tactic(auto)]
 
@@ -23,8 +23,8 @@ mod text;
 pub use assembly::{AssemblyStop, assemble};
 pub use encode::word;
 pub use file::elf_file;
-pub use isa_defs::Ins;
 pub use laws::text_laws;
 pub use listing::dis;
+pub use machine_defs::Ins;
 pub use read::read_line;
 pub use shown::show;

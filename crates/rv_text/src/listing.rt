@@ -1,12 +1,12 @@
 // The listing of code.
 ghost use Rattle.std.specs.Prelude.{◌≡◌, ◌+◌, ◌-◌, ◌<◌, ◌≤◌, ◌++◌, length, slice_index, IfOk, IfSome, false};
 ghost use Rattle.std.specs.Fmt.{digit_glyph};
-ghost use Rattle.text_defs.specs.Listing as listing;
-ghost use Rattle.text_defs.specs.Listing.{data_of, first_part, hex_byte, instruction_of, line, word_of};
+ghost use Rattle.machine_defs.specs.Listing as listing;
+ghost use Rattle.machine_defs.specs.Listing.{data_of, first_part, hex_byte, instruction_of, line, word_of};
 
 use crate::shown::text_of;
 use crate::text::Text;
-use isa_defs::Ins;
+use machine_defs::Ins;
 use rv_decode::decode;
 use std::alloc::{AllocError, Global};
 
@@ -43,7 +43,7 @@ fn line_of(offset: usize, code: &[u8]) -> (Text, usize)
     (text, length)
 }
 
-#[tactic(auto, unfolding(text_defs::specs::Listing::first_part))]
+#[tactic(auto, unfolding(machine_defs::specs::Listing::first_part))]
 fn append_first_part(text: &mut Text, code: &[u8]) -> usize
     requires some { 0 < length code.now }
     requires room { length text.old ≤ 21 }
@@ -105,7 +105,7 @@ fn hex_digit(digit: u8) -> u8
 }
 
 /// The instruction at the start, if one lies inside the code, and its length.
-#[tactic(auto, unfolding(text_defs::specs::Listing::instruction_of))]
+#[tactic(auto, unfolding(machine_defs::specs::Listing::instruction_of))]
 fn instruction_of(code: &[u8]) -> Option<(Ins, u8)>
     ensures exact { result ≡ instruction_of code.now }
     ensures some { IfSome result (λ decoded. 0 < decoded.1) }

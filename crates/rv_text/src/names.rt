@@ -3,7 +3,7 @@ ghost use Rattle.std.specs.Prelude.{◌≡◌};
 ghost use Rattle.rv_text.specs.Reading.{named_in};
 
 use crate::table::form_of;
-use isa_defs::Ins;
+use machine_defs::Ins;
 
 macro_rules! template {
     ($name:ident $($field:ident)*) => {

@@ -1,18 +1,17 @@
 // The instruction whose text a line is.
 ghost use Rattle.std.specs.Prelude.{◌≡◌, ◌*◌, ◌%◌, ◌≤◌, IfSome, MatchOption, Some, drop, length, take};
-ghost use Rattle.isa_defs.specs.Instruction.{FitsFormat, sign_extended};
-ghost use Rattle.isa_defs.specs.declared.ins.Ins.{Ins};
-ghost use Rattle.text_defs.specs.Text as texts;
-ghost use Rattle.text_defs.specs.Text.{IsWord};
+ghost use Rattle.machine_defs.specs.Instruction.{FitsFormat, sign_extended};
+ghost use Rattle.machine_defs.specs.declared.ins.Ins.{Ins};
+ghost use Rattle.machine_defs.specs.Text as texts;
+ghost use Rattle.machine_defs.specs.Text.{IsWord};
 ghost use Rattle.rv_text.specs.Reading.{filled, from_digit, has_minus, leading, next_number, numbers_in, signed, space_at};
 
 use crate::encode::bits_of;
 use crate::names::named;
 use crate::shown::text_of;
 use crate::table::form_of;
-use isa_defs::Ins;
+use machine_defs::{Ins, Operands};
 use rv_decode::decode;
-use text_defs::Operands;
 
 /// The numbers of a line in their order, and whether it has a minus.
 #[derive(Clone, Copy)]
@@ -151,7 +150,7 @@ fn signed(is_negative: bool, number: u32) -> i64
     }
 }
 
-#[tactic(auto, unfolding(isa_defs::specs::Instruction::sign_extended))]
+#[tactic(auto, unfolding(machine_defs::specs::Instruction::sign_extended))]
 fn upper(number: u32) -> i64
     ensures { result ≡ sign_extended 32 (number % 1048576 * 4096) }
 {

@@ -1,14 +1,13 @@
 // The text of an instruction.
 ghost use Rattle.std.specs.Prelude.{◌≡◌, ℕ, ◌+◌, ◌≤◌, List, ◌++◌, length, IfOk};
 ghost use Rattle.std.specs.Fmt.{signed_decimal};
-ghost use Rattle.text_defs.specs.Text.{operands_text, pair, single, based, upper};
-ghost use Rattle.text_defs.specs.Text as texts;
+ghost use Rattle.machine_defs.specs.Text.{operands_text, pair, single, based, upper};
+ghost use Rattle.machine_defs.specs.Text as texts;
 
 use crate::table::form_of;
 use crate::text::Text;
-use isa_defs::Ins;
+use machine_defs::{Ins, Operands};
 use std::alloc::{AllocError, Global};
-use text_defs::Operands;
 
 /// The text of an instruction. Of one that does not fit it is the same form with its numbers as they are, and of LUI and
 /// AUIPC bits 31 to 12: nothing is said of what such a text is good for.
@@ -19,7 +18,7 @@ pub fn show(alloc: Global, i: &Ins) -> Result<Vec<u8>, AllocError>
 }
 
 /// The text, which takes no memory.
-#[tactic(auto, unfolding(text_defs::specs::Text::show))]
+#[tactic(auto, unfolding(machine_defs::specs::Text::show))]
 pub(crate) fn text_of(i: Ins) -> Text
     ensures text { result ≡ texts.show i }
     ensures room { length result ≤ 80 }
@@ -31,7 +30,7 @@ pub(crate) fn text_of(i: Ins) -> Text
     text
 }
 
-#[tactic(auto, unfolding(text_defs::specs::Text::operands_text))]
+#[tactic(auto, unfolding(machine_defs::specs::Text::operands_text))]
 fn append_operands(text: &mut Text, operands: Operands)
     requires { length text.old ≤ 7 }
     ensures text { text.new ≡ text.old ++ operands_text operands }
@@ -60,7 +59,7 @@ fn append_operands(text: &mut Text, operands: Operands)
     }
 }
 
-#[tactic(auto, unfolding(text_defs::specs::Text::upper, isa_defs::specs::Instruction::bits))]
+#[tactic(auto, unfolding(machine_defs::specs::Text::upper, machine_defs::specs::Instruction::bits))]
 fn upper(imm: i64) -> u64
     ensures { result ≡ upper imm }
 {

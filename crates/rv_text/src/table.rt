@@ -1,9 +1,8 @@
 // The table of names, words and operands.
 ghost use Rattle.std.specs.Prelude.{◌≡◌};
-ghost use Rattle.text_defs.specs.Text.{form, form_of};
+ghost use Rattle.machine_defs.specs.Text.{form, form_of};
 
-use isa_defs::Ins;
-use text_defs::Operands;
+use machine_defs::{Ins, Operands};
 
 /// An instruction's name, its word where all operands are zero, and its operands.
 pub(crate) fn form_of(i: Ins) -> (&'static str, u32, Operands)

@@ -1,7 +1,7 @@
 // A short text, which takes no memory.
 ghost use Rattle.std.specs.Prelude.{◌≡◌, ◌+◌, ◌<◌, ◌≤◌, [], ◌∷◌, ◌++◌, length};
 ghost use Rattle.std.specs.Fmt.{decimal, signed_decimal};
-ghost use Rattle.text_defs.specs.Text.{register};
+ghost use Rattle.machine_defs.specs.Text.{register};
 
 use std::marker::Model;
 

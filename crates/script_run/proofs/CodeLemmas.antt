@@ -6,11 +6,11 @@ use Rattle.std.specs.Str.{bytes_eq}
 use Rattle.std.specs.Option.{option_map}
 use Rattle.std.proofs.lemmas.List.{drop_all}
 use Rattle.std.proofs.lemmas.Option.{same_Some}
-use Rattle.codec_defs.specs.Schema.{Script}
+use Rattle.chain_defs.specs.Schema.{Script}
 use Rattle.cell_defs.specs.Cell.{script_hash, data_hash}
 use Rattle.cell_model.specs.Copies.{ResolvedValue}
-use Rattle.script_defs.specs.Codes.{Code, NoCode, ManyCodes, Is, has_data_hash, has_type_hash, is_script_of_hash, code_by_data, code_by_type, code_in, only_code}
-use Rattle.script_defs.specs.Scene.{ShownCell}
+use Rattle.verdict_defs.specs.Codes.{Code, NoCode, ManyCodes, Is, has_data_hash, has_type_hash, is_script_of_hash, code_by_data, code_by_type, code_in, only_code}
+use Rattle.verdict_defs.specs.Scene.{ShownCell}
 use Rattle.script_run.specs.Locating.{first_with_data, typed_with, typed_from, is_hash}
 use Rattle.script_run.specs.Shown.{IsShownAs}
 use Rattle.script_run.specs.declared.codes.Typed.{Typed}

@@ -6,15 +6,15 @@ use Rattle.std.specs.List.{All, AllZip, list_all}
 use Rattle.std.proofs.lemmas.Bool.{false≢true, eqb-true, eq-eqb, ne_eqb, lt-ltb, ltb-true}
 use Rattle.std.proofs.lemmas.List.{drop_all, drop_more}
 use Rattle.std.proofs.lemmas.Option.{slice_get_within}
-use Rattle.codec_defs.specs.Shape.{decoded}
-use Rattle.codec_defs.specs.Schema.{CellOutput, cell_output, Header}
+use Rattle.chain_defs.specs.Shape.{decoded}
+use Rattle.chain_defs.specs.Schema.{CellOutput, cell_output, Header}
 use Rattle.cell_defs.specs.Cell.{script_hash}
 use Rattle.cell_model.specs.Copies.{ResolvedValue, ResolvedTxValue}
 use Rattle.chain_tree.specs.declared.entry.Entry.{Entry}
-use Rattle.script_defs.specs.Scene.{ShownCell}
+use Rattle.verdict_defs.specs.Scene.{ShownCell}
 use Rattle.script_run.specs.Fitting.{Fits, agree, is_typed, record_of, typed_as, uncopied, unfit, unkept, untyped}
 use Rattle.chain_tree.specs.Told.{Stored}
-use Rattle.script_defs.specs.Scene.{Scene}
+use Rattle.verdict_defs.specs.Scene.{Scene}
 use Rattle.script_run.specs.Lookups.{kept_header}
 use Rattle.script_run.specs.Showing.{scene_shown}
 use Rattle.script_run.specs.Shown.{IsShownAs}

@@ -9,10 +9,10 @@ use Rattle.std.proofs.lemmas.List.{append-nil, append_assoc, map-append}
 use Rattle.std.proofs.lemmas.List.Elements.{All-append, All-map, All-same, filter_map-append}
 use Rattle.std.specs.Option.{option_map}
 use Rattle.std.proofs.lemmas.Option.{same_Some}
-use Rattle.codec_defs.specs.Schema.{Script, CellOutput, Transaction}
+use Rattle.chain_defs.specs.Schema.{Script, CellOutput, Transaction}
 use Rattle.cell_defs.specs.Cell.{script_hash}
-use Rattle.script_defs.specs.Groups.{Group, has_hash, first_scripts, places_with, present, input_locks, lock_group, lock_groups, type_groups, groups_of}
-use Rattle.script_defs.specs.Scene.{Scene, ShownCell}
+use Rattle.verdict_defs.specs.Groups.{Group, has_hash, first_scripts, places_with, present, input_locks, lock_group, lock_groups, type_groups, groups_of}
+use Rattle.verdict_defs.specs.Scene.{Scene, ShownCell}
 use Rattle.script_run.specs.Shown.{GroupValue, HasItsHash}
 use Rattle.script_run.specs.Grouping.{group_for, grouped, new_group, with_group, with_input, with_output, changed, place_with, FindsEach}
 use Rattle.script_run.proofs.ScriptLemmas.{NoneHas, Apart, same-is, same-itself, with_script, first-push, apart-first, none-of_first, places-none, places-other, places-one, places-empty, none-front, none-back}

@@ -8,16 +8,16 @@ use Rattle.std.proofs.lemmas.Option.{slice_get-map, get_or_from_slice_get}
 use Rattle.std.proofs.lemmas.Bool.{eqb-true}
 use Rattle.std.proofs.lemmas.List.{length-map}
 use Rattle.std.proofs.lemmas.List.FromFn.{length-enumerate_from}
-use Rattle.codec_defs.specs.Shape.{decoded}
-use Rattle.codec_defs.specs.Schema.{Header, CellInput, CellOutput, cell_output, Transaction}
+use Rattle.chain_defs.specs.Shape.{decoded}
+use Rattle.chain_defs.specs.Schema.{Header, CellInput, CellOutput, cell_output, Transaction}
 use Rattle.cell_defs.specs.Row.{Row}
 use Rattle.cell_defs.specs.Cell.{data_of}
 use Rattle.cell_model.specs.Copies.{ResolvedValue}
-use Rattle.sys_defs.specs.World.{Call, Item, Here, NoIndex, Missing, Unknown}
-use Rattle.script_defs.specs.Scene.{Scene, ShownCell}
-use Rattle.script_defs.specs.Items.{OutputWithData, answer, item_at, listed, output_of}
-use Rattle.script_defs.specs.Groups.{Group}
-use Rattle.script_defs.specs.Sources.{Place, place_in_source, source_of}
+use Rattle.machine_defs.specs.World.{Call, Item, Here, NoIndex, Missing, Unknown}
+use Rattle.verdict_defs.specs.Scene.{Scene, ShownCell}
+use Rattle.verdict_defs.specs.Items.{OutputWithData, answer, item_at, listed, output_of}
+use Rattle.verdict_defs.specs.Groups.{Group}
+use Rattle.verdict_defs.specs.Sources.{Place, place_in_source, source_of}
 use Rattle.script_run.specs.declared.bytes.Answer.{Answer}
 use Rattle.script_run.specs.declared.bytes.CellPart.{CellPart}
 use Rattle.script_run.specs.declared.bytes.HeaderPart.{HeaderPart}

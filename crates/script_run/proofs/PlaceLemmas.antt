@@ -3,7 +3,7 @@ use Rattle.std.proofs.Common.{◌≡◌, ℕ, zero, suc, List, [], ◌∷◌, le
 use Rattle.std.specs.Prelude.{slice_get}
 use Rattle.std.specs.List.{AllZip}
 use Rattle.cell_model.specs.Copies.{ResolvedTxValue}
-use Rattle.script_defs.specs.Scene.{Scene}
+use Rattle.verdict_defs.specs.Scene.{Scene}
 use Rattle.script_run.specs.Shown.{IsShownAs, Shows}
 
 -- ---- Lists side by side

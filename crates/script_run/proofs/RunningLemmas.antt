@@ -6,16 +6,16 @@ use Rattle.std.specs.Option.{option_map}
 use Rattle.std.proofs.lemmas.List.{drop_all, length-map}
 use Rattle.std.proofs.lemmas.List.Elements.{All-get_or}
 use Rattle.std.proofs.lemmas.Option.{slice_get_within, get_or_from_slice_get, slice_get-get_or, slice_get-map}
-use Rattle.codec_defs.specs.Schema.{Script}
+use Rattle.chain_defs.specs.Schema.{Script}
 use Rattle.cell_model.specs.Copies.{ResolvedValue}
-use Rattle.vm_defs.specs.Program.{Execution, execution}
-use Rattle.sys_defs.specs.Answer.{syscall}
-use Rattle.script_defs.specs.declared.failure.Failure.{Failure}
-use Rattle.script_defs.specs.Scene.{Scene}
-use Rattle.script_defs.specs.Groups.{Group, groups_of}
-use Rattle.script_defs.specs.Codes.{Code, Is, code_of, is_type_id}
-use Rattle.script_defs.specs.Items.{items}
-use Rattle.script_defs.specs.Outcome.{has_no_code, lacks_code, or_later, first_without_code, executed, run_code, run_type_id, run_group, with_cycles, followed_by, run_from, unless, outcome_of}
+use Rattle.machine_defs.specs.Program.{Execution, execution}
+use Rattle.machine_defs.specs.Answer.{syscall}
+use Rattle.verdict_defs.specs.declared.failure.Failure.{Failure}
+use Rattle.verdict_defs.specs.Scene.{Scene}
+use Rattle.verdict_defs.specs.Groups.{Group, groups_of}
+use Rattle.verdict_defs.specs.Codes.{Code, Is, code_of, is_type_id}
+use Rattle.verdict_defs.specs.Items.{items}
+use Rattle.verdict_defs.specs.Outcome.{has_no_code, lacks_code, or_later, first_without_code, executed, run_code, run_type_id, run_group, with_cycles, followed_by, run_from, unless, outcome_of}
 use Rattle.script_run.specs.declared.stop.ScriptStop.{ScriptStop}
 use Rattle.script_run.specs.declared.stop.ScriptStop.TheVariants.{Failed, Read}
 use Rattle.script_run.specs.Running.{IsOutcome, answer_of, read_stop_of}

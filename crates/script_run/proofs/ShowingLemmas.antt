@@ -5,15 +5,15 @@ use Rattle.std.specs.Option.{option_map, option_and_then}
 use Rattle.std.specs.List.{AllZip}
 use Rattle.std.proofs.lemmas.Bool.{and_parts, eqb-true}
 use Rattle.std.proofs.lemmas.Slice.Eq.{bytes_eq-Decides}
-use Rattle.codec_defs.specs.Shape.{decoded}
-use Rattle.codec_defs.specs.Schema.{Header, CellOutput, cell_output, Transaction}
+use Rattle.chain_defs.specs.Shape.{decoded}
+use Rattle.chain_defs.specs.Schema.{Header, CellOutput, cell_output, Transaction}
 use Rattle.chain_defs.specs.Hashes.{transaction_hash}
 use Rattle.cell_defs.specs.Cell.{script_hash, data_hash}
 use Rattle.cell_model.specs.Copies.{ResolvedValue, ResolvedTxValue}
 use Rattle.chain_tree.specs.Told.{Stored}
-use Rattle.tx_defs.specs.Site.{all_there}
-use Rattle.sys_defs.specs.World.{Items}
-use Rattle.script_defs.specs.Scene.{Scene, ShownCell}
+use Rattle.rule_defs.specs.Site.{all_there}
+use Rattle.machine_defs.specs.World.{Items}
+use Rattle.verdict_defs.specs.Scene.{Scene, ShownCell}
 use Rattle.script_run.specs.Lookups.{ShowsHeaders, items_of, known_items, kept_header}
 use Rattle.script_run.specs.Showing.{cell_shown, cells_shown, has_hashes, header_of, headers_shown, is_whole, same_hash, scene_shown, scene_with}
 use Rattle.script_run.specs.Shown.{GroupValue, IsShownAs, Shows}

@@ -4,16 +4,16 @@ use Rattle.std.specs.Prelude.{◌==◌}
 use Rattle.std.specs.Option.{option_map}
 use Rattle.std.specs.List.{find}
 use Rattle.std.proofs.lemmas.Bool.{eqb-true, ne_eqb}
-use Rattle.codec_defs.specs.Shape.{encoded}
-use Rattle.codec_defs.specs.Schema.{header, script, transaction}
+use Rattle.chain_defs.specs.Shape.{encoded}
+use Rattle.chain_defs.specs.Schema.{header, script, transaction}
 use Rattle.cell_defs.specs.Cell.{script_hash}
 use Rattle.chain_defs.specs.Hashes.{transaction_hash}
-use Rattle.sys_defs.specs.Table.{Syscall, syscalls, row}
-use Rattle.sys_defs.specs.Table as table
-use Rattle.sys_defs.specs.World.{Call, Here, Unknown}
-use Rattle.script_defs.specs.Scene.{Scene}
-use Rattle.script_defs.specs.Groups.{Group}
-use Rattle.script_defs.specs.Items.{cell_at, cell_fields, field, header_at, header_fields, input_at, input_fields, item_of_row, items, listed, whole, witness_at}
+use Rattle.machine_defs.specs.SyscallTable.{Syscall, syscalls, row}
+use Rattle.machine_defs.specs.SyscallTable as table
+use Rattle.machine_defs.specs.World.{Call, Here, Unknown}
+use Rattle.verdict_defs.specs.Scene.{Scene}
+use Rattle.verdict_defs.specs.Groups.{Group}
+use Rattle.verdict_defs.specs.Items.{cell_at, cell_fields, field, header_at, header_fields, input_at, input_fields, item_of_row, items, listed, whole, witness_at}
 use Rattle.script_run.specs.declared.bytes.CellPart.TheVariants.{Output, Data}
 use Rattle.script_run.specs.declared.bytes.InputPart.TheVariants.{Whole}
 use Rattle.script_run.specs.Lookups.{cell_part, input_part, items_of}

@@ -6,7 +6,7 @@ use Rattle.std.specs.List.{AllZip, enumerate_from}
 use Rattle.std.proofs.lemmas.List.{take_more, take_all, map-append, length-map, length-take-le}
 use Rattle.std.proofs.lemmas.List.FromFn.{length-enumerate_from}
 use Rattle.std.proofs.lemmas.Option.{slice_get_within, get_or_from_slice_get, same_Some}
-use Rattle.codec_defs.specs.Schema.{Transaction, CellOutput}
+use Rattle.chain_defs.specs.Schema.{Transaction, CellOutput}
 use Rattle.cell_defs.specs.Cell.{script_hash}
 use Rattle.cell_defs.specs.Row.{Row}
 use Rattle.script_run.specs.Shown.{output_row, output_rows}

@@ -2,11 +2,11 @@
 use Rattle.std.proofs.Common.{◌≡◌, ℕ, List, Option, Some, None, refl, subst}
 use Rattle.std.specs.Prelude.{IfSome, IsSomeAnd, slice_get}
 use Rattle.std.specs.Option.{option_map}
-use Rattle.codec_defs.specs.Schema.{Header}
+use Rattle.chain_defs.specs.Schema.{Header}
 use Rattle.cell_model.specs.Copies.{ResolvedTxValue}
 use Rattle.chain_tree.specs.Told.{Stored}
-use Rattle.sys_defs.specs.World.{Call, Item, Items, Here, Unknown}
-use Rattle.script_defs.specs.Scene.{Scene}
+use Rattle.machine_defs.specs.World.{Call, Item, Items, Here, Unknown}
+use Rattle.verdict_defs.specs.Scene.{Scene}
 use Rattle.script_run.specs.declared.bytes.Lookup.{Lookup}
 use Rattle.script_run.specs.Lookups.{IsFound, ShowsHeaders, items_of, known_items, kept_header}
 use Rattle.script_run.specs.Showing.{scene_shown}

@@ -3,9 +3,9 @@ use Rattle.std.specs.Prelude.{◌≡◌, ℕ, suc, List, [], ◌∷◌, ◌++◌
 use Rattle.std.specs.List.{filter_map}
 use Rattle.std.specs.Map.{lookup}
 use Rattle.std.specs.Str.{bytes_eq}
-use Rattle.codec_defs.specs.Schema.{Script}
+use Rattle.chain_defs.specs.Schema.{Script}
 use Rattle.cell_defs.specs.Cell.{script_hash}
-use Rattle.script_defs.specs.Groups.{first_scripts, places_with, present}
+use Rattle.verdict_defs.specs.Groups.{first_scripts, places_with, present}
 use Rattle.script_run.specs.Shown.{GroupValue}
 
 -- ---- The groups of scripts that inputs and outputs may have

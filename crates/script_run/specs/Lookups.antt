@@ -2,20 +2,20 @@
 use Rattle.std.specs.Prelude.{◌≡◌, ⊤, true, ℕ, ◌*◌, ◌<◌, ◌==◌, List, Option, Some, None, IsSome, IsSomeAnd, slice_get, if◌then◌else◌}
 use Rattle.std.specs.Option.{option_map, option_and_then}
 use Rattle.std.specs.List.{AllZip, list_any}
-use Rattle.codec_defs.specs.Shape.{encoded}
-use Rattle.codec_defs.specs.Schema.{Header, header, CellInput, cell_input, cell_output, out_point, script, transaction}
+use Rattle.chain_defs.specs.Shape.{encoded}
+use Rattle.chain_defs.specs.Schema.{Header, header, CellInput, cell_input, cell_output, out_point, script, transaction}
 use Rattle.chain_defs.specs.Hashes.{transaction_hash}
-use Rattle.time_defs.specs.Epochs.{epoch_number}
+use Rattle.chain_defs.specs.Epochs.{epoch_number}
 use Rattle.cell_defs.specs.Row.{Row}
 use Rattle.cell_defs.specs.Cell.{script_hash, data_hash, occupied_by}
 use Rattle.cell_model.specs.Copies.{ResolvedTxValue}
 use Rattle.chain_tree.specs.Told.{Stored}
 use Rattle.chain_tree.specs.Reading.{Findings}
 use Rattle.outside.specs.declared.disk.Damage.{Damage}
-use Rattle.sys_defs.specs.World as world
-use Rattle.sys_defs.specs.World.{Call, Item, Items}
-use Rattle.script_defs.specs.Scene.{Scene}
-use Rattle.script_defs.specs.Items.{OutputWithData, cell_at, header_at, input_at, items, listed, u64_bytes, whole, witness_at}
+use Rattle.machine_defs.specs.World as world
+use Rattle.machine_defs.specs.World.{Call, Item, Items}
+use Rattle.verdict_defs.specs.Scene.{Scene}
+use Rattle.verdict_defs.specs.Items.{OutputWithData, cell_at, header_at, input_at, items, listed, u64_bytes, whole, witness_at}
 use Rattle.script_run.specs.Showing.{scene_shown}
 use Rattle.script_run.specs.Shown.{GroupValue}
 use Rattle.script_run.specs.declared.bytes.Bytes.{Bytes}

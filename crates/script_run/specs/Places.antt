@@ -1,6 +1,6 @@
 -- Sources and places of the code in the definitions' terms.
 use Rattle.std.specs.Prelude.{Option, Some, None}
-use Rattle.script_defs.specs.Sources as sources
+use Rattle.verdict_defs.specs.Sources as sources
 use Rattle.script_run.specs.declared.sources.Source.{Source}
 use Rattle.script_run.specs.declared.sources.Source.TheVariants as source
 use Rattle.script_run.specs.declared.sources.Place.{Place}

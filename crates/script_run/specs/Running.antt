@@ -1,10 +1,10 @@
 -- The answers of the code beside those of the definitions.
 use Rattle.std.specs.Prelude.{◌≡◌, ⊤, ℕ, ◌≤◌, Option, Some, None, Result, Ok, Err}
 use Rattle.outside.specs.declared.disk.ReadStop.{ReadStop}
-use Rattle.vm_defs.specs.declared.outcome.Outcome.TheVariants as outcome
+use Rattle.machine_defs.specs.declared.outcome.Outcome.TheVariants as outcome
 use Rattle.program_run.specs.declared.program.Execution.{Execution}
 use Rattle.program_run.specs.declared.program.Execution.TheVariants.{Ended, BadElf}
-use Rattle.script_defs.specs.declared.failure.Failure.{Failure}
+use Rattle.verdict_defs.specs.declared.failure.Failure.{Failure}
 use Rattle.script_run.specs.declared.stop.ScriptStop.{ScriptStop}
 use Rattle.script_run.specs.declared.stop.ScriptStop.TheVariants.{Failed, Read}
 

@@ -3,15 +3,15 @@ use Rattle.std.specs.Prelude.{ℕ, Bool, true, false, ◌&&◌, ◌==◌, List, 
 use Rattle.std.specs.Option.{option_map, option_and_then}
 use Rattle.std.specs.List.{list_any}
 use Rattle.std.specs.Str.{bytes_eq}
-use Rattle.codec_defs.specs.Shape.{decoded}
-use Rattle.codec_defs.specs.Schema.{Header, CellOutput, cell_output, Transaction}
+use Rattle.chain_defs.specs.Shape.{decoded}
+use Rattle.chain_defs.specs.Schema.{Header, CellOutput, cell_output, Transaction}
 use Rattle.chain_defs.specs.Hashes.{transaction_hash}
 use Rattle.cell_defs.specs.Cell.{script_hash, data_hash}
 use Rattle.cell_defs.specs.Row.{Row}
 use Rattle.chain_tree.specs.Told.{Stored}
 use Rattle.cell_model.specs.Copies.{ResolvedValue, ResolvedTxValue}
-use Rattle.tx_defs.specs.Site.{all_there}
-use Rattle.script_defs.specs.Scene.{Scene, ShownCell}
+use Rattle.rule_defs.specs.Site.{all_there}
+use Rattle.verdict_defs.specs.Scene.{Scene, ShownCell}
 
 -- The header of the block that made a cell, where its place is among those of the header deps.
 abbrev pub header_of : List Stored → List ℕ → ℕ → Option Header

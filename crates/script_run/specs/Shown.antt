@@ -2,15 +2,15 @@
 use Rattle.std.specs.Prelude.{◌≡◌, ℕ, List, map, length, Some}
 use Rattle.std.specs.Option.{option_map}
 use Rattle.std.specs.List.{AllZip, enumerate_from}
-use Rattle.codec_defs.specs.Shape.{decoded}
-use Rattle.codec_defs.specs.Schema.{CellOutput, cell_output, Transaction}
+use Rattle.chain_defs.specs.Shape.{decoded}
+use Rattle.chain_defs.specs.Schema.{CellOutput, cell_output, Transaction}
 use Rattle.chain_defs.specs.Hashes.{transaction_hash}
 use Rattle.cell_defs.specs.Cell.{script_hash, data_hash, data_of}
 use Rattle.cell_defs.specs.Row.{Row, row_of}
 use Rattle.cell_model.specs.Copies.{ResolvedValue, ResolvedTxValue}
-use Rattle.script_defs.specs.Scene.{Scene, ShownCell}
-use Rattle.script_defs.specs.Groups.{Group}
-use Rattle.script_defs.specs.Codes as codes
+use Rattle.verdict_defs.specs.Scene.{Scene, ShownCell}
+use Rattle.verdict_defs.specs.Groups.{Group}
+use Rattle.verdict_defs.specs.Codes as codes
 use Rattle.script_run.specs.declared.codes.Located.{Located}
 use Rattle.script_run.specs.declared.codes.Located.TheVariants.{NoCode, ManyCodes, At}
 

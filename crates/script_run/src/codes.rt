@@ -3,8 +3,8 @@ ghost use Rattle.std.specs.Prelude.{◌≡◌, ℕ, List, IfOk};
 ghost use Rattle.std.specs.HashMap.{get};
 ghost use Rattle.std.specs.List.{AllZip};
 ghost use Rattle.std.specs.Str.{bytes_eq};
-ghost use Rattle.script_defs.specs.Codes.{code_of, code_by_data, code_by_type};
-ghost use Rattle.script_defs.specs.Scene.{ShownCell};
+ghost use Rattle.verdict_defs.specs.Codes.{code_of, code_by_data, code_by_type};
+ghost use Rattle.verdict_defs.specs.Scene.{ShownCell};
 ghost use Rattle.script_run.specs.Locating.{first_with_data, typed_with};
 ghost use Rattle.script_run.specs.Shown.{IsShownAs, code_meaning};
 
@@ -140,7 +140,7 @@ impl<'a> Codes<'a> {
     }
 
     /// The code of a script.
-    #[tactic(auto, unfolding(script_defs::specs::Codes::code_of))]
+    #[tactic(auto, unfolding(verdict_defs::specs::Codes::code_of))]
     pub(crate) fn find(&self, script: &ScriptView<'_>) -> Located<'a>
         ensures { (cells : List ShownCell) → AllZip IsShownAs self.now cells → code_meaning result ≡ code_of cells script.now }
     {

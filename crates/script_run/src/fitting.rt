@@ -1,7 +1,7 @@
 // Whether what a transaction resolves to can be shown to its scripts, which is tried before one of them runs.
 ghost use Rattle.std.specs.Prelude.{◌≡◌, ◌^◌, ◌<◌, IsTrue, Some, None, length};
-ghost use Rattle.codec_defs.specs.Shape.{decoded};
-ghost use Rattle.codec_defs.specs.Schema.{cell_output};
+ghost use Rattle.chain_defs.specs.Shape.{decoded};
+ghost use Rattle.chain_defs.specs.Schema.{cell_output};
 ghost use Rattle.script_run.specs.Fitting as defs;
 
 use cell_model::{Resolved, ResolvedTx};

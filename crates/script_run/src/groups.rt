@@ -2,10 +2,10 @@
 ghost use Rattle.std.specs.Prelude.{◌≡◌, ◌^◌, ◌<◌, ◌++◌, ◌∷◌, [], IsTrue, List, Option, Some, length, map, IfOk, OnOk};
 ghost use Rattle.std.specs.List.{All, AllZip};
 ghost use Rattle.std.specs.Option.{option_map};
-ghost use Rattle.codec_defs.specs.Schema.{Script};
+ghost use Rattle.chain_defs.specs.Schema.{Script};
 ghost use Rattle.cell_defs.specs.Cell.{script_hash};
-ghost use Rattle.script_defs.specs.Groups as defs;
-ghost use Rattle.script_defs.specs.Scene.{Scene, ShownCell};
+ghost use Rattle.verdict_defs.specs.Groups as defs;
+ghost use Rattle.verdict_defs.specs.Scene.{Scene, ShownCell};
 ghost use Rattle.script_run.specs.Fitting.{is_typed};
 ghost use Rattle.script_run.specs.Grouping.{FindsEach, grouped, with_group, with_input, with_output, changed, place_with};
 ghost use Rattle.script_run.specs.Shown.{HasItsHash, IsShownAs, Shows, output_rows};

@@ -1,14 +1,14 @@
 // What a script is shown, as far as no kept block is read (RFC 0009; docs/MACHINE.md, "What a script is shown").
 ghost use Rattle.std.specs.Prelude.{◌≡◌, ℕ, ◌*◌, ◌^◌, ◌<◌, IsTrue, List, Option, Some, None, slice_get};
 ghost use Rattle.std.specs.List.{All, AllZip};
-ghost use Rattle.sys_defs.specs.World.{Here};
+ghost use Rattle.machine_defs.specs.World.{Here};
 ghost use Rattle.std.specs.Option.{option_map, option_and_then};
 ghost use Rattle.std.specs.Int.{w64, to_le_bytes};
-ghost use Rattle.codec_defs.specs.Schema.{Header};
+ghost use Rattle.chain_defs.specs.Schema.{Header};
 ghost use Rattle.cell_defs.specs.Cell.{data_of, occupied_by};
-ghost use Rattle.script_defs.specs.Scene.{Scene, ShownCell};
-ghost use Rattle.script_defs.specs.Items as defs;
-ghost use Rattle.script_defs.specs.Items.{OutputWithData, answer, field, cell_fields, header_fields, input_fields, item_at, listed, output_of, whole};
+ghost use Rattle.verdict_defs.specs.Scene.{Scene, ShownCell};
+ghost use Rattle.verdict_defs.specs.Items as defs;
+ghost use Rattle.verdict_defs.specs.Items.{OutputWithData, answer, field, cell_fields, header_fields, input_fields, item_at, listed, output_of, whole};
 ghost use Rattle.script_run.specs.Fitting.{is_typed};
 ghost use Rattle.script_run.specs.Lookups.{HasHashes, IsFound, IsOfKept, ShowsHeaders, cell_part, header_among, header_part, input_part, item_of, items_of, load_meaning};
 ghost use Rattle.script_run.specs.Places.{place_meaning};
@@ -69,7 +69,7 @@ fn load_of(call: &Call) -> Load
 
 // ---- Fields
 
-#[tactic(auto, unfolding(script_defs::specs::Items::cell_fields))]
+#[tactic(auto, unfolding(verdict_defs::specs::Items::cell_fields))]
 fn cell_field(number: u64) -> Option<CellPart>
     ensures { option_map cell_part result ≡ field cell_fields number }
 {
@@ -85,7 +85,7 @@ fn cell_field(number: u64) -> Option<CellPart>
     }
 }
 
-#[tactic(auto, unfolding(script_defs::specs::Items::header_fields))]
+#[tactic(auto, unfolding(verdict_defs::specs::Items::header_fields))]
 fn header_field(number: u64) -> Option<HeaderPart>
     ensures { (length : ℕ) → option_map (λ part h. Some (header_part length part h)) result ≡ field (header_fields length) number }
 {
@@ -97,7 +97,7 @@ fn header_field(number: u64) -> Option<HeaderPart>
     }
 }
 
-#[tactic(auto, unfolding(script_defs::specs::Items::input_fields))]
+#[tactic(auto, unfolding(verdict_defs::specs::Items::input_fields))]
 fn input_field(number: u64) -> Option<InputPart>
     ensures { option_map input_part result ≡ field input_fields number }
 {

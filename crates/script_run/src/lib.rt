@@ -2,7 +2,7 @@
 //!
 //! [`run_groups`] is the contract of use: over a transaction with what it resolves to, and a source of kept blocks, it
 //! answers the cycles that its scripts take within a budget, or the first failure, exactly by `outcome_of` of
-//! `script_defs`. Scripts are shown parts of the transaction and of the cells as they lie; what is computed or read for
+//! `verdict_defs`. Scripts are shown parts of the transaction and of the cells as they lie; what is computed or read for
 //! them, a hash, a number or a header, stands in a few bytes of its own. What the transaction resolves to is left to
 //! `tx_rules`, which rule a failure breaks to the layers above.
 #![tactic(auto)]

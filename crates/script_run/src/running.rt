@@ -7,8 +7,8 @@ ghost use Rattle.outside.specs.declared.disk.ReadStop.TheVariants.{Damaged};
 ghost use Rattle.program_run.specs.Program.{execution_of};
 ghost use Rattle.chain_tree.specs.Told.{Stored};
 ghost use Rattle.chain_tree.specs.Reading.{HasRead};
-ghost use Rattle.script_defs.specs.Scene.{Scene};
-ghost use Rattle.script_defs.specs.Outcome as defs;
+ghost use Rattle.verdict_defs.specs.Scene.{Scene};
+ghost use Rattle.verdict_defs.specs.Outcome as defs;
 ghost use Rattle.script_run.specs.Fitting as fitting;
 ghost use Rattle.script_run.specs.Running.{ExitsWithin, IsOutcome, answer_of, read_stop_of};
 ghost use Rattle.script_run.specs.Showing.{scene_shown};
@@ -24,12 +24,12 @@ use crate::world::run_code;
 use cell_model::ResolvedTx;
 use chain_tree::{Blocks, Tree};
 use epochs::Spec;
+use machine_defs::Outcome;
 use mol_schema::TxView;
 use outside::{NoMemory, ReadStop};
 use program_run::Execution;
-use script_defs::Failure;
 use std::alloc::Global;
-use vm_defs::Outcome;
+use verdict_defs::Failure;
 
 /// Why the code of a group is not found. Of TYPE_ID none is looked for.
 fn lacks_code(codes: &Codes<'_>, group: &Group<'_>, place: u32) -> Option<Failure>
@@ -87,7 +87,7 @@ fn executed(place: u32, came: Execution, left: u64) -> Result<u64, Failure>
 }
 
 /// TYPE_ID, of a group whose script it is.
-#[tactic(auto, unfolding(script_defs::specs::TypeId::type_id_cycles))]
+#[tactic(auto, unfolding(verdict_defs::specs::TypeId::type_id_cycles))]
 fn run_type_id(tx: &TxView<'_>, group: &Group<'_>, place: u32, left: u64) -> Result<u64, Failure>
     ensures exact { (scene : Scene) → scene.transaction ≡ tx.now → result ≡ defs.run_type_id scene left place group.now.group }
     ensures within { IfOk result (λ cycles. cycles ≤ left) }

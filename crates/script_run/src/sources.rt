@@ -1,8 +1,8 @@
 // The sources that a syscall loads from (RFC 0009, "source").
 ghost use Rattle.std.specs.Prelude.{◌≡◌, slice_get};
 ghost use Rattle.std.specs.Option.{option_map};
-ghost use Rattle.script_defs.specs.Scene.{Scene};
-ghost use Rattle.script_defs.specs.Sources as defs;
+ghost use Rattle.verdict_defs.specs.Scene.{Scene};
+ghost use Rattle.verdict_defs.specs.Sources as defs;
 ghost use Rattle.script_run.specs.Places.{target_meaning, place_meaning, source_meaning};
 ghost use Rattle.script_run.specs.Shown.{Shows};
 
@@ -39,7 +39,7 @@ pub(crate) enum Target {
 }
 
 /// The source of a number; any other number is none.
-#[tactic(auto, unfolding(script_defs::specs::Sources::source_of, script_defs::specs::Sources::sources))]
+#[tactic(auto, unfolding(verdict_defs::specs::Sources::source_of, verdict_defs::specs::Sources::sources))]
 fn source_of(number: u64) -> Option<Source>
     ensures { option_map source_meaning result ≡ defs.source_of number }
 {

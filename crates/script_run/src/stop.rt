@@ -1,8 +1,8 @@
 // Why the scripts of a transaction were not run to a good end.
 use outside::ReadStop;
-use script_defs::Failure;
 use std::error::Error;
 use std::fmt;
+use verdict_defs::Failure;
 
 /// Why the scripts of a transaction were not run to a good end.
 #[derive(Clone, Copy, Debug)]

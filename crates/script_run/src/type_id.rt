@@ -1,8 +1,8 @@
 // TYPE_ID, a script that is a rule (RFC 0022, "Type ID").
 ghost use Rattle.std.specs.Prelude.{◌≡◌, slice_get, Some, ◌<◌};
-ghost use Rattle.script_defs.specs.Codes as codes;
-ghost use Rattle.script_defs.specs.Scene.{Scene};
-ghost use Rattle.script_defs.specs.TypeId as defs;
+ghost use Rattle.verdict_defs.specs.Codes as codes;
+ghost use Rattle.verdict_defs.specs.Scene.{Scene};
+ghost use Rattle.verdict_defs.specs.TypeId as defs;
 
 use crate::groups::Group;
 use crate::items::input_at;
@@ -27,7 +27,7 @@ const MANY_CELLS: i8 = -2;
 
 const OTHER_ARGS: i8 = -3;
 
-#[tactic(auto, unfolding(script_defs::specs::Codes::type_id_code_hash))]
+#[tactic(auto, unfolding(verdict_defs::specs::Codes::type_id_code_hash))]
 pub(crate) fn is_type_id(script: &ScriptView<'_>) -> bool
     ensures { result ≡ codes.is_type_id script.now }
 {
@@ -45,7 +45,7 @@ fn first_input<'a>(tx: &TxView<'a>) -> &'a [u8]
 }
 
 /// The args that the output at a place is given.
-#[tactic(auto, unfolding(script_defs::specs::TypeId::new_type_id))]
+#[tactic(auto, unfolding(verdict_defs::specs::TypeId::new_type_id))]
 fn new_type_id(tx: &TxView<'_>, place: u32) -> [u8; 32]
     ensures { (scene : Scene) → scene.transaction ≡ tx.now → result ≡ defs.new_type_id scene place }
 {
@@ -68,7 +68,7 @@ fn is_new(tx: &TxView<'_>, group: &Group<'_>) -> bool
 }
 
 /// The code with which it exits.
-#[tactic(auto, unfolding(script_defs::specs::TypeId::type_id_exit))]
+#[tactic(auto, unfolding(verdict_defs::specs::TypeId::type_id_exit))]
 pub(crate) fn type_id_exit(tx: &TxView<'_>, group: &Group<'_>) -> i8
     ensures { (scene : Scene) → scene.transaction ≡ tx.now → result ≡ defs.type_id_exit scene group.now.group }
 {

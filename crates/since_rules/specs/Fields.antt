@@ -1,6 +1,6 @@
 -- The metrics of the code in the definitions' terms.
 use Rattle.std.specs.Prelude.{Option, Some, None}
-use Rattle.time_defs.specs.Since as rules
+use Rattle.chain_defs.specs.Since as rules
 use Rattle.since_rules.specs.declared.fields.Metric.{Metric}
 use Rattle.since_rules.specs.declared.fields.Metric.TheVariants.{BlockNumber, Epoch, Timestamp}
 

@@ -1,6 +1,6 @@
 -- When each answer comes.
 use Rattle.std.specs.Prelude.{ℕ, IsTrue, IsFalse}
-use Rattle.time_defs.specs.Since.{Spending, is_valid, is_met}
+use Rattle.chain_defs.specs.Since.{Spending, is_valid, is_met}
 use Rattle.since_rules.specs.declared.rules.SinceFault.{SinceFault}
 use Rattle.since_rules.specs.declared.rules.SinceFault.TheVariants.{Invalid, Immature}
 

@@ -1,7 +1,7 @@
 //! The fields of a since.
 
 ghost use Rattle.std.specs.Prelude.{◌≡◌, ◌^◌, ◌<◌};
-ghost use Rattle.time_defs.specs.Since as rules;
+ghost use Rattle.chain_defs.specs.Since as rules;
 ghost use Rattle.since_rules.specs.Fields.{meaning_of_any};
 
 /// What the value of a since counts.

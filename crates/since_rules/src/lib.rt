@@ -1,6 +1,6 @@
 //! The since of an input (RFC 0017): from when on the input may be spent.
 //!
-//! `meets` answers Ok, Invalid or Immature exactly by the definitions of `time_defs`, and allocates
+//! `meets` answers Ok, Invalid or Immature exactly by the definitions of `chain_defs`, and allocates
 //! nothing. The median times that it compares are handed in; taking them is left to the chain.
 #![tactic(auto)]
 

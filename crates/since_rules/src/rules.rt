@@ -1,9 +1,9 @@
 //! When a since is met.
 
 ghost use Rattle.std.specs.Prelude.{◌≡◌, ◌*◌, ◌^◌, ◌<◌, ◌≤◌, IsTrue, OnOk, IfErr};
-ghost use Rattle.time_defs.specs.Since as rules;
-ghost use Rattle.time_defs.specs.Since.{Spending, IsLater};
-ghost use Rattle.time_defs.specs.Specification.{keeps_s2};
+ghost use Rattle.chain_defs.specs.Since as rules;
+ghost use Rattle.chain_defs.specs.Since.{Spending, IsLater};
+ghost use Rattle.chain_defs.specs.Specification.{keeps_s2};
 ghost use Rattle.since_rules.specs.Fields.{meaning};
 ghost use Rattle.since_rules.specs.Rules.{IsMature, HasFault};
 
@@ -29,7 +29,7 @@ pub struct SinceAt {
 }
 
 impl Model for SinceAt {
-    ghost use Rattle.time_defs.specs.Since.{Spending};
+    ghost use Rattle.chain_defs.specs.Since.{Spending};
 
     ghost Value = { Spending };
 

@@ -4,11 +4,11 @@ use Rattle.std.specs.List.{All}
 use Rattle.std.specs.Int.{w32, w64, to_le_bytes}
 use Rattle.std.proofs.lemmas.List.{take_more, take_all}
 use Rattle.std.proofs.lemmas.List.Elements.{All-push, All-same}
-use Rattle.codec_defs.specs.Schema.{OutPoint}
+use Rattle.chain_defs.specs.Schema.{OutPoint}
 use Rattle.cell_defs.specs.Row.{Row}
-use Rattle.ext_defs.specs.Fits.{FitsRow}
-use Rattle.snapshot_defs.specs.Snapshot.{Snapshot, body_bytes}
-use Rattle.snapshot_defs.proofs.Fields.{rows_bytes, rows-length}
+use Rattle.cell_defs.specs.Fits.{FitsRow}
+use Rattle.disk_defs.specs.Snapshot.{Snapshot, body_bytes}
+use Rattle.disk_defs.proofs.Fields.{rows_bytes, rows-length}
 
 -- one row more fits
 pub one-more-fits : (rows : List (OutPoint × Row)) (i : ℕ) (it : OutPoint × Row) → i < length rows → it ≡ get_or rows i it → All FitsRow (take i rows) → FitsRow it

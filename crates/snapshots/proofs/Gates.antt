@@ -5,15 +5,13 @@ use Rattle.std.specs.Option.{option_map}
 use Rattle.std.proofs.lemmas.Bool.{cases_eq, ne_eqb, and_left}
 use Rattle.std.proofs.Math.Bool.{and-false}
 use Rattle.std.proofs.lemmas.List.{length-take}
-use Rattle.codec_defs.specs.Schema.{OutPoint}
-use Rattle.cell_defs.specs.Row.{Row}
 use Rattle.outside.specs.declared.disk.Area.{Area}
 use Rattle.outside.specs.declared.disk.Area.TheVariants.{Log, SnapA, SnapB}
 use Rattle.outside.specs.Image.{Image, InArea, content, with_content}
 use Rattle.outside.specs.Disk.{written, write_area, Torn, ComesBy, Follows, IsDurable, SameImages, OthersRead}
 use Rattle.outside.proofs.Images.{own_content}
-use Rattle.snapshot_defs.specs.Snapshot.{has_open_gate}
-use Rattle.snapshots.specs.Writing.{IsClosed, IsShut, IsAsItWasOrClosed, IsClosedOr, HasArea, HasAnyArea, HoldsBody, HoldsNew, IsBodyOf}
+use Rattle.disk_defs.specs.Snapshot.{has_open_gate}
+use Rattle.snapshots.specs.Writing.{IsClosed, IsShut, IsAsItWasOrClosed, IsClosedOr, HasArea, HasAnyArea, HoldsBody}
 
 no-some : IsSome {T = Image} None → ⊥
 no-some some = cc
@@ -44,10 +42,6 @@ others-then area old mid new first second = (second.0, second.1 ∙ ap (option_m
     over : (reads : Option Image) → option_map (with_content area second.0) (option_map (with_content area first.0) reads) ≡ option_map (with_content area second.0) reads
     over None = refl
     over (Some image) = ap Some (with-twice area second.0 first.0 image)
-
-pub others-written : (area : Area) (at : ℕ) (piece : List ℕ) (old new : Option Image) → new ≡ option_map (write_area area at piece) old → OthersRead area old new
-others-written area at piece None new wrote = ([], wrote)
-others-written area at piece (Some image) new wrote = (written at piece (content area image), wrote)
 
 -- ---- The other areas
 
@@ -173,23 +167,6 @@ while-closed area (Some now) images images1 n into told same durable long read b
     (before, first, (bytes, closing (content area before) bytes here torn, is))
 
 -- ---- The snapshot after a gate
-
-pub holds-new : (number tip : ℕ) (hash : List ℕ) (rows : OutPoint → Option Row) (body bytes : List ℕ) → IsBodyOf number tip hash rows body → HoldsBody body bytes
-    → HoldsNew number tip hash rows bytes
-holds-new number tip hash rows body bytes is holds = (
-  is.s,
-  is.is,
-  record { form = is.form; after = holds.0; parts = holds.1 ∙ ap (λ (l : List ℕ). 1 ∷ (l ++ holds.0)) is.bytes },
-)
-
-pub closed-or-new : (number tip : ℕ) (hash : List ℕ) (rows : OutPoint → Option Row) (area : Area) (body : List ℕ) (images : Image → Type 0)
-    → IsBodyOf number tip hash rows body → (image : Image) → HasArea area (IsClosedOr (HoldsBody body)) images image
-    → HasArea area (IsClosedOr (HoldsNew number tip hash rows)) images image
-closed-or-new number tip hash rows area body images is image (before, left, (bytes, has, was)) = (before, left, (bytes, by has, was))
-  where
-    by : IsClosedOr (HoldsBody body) bytes → IsClosedOr (HoldsNew number tip hash rows) bytes
-    by (inl closed) = inl closed
-    by (inr holds) = inr (holds-new number tip hash rows body bytes is holds)
 
 -- before the first call
 pub still-shut : (New : List ℕ → Type 0) (area : Area) (reads : Option Image) (images : Image → Type 0) → IsShut area reads images → (image : Image) → images image

@@ -10,7 +10,7 @@ use Rattle.outside.specs.declared.disk.Area.{Area}
 use Rattle.outside.specs.declared.disk.ReadStop.{ReadStop}
 use Rattle.outside.specs.declared.disk.ReadStop.TheVariants.{Damaged}
 use Rattle.outside.specs.Image.{Image, content}
-use Rattle.snapshot_defs.specs.Snapshot.{has_open_gate}
+use Rattle.disk_defs.specs.Snapshot.{has_open_gate}
 use Rattle.snapshots.specs.Reading.{AnswersHead, row_count, damage_in}
 
 -- the first two bytes tell whether the gate is open

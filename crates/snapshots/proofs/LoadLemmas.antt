@@ -3,19 +3,19 @@ use Rattle.std.proofs.Common.{◌≡◌, ℕ, ◌+◌, ◌-◌, ◌*◌, ◌<◌
 use Rattle.std.specs.Prelude.{if◌then◌else◌}
 use Rattle.std.specs.List.{All, concat, slice_range}
 use Rattle.std.proofs.Math.Seq.{get_or-append_seam}
-use Rattle.std.proofs.lemmas.List.{take_at, drop_at, drop_more, take_all, map-append, length-take-le, length_push, get_or_append_left}
+use Rattle.std.proofs.lemmas.List.{take_at, drop_at, drop_more, map-append, length-take-le, length_push, get_or_append_left}
 use Rattle.std.proofs.lemmas.List.Elements.{All-push}
 use Rattle.std.proofs.lemmas.List.Folds.{concat-append}
-use Rattle.codec_defs.specs.Schema.{OutPoint}
+use Rattle.chain_defs.specs.Schema.{OutPoint}
 use Rattle.cell_defs.specs.Events.{same_out_point}
 use Rattle.cell_defs.specs.Row.{Row, ListsRows}
 use Rattle.cell_defs.specs.Ext.{row_bytes, is_row}
 use Rattle.cell_model.proofs.ExtLemmas.{one_read_more}
 use Rattle.cell_model.proofs.RowLemmas.{row-form}
-use Rattle.ext_defs.specs.Fits.{FitsRow}
-use Rattle.ext_defs.proofs.TellLaws.{length-row, bytes-tell-rows}
-use Rattle.snapshot_defs.proofs.Fields.{rows_bytes, rows-length, same-rows}
-use Rattle.snapshots.specs.Rows.{IsHeld, is_after_last, IsNextRow, AreRows, HasRows}
+use Rattle.cell_defs.specs.Fits.{FitsRow}
+use Rattle.cell_defs.proofs.TellLaws.{length-row, bytes-tell-rows}
+use Rattle.disk_defs.proofs.Fields.{rows_bytes, rows-length, same-rows}
+use Rattle.snapshots.specs.Rows.{IsHeld, is_after_last, IsNextRow, AreRows}
 use Rattle.snapshots.proofs.Order.{last_from, last-push, stands-after, lists-push, rising-push, not-listed}
 
 -- So many rows are loaded, of which this is the last.
@@ -66,17 +66,6 @@ loaded-more kept i next bytes rows more last it one so_far row is =
       rows_are = grown;
       lists = lists-push rows more so_far.list it so_far.lists after is;
       last_is = sym (last-push None so_far.list it);
-    }
-
--- all of them
-pub loaded-all : (kept count i : ℕ) (bytes : List ℕ) (rows : OutPoint → Option Row) (last : Option OutPoint) → length bytes ≡ 161 * count → i ≡ count
-    → HasLoaded kept i bytes rows last → HasRows kept count bytes rows
-loaded-all kept count i bytes rows last long all loaded =
-    let whole : take (161 * i) bytes ≡ bytes = take_all (161 * i) bytes (omega (arith, long, all)) in
-    record {
-      list = loaded.list;
-      are = subst (λ (n : ℕ). AreRows kept n bytes loaded.list) all (subst (λ (b : List ℕ). AreRows kept i b loaded.list) whole loaded.rows_are);
-      lists = loaded.lists;
     }
 
 -- ---- What is refused

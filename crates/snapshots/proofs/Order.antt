@@ -14,7 +14,7 @@ use Rattle.std.proofs.lemmas.Slice.Eq.{bytes_eq-Decides}
 use Rattle.std.proofs.lemmas.Cmp.{tied_itself}
 use Rattle.std.proofs.lemmas.List.Elements.{Contains-push, Contains-push_cases, Contains-append_left}
 use Rattle.std.proofs.lemmas.List.Quantifiers.{all_pairs_push}
-use Rattle.codec_defs.specs.Schema.{OutPoint}
+use Rattle.chain_defs.specs.Schema.{OutPoint}
 use Rattle.cell_defs.specs.Events.{same_out_point}
 use Rattle.cell_defs.specs.Row.{Row, out_point_cmp, IsRising, ListsRows}
 use Rattle.snapshots.specs.Rows.{is_after_last}
@@ -26,9 +26,6 @@ out-points-total = then_total (on_total (λ (o : OutPoint). o.tx_hash) nat_list_
 
 less-equal : Less ≡ Equal → ⊥
 less-equal is = cc
-
-greater-less : Greater ≡ Less → ⊥
-greater-less is = cc
 
 is-less : (order : Ordering) → is_lt order ≡ true → order ≡ Less
 is-less Less is = refl

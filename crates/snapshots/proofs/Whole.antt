@@ -6,7 +6,7 @@ use Rattle.std.proofs.lemmas.Bool.{lt-ltb}
 use Rattle.std.proofs.lemmas.List.{take_at, drop_at, length-take, length-drop}
 use Rattle.std.proofs.lemmas.Option.{slice_get_within}
 use Rattle.chain_tree.specs.Entries.{entry_at}
-use Rattle.codec_defs.specs.Schema.{OutPoint}
+use Rattle.chain_defs.specs.Schema.{OutPoint}
 use Rattle.cell_defs.specs.Row.{Row}
 use Rattle.cell_state.specs.State.{StateValue, rows}
 use Rattle.chain_tree.specs.declared.entry.Entry.{Entry}
@@ -14,8 +14,8 @@ use Rattle.outside.specs.declared.disk.Area.{Area}
 use Rattle.outside.specs.declared.disk.ReadStop.{ReadStop}
 use Rattle.outside.specs.declared.disk.ReadStop.TheVariants.{DiskFault, NoMemory, Damaged}
 use Rattle.outside.specs.Image.{Image, content}
-use Rattle.snapshot_defs.specs.Snapshot.{Snapshot, has_open_gate, Holds}
-use Rattle.snapshot_defs.proofs.Fields.{rows_bytes, rows-length, head_bytes, head-length, same-head, head_of, in-parts}
+use Rattle.disk_defs.specs.Snapshot.{Snapshot, has_open_gate, Holds}
+use Rattle.disk_defs.proofs.Fields.{rows_bytes, rows-length, head_bytes, head-length, same-head, head_of, in-parts}
 use Rattle.snapshots.specs.declared.head.Head.{Head}
 use Rattle.snapshots.specs.Rows.{IsHeld, AreRows, HasRows}
 use Rattle.snapshots.specs.Reading.{AreWithin, IsHead, has_hash, has_tip, row_count, HasSpaceFor, AreRowBytes, IsOfTree, IsRead, IsDamaged, FewSteps, AnswersHead, AnswersShort, AnswersSnapshot, damage_in}
@@ -135,11 +135,6 @@ damaged-as : (area : Area) (entries : List Entry) (bytes : List ℕ) (before aft
     → IsDamaged entries bytes → FewSteps bytes before after → AnswersSnapshot area entries bytes before after (Err stop)
 damaged-as area entries bytes before after stop is damaged few =
     subst (λ (s : ReadStop). AnswersSnapshot area entries bytes before after (Err s)) (sym is) (damaged, refl, few)
-
-pub told-none : (area : Area) (entries : List Entry) (reads : Option Image) (before : ℕ) → IfSome reads (λ image. has_open_gate (content area image) ≡ false)
-    → IfSome reads (λ image. AnswersSnapshot area entries (content area image) before before (Ok None))
-told-none area entries None before gate = tt
-told-none area entries (Some image) before gate = (gate, refl)
 
 pub told-other-tip : (area : Area) (entries : List Entry) (reads : Option Image) (head : Head) (before : ℕ) (stop : ReadStop) → stop ≡ Damaged (damage_in area)
     → IfSome reads (λ image. IsHead (content area image) head) → has_tip entries head.tip head.hash ≡ false

@@ -3,7 +3,7 @@ use Rattle.std.specs.Prelude.{◌≡◌, ℕ, ◌+◌, ◌*◌, ◌^◌, ◌<◌
 use Rattle.std.specs.List.{All, slice_range}
 use Rattle.std.specs.Str.{bytes_eq}
 use Rattle.std.specs.Int.{w32, w64, to_le_bytes, from_le_bytes}
-use Rattle.codec_defs.specs.Schema.{OutPoint}
+use Rattle.chain_defs.specs.Schema.{OutPoint}
 use Rattle.cell_defs.specs.Row.{Row, ListsRows}
 use Rattle.cell_defs.specs.Ext.{count_at}
 use Rattle.cell_state.specs.State.{StateValue, rows}
@@ -13,7 +13,7 @@ use Rattle.outside.specs.declared.disk.Area.{Area}
 use Rattle.outside.specs.declared.disk.Damage.{Damage}
 use Rattle.outside.specs.declared.disk.ReadStop.{ReadStop}
 use Rattle.outside.specs.declared.disk.ReadStop.TheVariants.{DiskFault, NoMemory, Damaged}
-use Rattle.snapshot_defs.specs.Snapshot.{Snapshot, has_open_gate, Holds}
+use Rattle.disk_defs.specs.Snapshot.{Snapshot, has_open_gate, Holds}
 use Rattle.snapshots.specs.declared.head.Head.{Head}
 use Rattle.snapshots.specs.Rows.{IsHeld}
 

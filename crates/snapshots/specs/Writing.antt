@@ -1,11 +1,11 @@
 -- What a snapshot leaves of its area while it is written.
 use Rattle.std.specs.Prelude.{◌≡◌, ◌≢◌, ◌⊎◌, ℕ, ◌<◌, ◌==◌, ◌||◌, false, List, [], ◌∷◌, ◌++◌, length, slice_index, Option, Some, if◌then◌else◌}
-use Rattle.codec_defs.specs.Schema.{OutPoint}
+use Rattle.chain_defs.specs.Schema.{OutPoint}
 use Rattle.cell_defs.specs.Row.{Row, ListsRows}
 use Rattle.outside.specs.declared.disk.Area.{Area}
 use Rattle.outside.specs.Image.{Image, content, with_content, InArea}
 use Rattle.outside.specs.Disk.{written, ComesBy, IsDurable}
-use Rattle.snapshot_defs.specs.Snapshot.{Snapshot, HasForm, body_bytes, has_open_gate, Holds}
+use Rattle.disk_defs.specs.Snapshot.{Snapshot, HasForm, body_bytes, has_open_gate, Holds}
 
 -- ---- A closed gate
 

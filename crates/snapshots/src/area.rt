@@ -1,6 +1,6 @@
 // Which area a snapshot goes to.
 ghost use Rattle.std.specs.Prelude.{◌≡◌};
-ghost use Rattle.snapshot_defs.specs.Snapshot as snapshots;
+ghost use Rattle.disk_defs.specs.Snapshot as snapshots;
 ghost use Rattle.snapshots.specs.Reading.{damage_in};
 ghost use Rattle.outside.specs.declared.disk.ReadStop.TheVariants.{Damaged};
 

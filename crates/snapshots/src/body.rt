@@ -4,8 +4,8 @@ ghost use Rattle.std.specs.List.{All, concat};
 ghost use Rattle.std.specs.Int.{w32, w64, to_le_bytes};
 ghost use Rattle.cell_defs.specs.Ext.{row_bytes};
 ghost use Rattle.cell_state.specs.State.{rows};
-ghost use Rattle.ext_defs.specs.Fits.{FitsRow};
-ghost use Rattle.snapshot_defs.specs.Snapshot.{body_bytes};
+ghost use Rattle.cell_defs.specs.Fits.{FitsRow};
+ghost use Rattle.disk_defs.specs.Snapshot.{body_bytes};
 ghost use Rattle.snapshots.specs.Writing.{IsBodyOf};
 
 use crate::head::HEAD_SIZE;

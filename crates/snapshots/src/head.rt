@@ -6,7 +6,7 @@ ghost use Rattle.cell_defs.specs.Ext.{count_at};
 ghost use Rattle.outside.specs.Causes.{CountsFault};
 ghost use Rattle.outside.specs.Image.{content};
 ghost use Rattle.outside.specs.declared.disk.ReadStop.TheVariants.{DiskFault, NoMemory as no_memory};
-ghost use Rattle.snapshot_defs.specs.Snapshot.{has_open_gate};
+ghost use Rattle.disk_defs.specs.Snapshot.{has_open_gate};
 ghost use Rattle.snapshots.specs.Reading.{AnswersNumber, AnswersHead};
 
 use crate::area::damaged;

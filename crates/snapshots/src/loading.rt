@@ -1,6 +1,6 @@
 // The rows of a snapshot, put into a state.
 ghost use Rattle.std.specs.Prelude.{◌≡◌, ◌+◌, ◌*◌, ◌≤◌, List, Option, true, false, Some, None, length, IfOk, IfSome, OnErr};
-ghost use Rattle.codec_defs.specs.Schema as schema;
+ghost use Rattle.chain_defs.specs.Schema as schema;
 ghost use Rattle.cell_defs.specs.Row.{Row};
 ghost use Rattle.cell_state.specs.State.{rows};
 ghost use Rattle.snapshots.specs.Rows.{is_after_last, IsNextRow, AreRows, HasRows};

@@ -7,22 +7,21 @@ use Rattle.std.specs.Int.{w32, w64, to_le_bytes}
 use Rattle.std.proofs.lemmas.Bool.{and_parts}
 use Rattle.std.proofs.lemmas.Nat.{from_le_bytes-to_le_bytes_4}
 use Rattle.std.proofs.lemmas.List.{length-append, length-drop, length_push, take-append-le, take_at, append_assoc}
-use Rattle.outside.specs.Image.{Image}
-use Rattle.codec_defs.specs.Shape.{decoded}
-use Rattle.codec_defs.specs.Schema.{Transaction, Block, block}
+use Rattle.chain_defs.specs.Shape.{decoded}
+use Rattle.chain_defs.specs.Schema.{Transaction, Block, block}
 use Rattle.chain_defs.specs.Kept.{block_at, blocks_of_item}
 use Rattle.chain_defs.specs.Branch.{branch}
 use Rattle.chain_defs.proofs.KeptLaws.{slice_get-before, slice_get-push, slice_get-pushed}
-use Rattle.time_defs.specs.Specification.{Specification}
+use Rattle.chain_defs.specs.Specification.{Specification}
 use Rattle.cell_defs.specs.Ext.{Ext, row_bytes, ext_bytes, count_at, is_ext}
-use Rattle.block_defs.specs.Ext.{ext_of}
-use Rattle.tx_defs.specs.Capacity.{fees_from}
+use Rattle.verdict_defs.specs.Ext.{ext_of}
+use Rattle.rule_defs.specs.Capacity.{fees_from}
 use Rattle.verdict_defs.specs.Chain.{Chain}
 use Rattle.verdict_defs.specs.Laws.{CanJoin}
-use Rattle.log_defs.specs.Log.{Record, LogContent, record_limit, records_of, log_of, content_of_records, are_first, blocks_over, block_of_record, block_of_parts, block_if, may_stand_on, parts_of_body}
-use Rattle.log_defs.specs.LogLaws.{HasFittingBody}
-use Rattle.store_defs.specs.Store.{StandsFor, HasJoined, EachHasJoined, HaveOwnExts, ext_over, ext_on, own_ext, ext_of_found, chain_before}
-use Rattle.log_defs.proofs.Contents.{one_genesis, good_genesis, said}
+use Rattle.disk_defs.specs.Log.{Record, LogContent, record_limit, records_of, log_of, content_of_records, are_first, blocks_over, block_of_record, block_of_parts, block_if, may_stand_on, parts_of_body}
+use Rattle.disk_defs.specs.LogLaws.{HasFittingBody}
+use Rattle.store_defs.specs.Store.{HasJoined, EachHasJoined, HaveOwnExts, ext_over, ext_on, own_ext, ext_of_found, chain_before}
+use Rattle.disk_defs.proofs.Contents.{one_genesis, good_genesis, said}
 use Rattle.store_defs.proofs.JoinedLemmas.{over-front, joined_item, item_of_record, content_of_log}
 
 -- ---- The bytes of an ext
@@ -254,11 +253,3 @@ exts_of_log bytes log is_log each place r b there here fits =
       holds = holds;
       fees = fees_of_record (chain_before log (place + 1)) r (chain_before log (place + 2)) holds.item holds.ext b (each place r there) fits holds.parts holds.canonical;
     }
-
--- So it is in an image that stands for a chain.
-pub fees_of_joined : (chain : Chain) (image : Image) (stands : StandsFor chain image) (place : ℕ) (r : Record) (b : Block)
-    → slice_get stands.log.records place ≡ Some r → block_at chain.blocks (place + 1) ≡ Some b → HasFittingBody r → HoldsItsExt r b
-fees_of_joined chain image stands place r b there here fits =
-    let same : stands.log.blocks ≡ chain.blocks = ap (λ (c : Chain). c.blocks) stands.keeps in
-    exts_of_log image.log stands.log stands.is_log stands.joined place r b there
-    (ap (λ (blocks : List Block). block_at blocks (place + 1)) same ∙ here) fits

@@ -7,21 +7,21 @@ use Rattle.std.proofs.lemmas.Bool.{and_parts}
 use Rattle.std.proofs.lemmas.List.{length-take-le, take-append-le, take_at, append-nil, append_assoc}
 use Rattle.std.proofs.lemmas.Option.{slice_get_within}
 use Rattle.outside.specs.Image.{Image}
-use Rattle.codec_defs.specs.Shape.{decoded}
-use Rattle.codec_defs.specs.Schema.{Block, block}
-use Rattle.fold_defs.specs.First.{first_failing}
+use Rattle.chain_defs.specs.Shape.{decoded}
+use Rattle.chain_defs.specs.Schema.{Block, block}
+use Rattle.chain_defs.specs.First.{first_failing}
 use Rattle.chain_defs.specs.Kept.{block_hash, block_at, place_of, IsKept, block_list, blocks_of_item}
 use Rattle.chain_defs.proofs.KeptLaws.{slice_get-below, slice_get-take, slice_get-before, slice_get-push, slice_get-pushed}
-use Rattle.time_defs.specs.Specification.{Specification, specification_of}
+use Rattle.chain_defs.specs.Specification.{Specification, specification_of}
 use Rattle.verdict_defs.specs.Verdict.{verdict, joins, kept_after}
 use Rattle.verdict_defs.specs.Chain.{Chain, chain_after}
 use Rattle.verdict_defs.specs.Laws.{MayJoin, CanJoin}
 use Rattle.verdict_defs.proofs.VerdictLaws.{joins-exactly, keeps-what-joins, kept_after-stays, stands-on-kept}
-use Rattle.genesis_defs.specs.Genesis.{genesis_rules, broken_by, broken_genesis_rule}
-use Rattle.log_defs.specs.Log.{Record, LogContent, record_limit, records_of, magic, log_of, content_of_records, are_first, blocks_over, block_of_record}
+use Rattle.rule_defs.specs.Genesis.{genesis_rules, broken_by, broken_genesis_rule}
+use Rattle.disk_defs.specs.Log.{Record, LogContent, record_limit, records_of, magic, log_of, content_of_records, are_first, blocks_over, block_of_record}
 use Rattle.store_defs.specs.Store.{StandsFor, HasJoined, EachHasJoined, IsJoined, chain_of, chain_before}
 use Rattle.store_defs.specs.StoreLaws.{StandsForWhatJoined}
-use Rattle.log_defs.proofs.Contents.{counts_its_records, good_genesis, said}
+use Rattle.disk_defs.proofs.Contents.{counts_its_records, good_genesis, said}
 
 -- ---- What joined is kept
 

@@ -3,20 +3,20 @@ use Rattle.std.proofs.Common.{◌≡◌, ℕ, Bool, true, List, Option, Some, sy
 use Rattle.std.specs.Prelude.{◌&&◌, not, is_some}
 use Rattle.std.specs.Option.{option_and_then}
 use Rattle.std.proofs.lemmas.Bool.{and_from}
-use Rattle.codec_defs.specs.Schema.{Block}
+use Rattle.chain_defs.specs.Schema.{Block}
 use Rattle.chain_defs.specs.Kept.{block_hash, block_at, place_of, follows}
 use Rattle.chain_defs.specs.Branch.{branch}
 use Rattle.chain_defs.proofs.KeptLaws.{place_of-below}
 use Rattle.chain_defs.proofs.BranchLaws.{branch-last}
-use Rattle.time_defs.specs.Specification.{Specification}
+use Rattle.chain_defs.specs.Specification.{Specification}
 use Rattle.rule_defs.specs.Header.{parent_of}
 use Rattle.verdict_defs.specs.Laws.{MayJoin}
 use Rattle.verdict_defs.proofs.VerdictLaws.{follows-unbroken}
 use Rattle.cell_defs.specs.Ext.{is_ext}
 use Rattle.store_defs.specs.Store.{ext_over}
-use Rattle.log_defs.specs.Log.{body_of_parts, parts_of_body, may_stand_on, block_if, block_of_parts}
+use Rattle.disk_defs.specs.Log.{body_of_parts, parts_of_body, may_stand_on, block_if, block_of_parts}
 use Rattle.store_defs.specs.JoinLaws.{TakesWhatJoins}
-use Rattle.log_defs.proofs.Contents.{gives_the_parts}
+use Rattle.disk_defs.proofs.Contents.{gives_the_parts}
 
 -- A block that may join may stand after the kept ones.
 pub may_stand : (spec : Specification) (kept : List Block) (b : Block) → MayJoin spec kept b → may_stand_on kept b ≡ true

@@ -3,3 +3,17 @@ pub mod SnapshotLemmas
 pub mod StoreLemmas
 pub mod JoinedLemmas
 pub mod ExtLemmas
+pub mod RuleLemmas
+pub mod KeptLemmas
+pub mod EventFit
+pub mod TransactionFit
+pub mod FitLaws
+pub mod EventsFitLaws
+pub mod BranchFitLaws
+pub mod HeaderLaws
+pub mod UncleLaws
+pub mod TypedLaws
+pub mod FeeLaws
+pub mod SpentLemmas
+pub mod ExtLaws
+pub mod KeptLaws

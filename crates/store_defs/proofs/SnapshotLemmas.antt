@@ -2,17 +2,17 @@
 use Rattle.std.proofs.Common.{◌≡◌, ℕ, Bool, true, false, List, [], ◌∷◌, ◌++◌, length, Some, refl, sym, ap, ◌∙◌, subst, arith}
 use Rattle.std.specs.Prelude.{◌==◌, if◌then◌else◌}
 use Rattle.std.proofs.lemmas.Bool.{ne_eqb}
-use Rattle.codec_defs.specs.Schema.{Block}
+use Rattle.chain_defs.specs.Schema.{Block}
 use Rattle.outside.specs.declared.disk.Area.TheVariants.{Log, SnapA, SnapB}
 use Rattle.outside.specs.Image.{Image, with_content}
 use Rattle.verdict_defs.specs.Verdict.{verdict, joins, kept_after}
 use Rattle.verdict_defs.specs.Chain.{Chain, chain_after}
 use Rattle.verdict_defs.specs.Laws.{CanJoin}
 use Rattle.verdict_defs.proofs.VerdictLaws.{joins-exactly, keeps-what-joins, kept_after-stays}
-use Rattle.log_defs.specs.Log.{LogContent, log_of}
-use Rattle.snapshot_defs.specs.Snapshot.{has_open_gate, area_of, IsSoundArea}
-use Rattle.snapshot_defs.proofs.AreaLaws.{closed-is-sound, held-is-sound, none-in-the-log, sound-holds-its-own}
-use Rattle.snapshot_defs.proofs.StayLaws.{stays-sound}
+use Rattle.disk_defs.specs.Log.{LogContent, log_of}
+use Rattle.disk_defs.specs.Snapshot.{has_open_gate, area_of, IsSoundArea}
+use Rattle.disk_defs.proofs.AreaLaws.{closed-is-sound, held-is-sound, none-in-the-log, sound-holds-its-own}
+use Rattle.disk_defs.proofs.StayLaws.{stays-sound}
 use Rattle.store_defs.specs.Store.{NoLog, Keeps, store_of, store_of_log, chain_of, StandsFor, IsSound}
 use Rattle.store_defs.specs.SnapshotLaws.{StaysSoundAfterAnItem, IsLogOf, StandsByParts, StandsByItsLog, StandsWithoutSnapshots, StandsWithSoundArea, StandsWithClosedArea, StandsWithSnapshot, StandsWhereItSaysTheSame, SoundStandsForTheSame, StandsForWhatItKeeps, NumbersDiffer}
 

@@ -3,26 +3,26 @@ use Rattle.std.proofs.Common.{◌≡◌, ℕ, ◌+◌, ◌<◌, ◌≤◌, ◌^�
 use Rattle.std.specs.Prelude.{◌&&◌, ◌==◌, is_none, slice_get}
 use Rattle.std.proofs.lemmas.Bool.{le-leb, and_from}
 use Rattle.std.proofs.lemmas.List.{length_push, take-append-le, take_all}
-use Rattle.codec_defs.specs.Schema.{Block}
+use Rattle.chain_defs.specs.Schema.{Block}
 use Rattle.outside.specs.declared.disk.Area.{Area}
 use Rattle.outside.specs.declared.disk.Area.TheVariants.{SnapA, SnapB}
 use Rattle.chain_defs.proofs.KeptLaws.{slice_get-pushed}
-use Rattle.time_defs.specs.Specification.{specification_of}
+use Rattle.chain_defs.specs.Specification.{specification_of}
 use Rattle.verdict_defs.specs.Verdict.{kept_after}
 use Rattle.chain_defs.specs.Kept.{kept_limit, blocks_of_item}
 use Rattle.verdict_defs.specs.Chain.{Chain, chain_of_genesis, chain_after}
 use Rattle.verdict_defs.specs.Laws.{CanJoin}
 use Rattle.verdict_defs.proofs.VerdictLaws.{keeps-what-joins}
-use Rattle.genesis_defs.specs.Genesis.{broken_genesis_rule}
-use Rattle.log_defs.specs.Log.{Record, LogContent, record_limit, content_of_records, are_first, block_of_record}
-use Rattle.log_defs.specs.LogLaws.{grown}
+use Rattle.rule_defs.specs.Genesis.{broken_genesis_rule}
+use Rattle.disk_defs.specs.Log.{Record, LogContent, record_limit, content_of_records, are_first, block_of_record}
+use Rattle.disk_defs.specs.LogLaws.{grown}
 use Rattle.store_defs.specs.JoinLaws.{record_over}
 use Rattle.store_defs.specs.Store.{HasJoined, EachHasJoined, chain_of, chain_before, ext_over}
 use Rattle.store_defs.specs.StoreLaws.{StandsAsItSays, StandsAfterAnItem, StandsForTheGenesis}
-use Rattle.log_defs.proofs.Contents.{counts_its_records, gives_the_parts, says_its_records, adds_a_block, said}
-use Rattle.snapshot_defs.specs.Snapshot.{has_open_gate, IsSoundArea}
+use Rattle.disk_defs.proofs.Contents.{counts_its_records, gives_the_parts, says_its_records, adds_a_block, said}
+use Rattle.disk_defs.specs.Snapshot.{has_open_gate, IsSoundArea}
 use Rattle.store_defs.proofs.Joining.{takes_what_joins}
-use Rattle.snapshot_defs.proofs.AreaLaws.{closed-is-sound}
+use Rattle.disk_defs.proofs.AreaLaws.{closed-is-sound}
 use Rattle.store_defs.proofs.SnapshotLemmas.{stays_sound_after_an_item}
 
 pub stands_as_it_says : StandsAsItSays
@@ -43,9 +43,6 @@ unfolding kept_limit record_limit
 below_limit count below = omega (arith, below)
 
 -- ---- One more block
-
-with_blocks : Chain → List Block → Chain
-with_blocks chain blocks = record { spec = chain.spec; blocks = blocks }
 
 -- the chain of the first blocks is the same
 same_before : (log : LogContent) (r : Record) (b : Block) (count : ℕ) → count ≤ length log.blocks → chain_before log count ≡ chain_before (grown log r b) count

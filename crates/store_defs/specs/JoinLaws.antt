@@ -3,7 +3,7 @@ use Rattle.std.specs.Prelude.{◌≡◌, ℕ, ◌^◌, ◌<◌, List, length, So
 use Rattle.verdict_defs.specs.Chain.{Chain}
 use Rattle.verdict_defs.specs.Laws.{CanJoin}
 use Rattle.cell_defs.specs.Ext.{is_ext}
-use Rattle.log_defs.specs.Log.{Record, block_of_record, body_of_parts}
+use Rattle.disk_defs.specs.Log.{Record, block_of_record, body_of_parts}
 use Rattle.store_defs.specs.Store.{ext_over}
 
 -- the record of an item that joins a chain, with its ext

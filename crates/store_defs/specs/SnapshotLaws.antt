@@ -1,12 +1,12 @@
 -- What an image stands for, by what stands in its areas of snapshots (docs/STORE.md, "Sound").
 use Rattle.std.specs.Prelude.{◌≡◌, ◌≢◌, ◌↔◌, ℕ, false, List, Some}
-use Rattle.codec_defs.specs.Schema.{Block}
+use Rattle.chain_defs.specs.Schema.{Block}
 use Rattle.outside.specs.declared.disk.Area.{Area}
 use Rattle.outside.specs.declared.disk.Area.TheVariants.{Log, SnapA, SnapB}
 use Rattle.outside.specs.Image.{Image, with_content}
 use Rattle.verdict_defs.specs.Chain.{Chain, chain_after}
-use Rattle.log_defs.specs.Log.{LogContent, log_of}
-use Rattle.snapshot_defs.specs.Snapshot.{Snapshot, has_open_gate, Holds, area_of, IsOfBlocks, IsSoundArea}
+use Rattle.disk_defs.specs.Log.{LogContent, log_of}
+use Rattle.disk_defs.specs.Snapshot.{Snapshot, has_open_gate, Holds, area_of, IsOfBlocks, IsSoundArea}
 use Rattle.store_defs.specs.Store.{Keeps, store_of, chain_of, EachHasJoined, StandsFor, HasNoSnapshots, IsSound}
 
 -- Law: an area that is sound over the blocks of a chain is sound over those after any item.

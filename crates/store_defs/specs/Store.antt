@@ -2,18 +2,18 @@
 use Rattle.std.specs.Prelude.{◌≡◌, ℕ, ◌+◌, ◌<◌, ◌==◌, List, [], slice_get, length, take, Option, Some, None, if◌then◌else◌}
 use Rattle.outside.specs.declared.disk.Area.TheVariants.{SnapA, SnapB}
 use Rattle.outside.specs.Image.{Image}
-use Rattle.codec_defs.specs.Shape.{decoded}
-use Rattle.codec_defs.specs.Schema.{Block, block}
-use Rattle.fold_defs.specs.First.{first_failing}
+use Rattle.chain_defs.specs.Shape.{decoded}
+use Rattle.chain_defs.specs.Schema.{Block, block}
+use Rattle.chain_defs.specs.First.{first_failing}
 use Rattle.chain_defs.specs.Kept.{block_at, place_of}
 use Rattle.cell_defs.specs.Ext.{ext_bytes}
-use Rattle.block_defs.specs.Ext.{ext_of}
-use Rattle.time_defs.specs.Specification.{specification_of}
+use Rattle.verdict_defs.specs.Ext.{ext_of}
+use Rattle.chain_defs.specs.Specification.{specification_of}
 use Rattle.verdict_defs.specs.Chain.{Chain, chain_after}
 use Rattle.verdict_defs.specs.Laws.{MayJoin}
-use Rattle.genesis_defs.specs.Genesis.{genesis_rules}
-use Rattle.log_defs.specs.Log.{LogContent, Record, log_of, parts_of_body, new_log}
-use Rattle.snapshot_defs.specs.Snapshot.{IsSoundArea}
+use Rattle.rule_defs.specs.Genesis.{genesis_rules}
+use Rattle.disk_defs.specs.Log.{LogContent, Record, log_of, parts_of_body, new_log}
+use Rattle.disk_defs.specs.Snapshot.{IsSoundArea}
 
 -- What stands in the folder when a run begins.
 pub data Store : Type 0 where

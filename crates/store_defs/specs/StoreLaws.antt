@@ -2,14 +2,14 @@
 use Rattle.std.specs.Prelude.{◌≡◌, ℕ, ◌^◌, ◌<◌, List, [], ◌∷◌, ◌++◌, length, None, IsTrue}
 use Rattle.outside.specs.declared.disk.Area.TheVariants.{Log}
 use Rattle.outside.specs.Image.{Image, with_content}
-use Rattle.time_defs.specs.Specification.{broken_specification_rule}
+use Rattle.chain_defs.specs.Specification.{broken_specification_rule}
 use Rattle.verdict_defs.specs.Chain.{Chain, chain_of_genesis, chain_after}
 use Rattle.verdict_defs.specs.Laws.{CanJoin}
 use Rattle.cell_defs.specs.Ext.{is_ext}
-use Rattle.genesis_defs.specs.Genesis.{broken_genesis_rule}
-use Rattle.log_defs.specs.Log.{Record, log_of}
+use Rattle.rule_defs.specs.Genesis.{broken_genesis_rule}
+use Rattle.disk_defs.specs.Log.{Record, log_of}
 use Rattle.store_defs.specs.JoinLaws.{record_over}
-use Rattle.log_defs.specs.Rest.{IsAtRest}
+use Rattle.disk_defs.specs.Rest.{IsAtRest}
 use Rattle.store_defs.specs.Store.{ext_over, IsJoined, StandsFor}
 
 -- Law: an image stands for a chain as long as its log says the same.

@@ -2,13 +2,13 @@
 use Rattle.std.proofs.Common.{◌≡◌, ℕ, ◌^◌, ◌<◌, ◌≤◌, Bool, true, false, cond, List, [], length, Option, Some, None, refl, sym, ap, ◌∙◌, subst, arith}
 use Rattle.std.specs.Prelude.{IsTrue, is_some, ◌==◌}
 use Rattle.std.specs.List.{list_any}
-use Rattle.codec_defs.specs.Shape.{Shape, IsA, encoded}
-use Rattle.codec_defs.specs.Schema as schema
-use Rattle.codec_defs.specs.Schema.{Transaction, Block, CellbaseWitness}
-use Rattle.codec_defs.proofs.RowLaws.{block-check}
-use Rattle.codec_defs.proofs.ShapeLaws.{decoded-is}
-use Rattle.fold_defs.specs.Fold.{keep}
-use Rattle.time_defs.specs.Specification.{Specification}
+use Rattle.chain_defs.specs.Shape.{Shape, IsA, encoded}
+use Rattle.chain_defs.specs.Schema as schema
+use Rattle.chain_defs.specs.Schema.{Transaction, Block, CellbaseWitness}
+use Rattle.chain_defs.proofs.RowLaws.{block-check}
+use Rattle.chain_defs.proofs.ShapeLaws.{decoded-is}
+use Rattle.chain_defs.specs.Fold.{keep}
+use Rattle.chain_defs.specs.Specification.{Specification}
 use Rattle.chain_defs.specs.Kept.{block_hash, place_of, kept_limit}
 use Rattle.chain_defs.specs.Branch.{branch}
 use Rattle.chain_defs.specs.Tip.{tip_place, best_branch}
@@ -16,11 +16,10 @@ use Rattle.chain_tree.specs.declared.entry.Entry.{Entry}
 use Rattle.chain_tree.specs.Told.{Stored, blocks_of}
 use Rattle.chain_tree.specs.Blocks.{IndexesBlocks}
 use Rattle.chain_tree.proofs.BlockLemmas.{len-same}
-use Rattle.block_defs.specs.Rules.{first_broken}
+use Rattle.verdict_defs.specs.Rules.{first_broken}
 use Rattle.block_judge.specs.Standing.{ContextValue}
 use Rattle.verdict_defs.specs.Chain.{verdict_over}
 use Rattle.verdict_defs.specs.declared.verdict.Verdict.TheVariants.{Joined}
-use Rattle.pool_defs.specs.Size.{size_with}
 use Rattle.pool_defs.specs.Start.{sealed}
 use Rattle.pool_defs.specs.Assembly as pool
 use Rattle.pool_defs.specs.Assembly.{assembly, assembled}
@@ -28,7 +27,7 @@ use Rattle.pool_defs.specs.Laws.{IsFounded, breakable}
 use Rattle.pool_defs.proofs.JoiningLaws.{breaks-few, unbroken-joins}
 use Rattle.pool_defs.specs.Size.{most_bytes}
 use Rattle.tx_pool.specs.Assembling.{IsAssembled, IsMade, assembled_on, chain_on}
-use Rattle.tx_pool.specs.Draft.{DraftValue, Fits, IsSoFar}
+use Rattle.tx_pool.specs.Draft.{DraftValue, IsSoFar}
 use Rattle.tx_pool.specs.Sealing.{Fills}
 use Rattle.tx_pool.specs.declared.assembling.Assembled.{Assembled}
 
@@ -113,9 +112,6 @@ module _ (spec : Specification) (kept : List Block) (parent : ℕ) (witness : Ce
 pub bytes-as : {V : Type 0} (shape : Shape V) (bytes other : List ℕ) (v : V) → other ≡ bytes → IsA shape bytes v → IsA shape other v
 bytes-as shape bytes other v same is = subst (λ (these : List ℕ). IsA shape these v) (sym same) is
 
-pub some-as : {V : Type 0} (shape : Shape V) (bytes other : List ℕ) → other ≡ bytes → ((v : V) × IsA shape bytes v) → (v : V) × IsA shape other v
-some-as shape bytes other same its = (its.0, bytes-as shape bytes other its.0 same its.1)
-
 pub made-of : (stored : List Stored) (on : ContextValue) (witness : CellbaseWitness) (items : List (List ℕ)) (draft : DraftValue) (bytes : List ℕ)
     → IsSoFar stored on (keep (pool.take_item on.spec (branch (blocks_of stored) on.parent)) (pool.start on.spec (branch (blocks_of stored) on.parent) witness) items) draft
     → IsA schema.block bytes (sealed on.spec (branch (blocks_of stored) on.parent)
@@ -132,12 +128,6 @@ fills-with stored on so_far draft txs ids is same named = record {
   transactions_are = same ∙ is.fills.transactions_are;
   ids_are = named ∙ is.fills.ids_are;
 }
-
-pub size-fits : (draft : DraftValue) (txs : List Transaction) (ids : List (List ℕ)) → Fits draft → txs ≡ draft.transactions → ids ≡ draft.proposals → size_with txs ids < 2 ^ 32
-size-fits draft txs ids fits same named =
-    let size : size_with txs ids ≡ draft.length = ap (λ (these : List Transaction). size_with these ids) same ∙ ap (size_with draft.transactions) named ∙ sym fits.length_is in
-    let short = fits.short in
-    omega (arith, size, short)
 
 pub small-witness : (n : ℕ) → n ≤ most_bytes → n < 2 ^ 28
 unfolding most_bytes

@@ -6,17 +6,17 @@ use Rattle.std.proofs.lemmas.Option.{slice_get-map}
 use Rattle.outside.specs.declared.disk.Damage.{Damage}
 use Rattle.outside.specs.declared.disk.ReadStop.{ReadStop}
 use Rattle.outside.specs.declared.disk.ReadStop.TheVariants.{NoMemory, Damaged}
-use Rattle.codec_defs.specs.Schema.{Script, CellOutput, Block, CellbaseWitness}
-use Rattle.time_defs.specs.Specification.{Specification}
-use Rattle.time_defs.specs.Dao.{as_u64}
+use Rattle.chain_defs.specs.Schema.{Script, CellOutput, Block, CellbaseWitness}
+use Rattle.chain_defs.specs.Specification.{Specification}
+use Rattle.chain_defs.specs.Dao.{as_u64}
 use Rattle.chain_defs.specs.Kept.{block_at}
 use Rattle.chain_defs.proofs.KeptLaws.{slice_get-below}
 use Rattle.chain_tree.specs.Told.{Stored, blocks_of}
 use Rattle.chain_tree.specs.Reading.{Findings, HasRead, stop_of}
 use Rattle.chain_tree.proofs.ReadLemmas.{no_memory_fault, no_memory_damage, read_till, read_so}
 use Rattle.rewards.proofs.BranchLemmas.{held}
-use Rattle.reward_defs.specs.Reward.{part}
-use Rattle.reward_defs.specs.Payment.{NoOutput, Pays, Unpayable, occupied_with, owed_to, lock_of, owed_after}
+use Rattle.rule_defs.specs.Reward.{part}
+use Rattle.rule_defs.specs.Payment.{NoOutput, Pays, Unpayable, occupied_with, owed_to, lock_of, owed_after}
 use Rattle.tx_rules.proofs.MoneyLemmas.{some-u64, none-u64}
 use Rattle.pool_defs.specs.Start.{owed_outputs, cellbase_with, cellbase}
 

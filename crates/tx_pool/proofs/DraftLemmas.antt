@@ -5,25 +5,25 @@ use Rattle.std.specs.List.{AllByRecursion, list_any}
 use Rattle.std.specs.Str.{bytes_eq}
 use Rattle.std.proofs.lemmas.Bool.{le-leb, lt-leb}
 use Rattle.std.proofs.lemmas.List.{length_push, map-append, take_all, take_more}
-use Rattle.codec_defs.specs.Shape.{IsA, encoded, decoded}
-use Rattle.codec_defs.specs.Schema.{OutPoint, Transaction, Block, CellbaseWitness, transaction}
-use Rattle.fold_defs.specs.First.{first_failing}
-use Rattle.fold_defs.specs.Fold.{keep}
-use Rattle.fold_defs.proofs.FoldLemmas.{keep-push}
-use Rattle.time_defs.specs.Specification.{Specification}
+use Rattle.chain_defs.specs.Shape.{IsA, encoded, decoded}
+use Rattle.chain_defs.specs.Schema.{OutPoint, Transaction, Block, CellbaseWitness, transaction}
+use Rattle.chain_defs.specs.First.{first_failing}
+use Rattle.chain_defs.specs.Fold.{keep}
+use Rattle.chain_defs.proofs.FoldLemmas.{keep-push}
+use Rattle.chain_defs.specs.Specification.{Specification}
 use Rattle.chain_defs.specs.Branch.{branch}
 use Rattle.chain_defs.specs.Hashes.{transaction_hash, proposal_id, are_distinct}
 use Rattle.chain_tree.specs.Told.{Stored, blocks_of}
 use Rattle.cell_defs.specs.Row.{Row, row_after}
 use Rattle.cell_defs.specs.Events.{events_of}
-use Rattle.family_defs.specs.Cellbase.{null_index, is_cellbase, begins_with_cellbase, has_cellbase}
+use Rattle.rule_defs.specs.Cellbase.{null_index, is_cellbase, begins_with_cellbase, has_cellbase}
 use Rattle.rule_defs.specs.Body.{fits_length, has_proposals}
-use Rattle.tx_defs.specs.Site.{Site}
-use Rattle.tx_defs.specs.Capacity as capacity
-use Rattle.reward_defs.specs.Field.{freed_by}
-use Rattle.script_defs.specs.Scene.{scene_of}
-use Rattle.script_defs.specs.Rules.{cycles_of}
-use Rattle.block_defs.specs.Transactions.{is_proposed, transaction_rules}
+use Rattle.rule_defs.specs.Site.{Site}
+use Rattle.rule_defs.specs.Capacity as capacity
+use Rattle.rule_defs.specs.Field.{freed_by}
+use Rattle.verdict_defs.specs.Scene.{scene_of}
+use Rattle.verdict_defs.specs.ScriptRules.{cycles_of}
+use Rattle.verdict_defs.specs.Transactions.{is_proposed, transaction_rules}
 use Rattle.block_judge.specs.Appending as appending
 use Rattle.block_judge.specs.Appending.{SeesSoFar, appended_rules}
 use Rattle.block_judge.specs.Progress.{AreMoved, AreProposed, CanMove}
@@ -39,7 +39,7 @@ use Rattle.pool_defs.specs.Assembly.{Assembly, take_item}
 use Rattle.pool_defs.specs.declared.line.Line.{Line}
 use Rattle.pool_defs.specs.declared.line.Line.TheVariants.{Commit, Propose, Refused, Later}
 use Rattle.pool_defs.proofs.GrowthLemmas.{size-transaction, size-id, counted-size, cellbase-grows, proposals-grow, distinct-push}
-use Rattle.pool_defs.specs.Size.{most_items, most_bytes}
+use Rattle.pool_defs.specs.Size.{most_items}
 use Rattle.tx_pool.specs.Draft.{DraftValue, Fits, IsEmpty, IsPut, ComesTo, IsSoFar, has, with_line}
 use Rattle.tx_pool.proofs.GrownLemmas.{each-push, has-push, has-hash-push, moved-push, moved-same, moved-nothing, sees-push, sees-none}
 
@@ -50,18 +50,6 @@ pub can-move-as : (count other : ℕ) (interest next : ℤ) (freed more : ℕ) �
 can-move-as count other interest next freed more counted withdraws frees can =
     subst (λ (n : ℕ). CanMove n next more) (sym counted)
     (subst (λ (z : ℤ). CanMove count z more) (sym withdraws) (subst (λ (n : ℕ). CanMove count interest n) (sym frees) can))
-
-pub fits-line : (draft : DraftValue) (line : Line) → Fits draft → Fits (with_line draft line)
-fits-line draft line fits =
-    let more = length_push draft.lines line in
-    let few = fits.few in record {
-      some = fits.some;
-      few = omega (arith, more, few);
-      length_is = fits.length_is;
-      short = fits.short;
-      left = fits.left;
-      moves = fits.moves;
-    }
 
 -- with a proposal id more
 pub fits-proposed : (draft after : DraftValue) (id : List ℕ) (line : Line) (most : ℕ) → Fits draft → after.transactions ≡ draft.transactions
@@ -488,10 +476,6 @@ module _ (stored : List Stored) (on : ContextValue) (so_far : Assembly) (draft :
 pub few-items : (n : ℕ) → n < most_items → n < 1000
 unfolding most_items
 few-items n few = few
-
-pub small-item : (n : ℕ) → n ≤ most_bytes → n ≤ 2 ^ 20
-unfolding most_bytes
-small-item n small = small
 
 -- what bytes encode has as many as these
 pub canonical-size : (bytes : List ℕ) (t : Transaction) → ((v : Transaction) × IsA transaction bytes v) → ((v : Transaction) → IsA transaction bytes v → t ≡ v)

@@ -5,17 +5,17 @@ use Rattle.std.specs.Str.{bytes_eq}
 use Rattle.std.proofs.lemmas.Int.{ints}
 use Rattle.std.proofs.lemmas.List.{append-nil, append_assoc, map-append, take-append-le}
 use Rattle.std.proofs.lemmas.List.Folds.{list_any-append}
-use Rattle.codec_defs.specs.Schema.{OutPoint, Transaction, Block}
-use Rattle.time_defs.specs.Specification.{Specification}
+use Rattle.chain_defs.specs.Schema.{OutPoint, Transaction, Block}
+use Rattle.chain_defs.specs.Specification.{Specification}
 use Rattle.chain_defs.specs.Branch.{branch}
 use Rattle.chain_defs.specs.Hashes.{transaction_hash}
 use Rattle.chain_tree.specs.Told.{Stored, blocks_of}
 use Rattle.chain_tree.proofs.BlockLemmas.{len-same}
 use Rattle.cell_defs.specs.Events.{Event, events_of, events_from}
 use Rattle.cell_defs.specs.Row.{Row, row_after}
-use Rattle.tx_defs.specs.Site.{Site, site_at}
-use Rattle.tx_defs.specs.Capacity.{interest}
-use Rattle.reward_defs.specs.Field.{freed_by, freed_from, interest_from}
+use Rattle.rule_defs.specs.Site.{Site, site_at}
+use Rattle.rule_defs.specs.Capacity.{interest}
+use Rattle.rule_defs.specs.Field.{freed_by, freed_from, interest_from}
 use Rattle.block_judge.specs.Appending.{SeesSoFar}
 use Rattle.block_judge.specs.Progress.{AreMoved}
 use Rattle.block_judge.specs.Standing.{ContextValue, StandsFor}

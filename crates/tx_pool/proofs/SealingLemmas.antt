@@ -1,10 +1,10 @@
 -- The header and the block after a kept block, by what the code makes them of.
 use Rattle.std.proofs.Common.{◌≡◌, ℕ, ◌-◌, List, [], length, replicate, ℤ, Option, Some, sym, ap, ◌∙◌, subst}
 use Rattle.std.proofs.lemmas.Option.{slice_get_within}
-use Rattle.codec_defs.specs.Schema.{Transaction, Block}
-use Rattle.time_defs.specs.Specification.{Specification}
-use Rattle.time_defs.specs.Epochs.{epoch_number, epoch_index, epoch_value, epoch_field}
-use Rattle.time_defs.specs.Dao.{DaoField, Movement, next_field}
+use Rattle.chain_defs.specs.Schema.{Transaction, Block}
+use Rattle.chain_defs.specs.Specification.{Specification}
+use Rattle.chain_defs.specs.Epochs.{epoch_number, epoch_index, epoch_value, epoch_field}
+use Rattle.chain_defs.specs.Dao.{DaoField, Movement, next_field}
 use Rattle.chain_defs.specs.Branch.{branch}
 use Rattle.chain_defs.specs.Median.{median_time}
 use Rattle.chain_defs.specs.Hashes.{transactions_root, proposals_hash, uncles_hash}
@@ -14,8 +14,8 @@ use Rattle.chain_tree.specs.Entries.{entry_at}
 use Rattle.chain_tree.specs.Blocks.{IndexesBlocks}
 use Rattle.chain_tree.proofs.BlockLemmas.{DescribedAt, described}
 use Rattle.rule_defs.specs.Header.{parent_of}
-use Rattle.reward_defs.specs.Reward.{field_at}
-use Rattle.reward_defs.specs.Field.{movement, next_dao}
+use Rattle.rule_defs.specs.Reward.{field_at}
+use Rattle.rule_defs.specs.Field.{movement, next_dao}
 use Rattle.block_judge.specs.Progress.{AreMoved}
 use Rattle.pool_defs.specs.Start.{zero_bytes, hash_of_parent, next_timestamp, header_after, dao_bytes, committed, sealed}
 use Rattle.pool_rows.specs.declared.header.Commitments.{Commitments}

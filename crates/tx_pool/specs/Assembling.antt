@@ -1,11 +1,11 @@
 -- What is assembled, as the code answers it.
 use Rattle.std.specs.Prelude.{◌≡◌, ℕ, List, Some, is_some, if◌then◌else◌}
-use Rattle.codec_defs.specs.Shape.{IsA, encoded}
-use Rattle.codec_defs.specs.Schema as schema
-use Rattle.codec_defs.specs.Schema.{Block, CellbaseWitness}
-use Rattle.time_defs.specs.Specification.{Specification}
+use Rattle.chain_defs.specs.Shape.{IsA, encoded}
+use Rattle.chain_defs.specs.Schema as schema
+use Rattle.chain_defs.specs.Schema.{Block, CellbaseWitness}
+use Rattle.chain_defs.specs.Specification.{Specification}
 use Rattle.chain_defs.specs.Kept.{block_hash, place_of}
-use Rattle.block_defs.specs.Rules.{first_broken}
+use Rattle.verdict_defs.specs.Rules.{first_broken}
 use Rattle.verdict_defs.specs.Chain.{Chain}
 use Rattle.pool_defs.specs.Start.{sealed}
 use Rattle.pool_defs.specs.Assembly as pool

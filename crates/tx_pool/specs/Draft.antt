@@ -3,20 +3,20 @@ use Rattle.std.specs.Prelude.{◌≡◌, ℕ, ◌+◌, ◌^◌, ◌<◌, ◌≤�
 use Rattle.std.specs.List.{list_any, AllByRecursion}
 use Rattle.std.specs.Str.{bytes_eq}
 use Rattle.std.specs.HashSet.{contains}
-use Rattle.codec_defs.specs.Shape.{encoded}
-use Rattle.codec_defs.specs.Schema.{OutPoint, Transaction, transaction}
-use Rattle.time_defs.specs.Specification.{Specification}
+use Rattle.chain_defs.specs.Shape.{encoded}
+use Rattle.chain_defs.specs.Schema.{OutPoint, Transaction, transaction}
+use Rattle.chain_defs.specs.Specification.{Specification}
 use Rattle.chain_defs.specs.Branch.{branch}
 use Rattle.chain_defs.specs.Hashes.{transaction_hash, are_distinct}
 use Rattle.chain_tree.specs.Told.{Stored, blocks_of}
 use Rattle.cell_defs.specs.Events.{events_of}
 use Rattle.cell_defs.specs.Row.{Row, row_after}
-use Rattle.family_defs.specs.Cellbase.{has_cellbase}
-use Rattle.tx_defs.specs.Site.{Site}
-use Rattle.tx_defs.specs.Capacity as capacity
-use Rattle.reward_defs.specs.Field.{freed_by}
-use Rattle.script_defs.specs.Scene.{scene_of}
-use Rattle.script_defs.specs.Rules.{cycles_of}
+use Rattle.rule_defs.specs.Cellbase.{has_cellbase}
+use Rattle.rule_defs.specs.Site.{Site}
+use Rattle.rule_defs.specs.Capacity as capacity
+use Rattle.rule_defs.specs.Field.{freed_by}
+use Rattle.verdict_defs.specs.Scene.{scene_of}
+use Rattle.verdict_defs.specs.ScriptRules.{cycles_of}
 use Rattle.block_judge.specs.BlockCells.{rows_in}
 use Rattle.block_judge.specs.Appending.{SeesSoFar}
 use Rattle.block_judge.specs.Progress.{AreMoved, CanMove}

@@ -1,9 +1,9 @@
 -- The block once all is put into it, as the code makes it.
 use Rattle.std.specs.Prelude.{◌≡◌, ℕ, List, []}
-use Rattle.codec_defs.specs.Schema.{Transaction, Header, Block}
-use Rattle.time_defs.specs.Specification.{Specification}
+use Rattle.chain_defs.specs.Schema.{Transaction, Header, Block}
+use Rattle.chain_defs.specs.Specification.{Specification}
 use Rattle.chain_defs.specs.Hashes.{transactions_root, proposals_hash, uncles_hash}
-use Rattle.reward_defs.specs.Field.{next_dao}
+use Rattle.rule_defs.specs.Field.{next_dao}
 use Rattle.pool_defs.specs.Start.{header_after, dao_bytes}
 use Rattle.pool_rows.specs.declared.header.Commitments.{Commitments}
 

@@ -1,10 +1,10 @@
 // The bytes of a block, whose header commits to what was put into it.
 ghost use Rattle.std.specs.Prelude.{◌≡◌, ◌<◌, ◌^◌, List, length, IfOk};
-ghost use Rattle.codec_defs.specs.Shape.{IsA};
-ghost use Rattle.codec_defs.specs.Schema as schema;
+ghost use Rattle.chain_defs.specs.Shape.{IsA};
+ghost use Rattle.chain_defs.specs.Schema as schema;
 ghost use Rattle.chain_defs.specs.Branch.{branch};
 ghost use Rattle.chain_tree.specs.Blocks.{IsParent, IndexesBlocks};
-ghost use Rattle.reward_defs.specs.Field as field;
+ghost use Rattle.rule_defs.specs.Field as field;
 ghost use Rattle.block_judge.specs.Progress.{AreMoved};
 ghost use Rattle.pool_defs.specs.Start as start;
 ghost use Rattle.pool_defs.specs.Size.{size_with};

@@ -6,7 +6,7 @@ use Rattle.std.proofs.lemmas.List.{take_all, length-take-le, length-map}
 use Rattle.std.proofs.lemmas.Bool.{cases_order}
 use Rattle.std.proofs.lemmas.Bool.Decides.{nat_tests}
 use Rattle.std.proofs.lemmas.Option.{slice_get_within, slice_get-map, get_or_from_slice_get, same_Some}
-use Rattle.codec_defs.specs.Schema.{OutPoint, Block}
+use Rattle.chain_defs.specs.Schema.{OutPoint, Block}
 use Rattle.chain_defs.specs.Kept.{block_hash, block_at, place_of, IsKept}
 use Rattle.chain_defs.specs.Branch.{branch_places, branch, IsBranch}
 use Rattle.chain_defs.specs.Median.{median_time}
@@ -18,9 +18,9 @@ use Rattle.chain_tree.specs.Blocks.{IndexesBlocks}
 use Rattle.chain_tree.specs.Told.{Stored, blocks_of}
 use Rattle.chain_tree.proofs.BlockLemmas.{DescribedAt, described, len-same}
 use Rattle.cell_defs.specs.Row.{Row}
-use Rattle.tx_defs.specs.Site.{Site, Found, height_at}
-use Rattle.tx_defs.specs.Age.{timestamp_of, start_of, spending}
-use Rattle.time_defs.specs.Since.{Spending, is_valid, is_met}
+use Rattle.rule_defs.specs.Site.{Site, Found, height_at}
+use Rattle.rule_defs.specs.Age.{timestamp_of, start_of, spending}
+use Rattle.chain_defs.specs.Since.{Spending, is_valid, is_met}
 use Rattle.since_rules.specs.declared.rules.SinceFault.{SinceFault}
 use Rattle.since_rules.specs.declared.rules.SinceFault.TheVariants.{Invalid, Immature}
 use Rattle.since_rules.specs.Rules.{IsMature, HasFault}

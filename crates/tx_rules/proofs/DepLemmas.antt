@@ -5,13 +5,13 @@ use Rattle.std.specs.Option.{option_map, option_and_then}
 use Rattle.std.specs.List.{flat_map}
 use Rattle.std.proofs.lemmas.List.{map-append}
 use Rattle.std.proofs.lemmas.Option.{same_Some}
-use Rattle.codec_defs.specs.Schema.{OutPoint, CellDep}
+use Rattle.chain_defs.specs.Schema.{OutPoint, CellDep}
 use Rattle.chain_tree.specs.Told.{Stored, blocks_of}
 use Rattle.cell_defs.specs.Cell.{Cell}
 use Rattle.cell_defs.specs.Row.{Row, row_of}
 use Rattle.cell_model.specs.Copies.{NamesOutput}
-use Rattle.tx_defs.specs.Site.{Site, Found, find_cell, all_there}
-use Rattle.tx_defs.specs.Resolving.{cells_of_dep, members_of}
+use Rattle.rule_defs.specs.Site.{Site, Found, find_cell, all_there}
+use Rattle.rule_defs.specs.Resolving.{cells_of_dep, members_of}
 use Rattle.tx_rules.specs.At.{AtValue, IsSiteOf, found_row, find_row, place_of_height}
 use Rattle.tx_rules.specs.Members.{Adds, member_rows}
 use Rattle.tx_rules.proofs.AllThere.{take-push, all_there-push, all_there-map, there-none}

@@ -6,8 +6,8 @@ use Rattle.std.specs.List.{All, AllZip, list_any}
 use Rattle.std.proofs.lemmas.List.Elements.{All-nil, All-head, All-tail}
 use Rattle.std.proofs.lemmas.Bool.{ne_eqb, eqb-true, eq-eqb, lt-ltb, le-ltb, cases_eq}
 use Rattle.std.proofs.lemmas.Option.{slice_get_within, slice_get-map, get_or_from_slice_get, same_Some, cond_some}
-use Rattle.codec_defs.specs.Schema.{OutPoint, Block, Transaction}
-use Rattle.time_defs.specs.Epochs.{is_span_over}
+use Rattle.chain_defs.specs.Schema.{OutPoint, Block, Transaction}
+use Rattle.chain_defs.specs.Epochs.{is_span_over}
 use Rattle.chain_defs.specs.Kept.{place_of}
 use Rattle.chain_defs.specs.Branch.{branch_places, branch}
 use Rattle.chain_defs.proofs.KeptLaws.{slice_get-below, place_of-below}
@@ -18,9 +18,9 @@ use Rattle.chain_tree.specs.Told.{Stored, blocks_of}
 use Rattle.chain_tree.proofs.BlockLemmas.{len-same}
 use Rattle.cell_defs.specs.Cell.{Cell}
 use Rattle.cell_defs.specs.Row.{Row}
-use Rattle.tx_defs.specs.Site.{Site, Found, height_at}
-use Rattle.tx_defs.specs.Resolving.{inputs, mature_ancestor, header_heights, heights}
-use Rattle.tx_defs.specs.Withdrawals.{deposit_index, deposit_height}
+use Rattle.rule_defs.specs.Site.{Site, Found, height_at}
+use Rattle.rule_defs.specs.Resolving.{inputs, mature_ancestor, header_heights, heights}
+use Rattle.rule_defs.specs.Withdrawals.{deposit_index, deposit_height}
 use Rattle.tx_rules.specs.At.{AtValue, IsPlaced, IsSiteOf}
 use Rattle.cell_model.specs.Copies.{ResolvedValue, IsCopyOf}
 use Rattle.tx_rules.specs.Outcome.{Copies}

@@ -6,7 +6,7 @@ use Rattle.outside.specs.declared.disk.ReadStop.TheVariants.{DiskFault, NoMemory
 use Rattle.chain_tree.specs.Told.{Stored}
 use Rattle.chain_tree.specs.Reading.{Findings, HasRead}
 use Rattle.chain_tree.proofs.ReadLemmas.{read_short}
-use Rattle.rule_names.specs.declared.rule.Rule.{Rule}
+use Rattle.rule_defs.specs.declared.rule.Rule.{Rule}
 use Rattle.tx_rules.specs.Reading.{read_stop}
 use Rattle.tx_rules.specs.declared.resolving.TxStop.{TxStop}
 use Rattle.tx_rules.specs.declared.resolving.TxStop.TheVariants.{Broken, Read}

@@ -5,8 +5,8 @@ use Rattle.std.specs.Option.{option_map, option_and_then}
 use Rattle.std.specs.List.{AllZip}
 use Rattle.std.proofs.lemmas.Bool.{cases_order}
 use Rattle.std.proofs.lemmas.Option.{same_Some}
-use Rattle.codec_defs.specs.Schema.{Block}
-use Rattle.time_defs.specs.Epochs.{is_span_over}
+use Rattle.chain_defs.specs.Schema.{Block}
+use Rattle.chain_defs.specs.Epochs.{is_span_over}
 use Rattle.chain_defs.specs.Kept.{block_hash, block_at, place_of, IsKept}
 use Rattle.chain_defs.specs.Branch.{branch, branch_places}
 use Rattle.chain_defs.proofs.KeptLaws.{place_of-there, place_of-below, place_of-none, hashes-differ}
@@ -14,8 +14,8 @@ use Rattle.chain_tree.specs.declared.entry.Entry.{Entry}
 use Rattle.chain_tree.specs.Entries.{entry_at}
 use Rattle.chain_tree.specs.Blocks.{IndexesBlocks}
 use Rattle.chain_tree.proofs.BlockLemmas.{len-same}
-use Rattle.tx_defs.specs.Site.{Site, height_at}
-use Rattle.tx_defs.specs.Resolving.{mature_ancestor}
+use Rattle.rule_defs.specs.Site.{Site, height_at}
+use Rattle.rule_defs.specs.Resolving.{mature_ancestor}
 use Rattle.tx_rules.proofs.BranchLemmas.{branch-block, PlaceOfHeight, place-of-height, number-on-branch}
 
 -- A kept block is found by its hash.

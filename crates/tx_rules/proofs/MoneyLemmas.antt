@@ -6,9 +6,9 @@ use Rattle.std.specs.List.{AllZip, list_any, enumerate_from}
 use Rattle.std.proofs.lemmas.List.Sums.{sum_by-cons}
 use Rattle.std.proofs.lemmas.Bool.{lt-ltb, le-ltb, le-leb, lt-leb, ltb-true, ltb-false, leb-true, cases_lt}
 use Rattle.std.proofs.lemmas.Option.{get_or_from_slice_get, same_Some, cond_some}
-use Rattle.codec_defs.specs.Schema.{OutPoint, Script, Block, Transaction}
-use Rattle.time_defs.specs.Specification.{Specification}
-use Rattle.time_defs.specs.Dao.{field_of_bytes}
+use Rattle.chain_defs.specs.Schema.{OutPoint, Script, Block, Transaction}
+use Rattle.chain_defs.specs.Specification.{Specification}
+use Rattle.chain_defs.specs.Dao.{field_of_bytes}
 use Rattle.chain_defs.specs.Kept.{block_at}
 use Rattle.chain_defs.specs.Branch.{branch_places, branch}
 use Rattle.chain_defs.proofs.KeptLaws.{slice_get-below}
@@ -18,11 +18,11 @@ use Rattle.chain_tree.specs.Told.{Stored, blocks_of}
 use Rattle.chain_tree.proofs.BlockLemmas.{DescribedAt, described, len-same}
 use Rattle.cell_defs.specs.Cell.{Cell, occupied_by}
 use Rattle.cell_defs.specs.Row.{Row}
-use Rattle.fold_defs.proofs.WalkLemmas.{all-at}
-use Rattle.tx_defs.specs.Site.{Site, Found, height_at}
-use Rattle.tx_defs.specs.Resolving.{inputs, heights}
-use Rattle.tx_defs.specs.Withdrawals.{is_dao_script, is_withdrawing, deposit_height, deposit_index, withdraws_well, names_deposits}
-use Rattle.tx_defs.specs.Capacity.{rate_of, rate_at, withdrawn, counted, counted_in}
+use Rattle.chain_defs.proofs.WalkLemmas.{all-at}
+use Rattle.rule_defs.specs.Site.{Site, Found, height_at}
+use Rattle.rule_defs.specs.Resolving.{inputs, heights}
+use Rattle.rule_defs.specs.Withdrawals.{is_dao_script, is_withdrawing, deposit_height, deposit_index, withdraws_well, names_deposits}
+use Rattle.rule_defs.specs.Capacity.{rate_of, rate_at, withdrawn, counted, counted_in}
 use Rattle.tx_rules.specs.At.{AtValue, IsPlaced, IsSiteOf}
 use Rattle.cell_model.specs.Copies.{ResolvedValue}
 use Rattle.tx_rules.specs.Outcome.{Copies}
@@ -221,11 +221,6 @@ and-false false = refl
 pub none-balances : (inside outside bound : ℕ) → bound ≤ inside → (nat_lt inside bound && nat_lt outside bound && nat_le outside inside) ≡ false
 none-balances inside outside bound past =
     ap (λ (b : Bool). b && nat_lt outside bound && nat_le outside inside) (le-ltb inside bound past)
-
-pub past-balances : (inside outside bound : ℕ) → bound ≤ outside → (nat_lt inside bound && nat_lt outside bound && nat_le outside inside) ≡ false
-past-balances inside outside bound past =
-    ap (λ (b : Bool). nat_lt inside bound && b && nat_le outside inside) (le-ltb outside bound past)
-    ∙ ap (λ (b : Bool). b && nat_le outside inside) (and-false (nat_lt inside bound))
 
 pub more-balances : (inside outside bound : ℕ) → inside < outside → (nat_lt inside bound && nat_lt outside bound && nat_le outside inside) ≡ false
 more-balances inside outside bound more =

@@ -1,17 +1,17 @@
 -- J18 to J20 by the rows alone, and what stops after them.
 use Rattle.std.proofs.Common.{◌≡◌, ◌<◌, Bool, true, false, cond, Option, None, List, Result, Ok, Err, refl, ap, ◌∙◌, subst, inl, inr, arith}
 use Rattle.std.specs.Prelude.{is_some, ◌≤◌}
-use Rattle.codec_defs.specs.Schema.{OutPoint, Transaction}
+use Rattle.chain_defs.specs.Schema.{OutPoint, Transaction}
 use Rattle.outside.specs.declared.disk.Area.TheVariants.{Log}
 use Rattle.outside.specs.declared.disk.Damage.{Damage}
 use Rattle.outside.specs.declared.disk.ReadStop.{ReadStop}
 use Rattle.outside.specs.declared.disk.ReadStop.TheVariants.{DiskFault, NoMemory, Damaged}
 use Rattle.cell_defs.specs.Row.{Row}
-use Rattle.rule_names.specs.Number.{rule_number}
-use Rattle.rule_names.specs.declared.rule.Rule.{Rule}
-use Rattle.rule_names.specs.declared.rule.Rule.TheVariants.{TransactionForm, Proposed, Inputs, CellDeps, HeaderDeps, Maturity, Since, Outputs, Withdrawals, Capacity}
-use Rattle.tx_defs.specs.Resolving.{spends_each_once}
-use Rattle.tx_defs.specs.Rules.{has_form}
+use Rattle.rule_defs.specs.RuleNumber.{rule_number}
+use Rattle.rule_defs.specs.declared.rule.Rule.{Rule}
+use Rattle.rule_defs.specs.declared.rule.Rule.TheVariants.{TransactionForm, Proposed, Inputs, CellDeps, HeaderDeps, Maturity, Since, Outputs, Withdrawals, Capacity}
+use Rattle.rule_defs.specs.Resolving.{spends_each_once}
+use Rattle.rule_defs.specs.TransactionRules.{has_form}
 use Rattle.tx_rules.specs.At.{named_rows, input_rows, spends_rows}
 use Rattle.tx_rules.specs.Outcome.{FollowsRows, IsTried}
 use Rattle.tx_rules.specs.Steps.{IsStop, IsLater, StopsLater}

@@ -5,9 +5,9 @@ use Rattle.std.specs.Option.{option_map}
 use Rattle.std.specs.List.{list_all}
 use Rattle.std.proofs.lemmas.List.Folds.{list_all-append}
 use Rattle.std.proofs.lemmas.Option.{same_Some}
-use Rattle.codec_defs.specs.Schema.{OutPoint, CellInput, Transaction}
-use Rattle.fold_defs.specs.First.{first_failing}
-use Rattle.fold_defs.proofs.FirstLemmas.{first_failing-fails, first_failing-holds, first_failing-none, first_failing-append-holds, first_failing-append-fails, finds_none}
+use Rattle.chain_defs.specs.Schema.{OutPoint, CellInput, Transaction}
+use Rattle.chain_defs.specs.First.{first_failing}
+use Rattle.chain_defs.proofs.FirstLemmas.{first_failing-fails, first_failing-holds, first_failing-none, first_failing-append-holds, first_failing-append-fails, finds_none}
 use Rattle.outside.specs.declared.disk.Damage.{Damage}
 use Rattle.outside.specs.declared.disk.ReadStop.{ReadStop}
 use Rattle.outside.specs.declared.disk.ReadStop.TheVariants.{DiskFault, NoMemory, Damaged}
@@ -15,14 +15,14 @@ use Rattle.cell_defs.specs.Cell.{Cell}
 use Rattle.cell_defs.specs.Row.{Row, row_of}
 use Rattle.chain_tree.specs.Told.{Stored, blocks_of}
 use Rattle.cell_model.specs.Copies.{ResolvedValue}
-use Rattle.rule_names.specs.Number.{rule_number}
-use Rattle.rule_names.specs.declared.rule.Rule.{Rule}
-use Rattle.tx_defs.specs.Site.{Site}
-use Rattle.tx_defs.specs.Resolving.{input_cells, spends_each_once, spends_live_cells, has_cell_deps, has_header_deps, inputs, deps}
-use Rattle.tx_defs.specs.Age.{is_mature, uses_mature_cells, meets_each_since}
-use Rattle.tx_defs.specs.Withdrawals.{names_deposits}
-use Rattle.tx_defs.specs.Capacity.{makes_good_cells, balances}
-use Rattle.tx_defs.specs.Rules.{has_form}
+use Rattle.rule_defs.specs.RuleNumber.{rule_number}
+use Rattle.rule_defs.specs.declared.rule.Rule.{Rule}
+use Rattle.rule_defs.specs.Site.{Site}
+use Rattle.rule_defs.specs.Resolving.{input_cells, spends_each_once, spends_live_cells, has_cell_deps, has_header_deps, inputs, deps}
+use Rattle.rule_defs.specs.Age.{is_mature, uses_mature_cells, meets_each_since}
+use Rattle.rule_defs.specs.Withdrawals.{names_deposits}
+use Rattle.rule_defs.specs.Capacity.{makes_good_cells, balances}
+use Rattle.rule_defs.specs.TransactionRules.{has_form}
 use Rattle.tx_rules.specs.At.{AtValue, IsSiteOf, place_of_height, found_row, find_row, named_rows, input_rows, spends_rows}
 use Rattle.tx_rules.specs.Copying.{row_in}
 use Rattle.tx_rules.specs.Outcome.{IsTried, rules_to_27}

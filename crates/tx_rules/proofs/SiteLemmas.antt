@@ -7,7 +7,7 @@ use Rattle.std.proofs.lemmas.List.{length-map, map_push, take_more}
 use Rattle.std.proofs.lemmas.List.Elements.{All-nil, All-cons, All-head, All-tail, All-append}
 use Rattle.std.proofs.lemmas.Option.{slice_get_within, slice_get_read, slice_get-map, get_or_from_slice_get, same_Some}
 use Rattle.std.proofs.lemmas.Bool.{lt-ltb, le-ltb}
-use Rattle.codec_defs.specs.Schema.{OutPoint, CellOutput, CellInput, CellDep, Transaction, Block}
+use Rattle.chain_defs.specs.Schema.{OutPoint, CellOutput, CellInput, CellDep, Transaction, Block}
 use Rattle.chain_defs.specs.Kept.{block_at}
 use Rattle.chain_defs.specs.Branch.{branch, branch_places}
 use Rattle.chain_defs.proofs.KeptLaws.{slice_get-below}
@@ -16,8 +16,8 @@ use Rattle.chain_tree.proofs.BlockLemmas.{len-same}
 use Rattle.cell_defs.specs.Cell.{Cell, data_of}
 use Rattle.cell_defs.specs.Row.{Row, row_of, IsOutputOf}
 use Rattle.cell_model.specs.Copies.{NamesOutput, output_in}
-use Rattle.tx_defs.specs.Site.{Site, Found, find_cell, all_there}
-use Rattle.tx_defs.specs.Resolving.{spends_each_once, inputs, deps, input_cells, dep_cells, cells_of_dep, members_of}
+use Rattle.rule_defs.specs.Site.{Site, Found, find_cell, all_there}
+use Rattle.rule_defs.specs.Resolving.{spends_each_once, inputs, deps, input_cells, dep_cells, cells_of_dep, members_of}
 use Rattle.tx_rules.specs.At.{AtValue, IsSiteOf, IsMade, AreSeen, place_of_height, found_row, find_row, named_rows, input_rows}
 use Rattle.tx_rules.specs.Copying.{IsFoundAt}
 use Rattle.tx_rules.proofs.AllThere.{all_there-map, all_there-all}

@@ -4,13 +4,13 @@ use Rattle.std.proofs.lemmas.List.Elements.{All-nil, All-cons, All-head, All-tai
 use Rattle.std.specs.Prelude.{Result, Ok, Err, IfOk, IfSome, IsSomeAnd, slice_get, slice_set, replicate, zero, suc}
 use Rattle.std.specs.List.{All, AllZip}
 use Rattle.std.proofs.lemmas.Option.{same_Some, slice_get_within}
-use Rattle.codec_defs.specs.Schema.{OutPoint, Block}
+use Rattle.chain_defs.specs.Schema.{OutPoint, Block}
 use Rattle.chain_tree.specs.Told.{Stored, blocks_of}
 use Rattle.cell_defs.specs.Cell.{Cell}
 use Rattle.cell_defs.specs.Row.{Row}
 use Rattle.cell_model.specs.Copies.{ResolvedValue, IsCopyOf, CopiesOutput, NamesOutput, output_in}
 use Rattle.cell_model.proofs.CopyLemmas.{named_output}
-use Rattle.tx_defs.specs.Site.{Site, Found}
+use Rattle.rule_defs.specs.Site.{Site, Found}
 use Rattle.tx_rules.specs.At.{AtValue, IsSiteOf, AreSeen, found_row}
 use Rattle.tx_rules.specs.Copying.{IsFoundAt, IsBlockAt, IsCopyOfRow, CopiesItsRow, AreTaken, HoldsOutput, row_in}
 use Rattle.tx_rules.specs.Outcome.{Copies}

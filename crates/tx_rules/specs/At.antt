@@ -2,8 +2,8 @@
 use Rattle.std.specs.Prelude.{◌≡◌, ◌⊎◌, ℕ, ◌<◌, nat_lt, Bool, is_some, List, map, length, Option, Some, None, if◌then◌else◌, slice_index, IsTrue, IsSome}
 use Rattle.std.specs.Option.{option_map}
 use Rattle.std.specs.List.{All}
-use Rattle.codec_defs.specs.Schema.{OutPoint, Transaction, Block}
-use Rattle.time_defs.specs.Specification.{Specification}
+use Rattle.chain_defs.specs.Schema.{OutPoint, Transaction, Block}
+use Rattle.chain_defs.specs.Specification.{Specification}
 use Rattle.chain_defs.specs.Kept.{block_at}
 use Rattle.chain_defs.specs.Branch.{branch, branch_places}
 use Rattle.chain_tree.specs.declared.entry.Entry.{Entry}
@@ -11,8 +11,8 @@ use Rattle.chain_tree.specs.Blocks.{IndexesBlocks, IsParent}
 use Rattle.chain_tree.specs.Told.{Stored, blocks_of}
 use Rattle.cell_defs.specs.Cell.{Cell, holds_its_own}
 use Rattle.cell_defs.specs.Row.{Row, row_of, IsOutputOf}
-use Rattle.tx_defs.specs.Site.{Site, Found, height_at, all_there}
-use Rattle.tx_defs.specs.Resolving.{spends_each_once}
+use Rattle.rule_defs.specs.Site.{Site, Found, height_at, all_there}
+use Rattle.rule_defs.specs.Resolving.{spends_each_once}
 
 -- The specification, the entries of the tree, the place of the parent, and the block that is judged, where the transaction stands in one.
 pub record AtValue : Type 0 where

@@ -1,11 +1,11 @@
 -- Rows of cells that a transaction sees, and what copies of them are.
 use Rattle.std.specs.Prelude.{◌≡◌, ℕ, ◌≤◌, List, length, Option, Some, IsSome, IsSomeAnd, IfSome, slice_get}
-use Rattle.codec_defs.specs.Shape.{decoded}
-use Rattle.codec_defs.specs.Schema.{OutPoint, Block, cell_output}
+use Rattle.chain_defs.specs.Shape.{decoded}
+use Rattle.chain_defs.specs.Schema.{OutPoint, Block, cell_output}
 use Rattle.chain_tree.specs.Told.{Stored, blocks_of}
 use Rattle.cell_defs.specs.Row.{Row}
 use Rattle.cell_model.specs.Copies.{ResolvedValue, IsCopyOf, CopiesOutput, output_in}
-use Rattle.tx_defs.specs.Site.{Site, Found}
+use Rattle.rule_defs.specs.Site.{Site, Found}
 use Rattle.tx_rules.specs.At.{AtValue, IsSiteOf, found_row}
 
 -- A row with its out-point is that of a cell that the transaction sees.

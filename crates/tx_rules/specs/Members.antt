@@ -1,10 +1,10 @@
 -- The rows of the members of a dep group.
 use Rattle.std.specs.Prelude.{◌≡◌, ℕ, Bool, List, ◌++◌, map, Option, Some, None, if◌then◌else◌}
 use Rattle.std.specs.Option.{option_map, option_and_then}
-use Rattle.codec_defs.specs.Schema.{OutPoint}
+use Rattle.chain_defs.specs.Schema.{OutPoint}
 use Rattle.cell_defs.specs.Row.{Row}
-use Rattle.tx_defs.specs.Site.{all_there}
-use Rattle.tx_defs.specs.Resolving.{members_of}
+use Rattle.rule_defs.specs.Site.{all_there}
+use Rattle.rule_defs.specs.Resolving.{members_of}
 use Rattle.tx_rules.specs.At.{find_row}
 
 -- the rows of out-points, where each has one

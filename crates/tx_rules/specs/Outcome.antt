@@ -1,8 +1,8 @@
 -- What a transaction resolves to.
 use Rattle.std.specs.Prelude.{◌≡◌, ◌⊎◌, ℕ, ◌≤◌, Bool, false, List, ◌∷◌, ◌++◌, map, Option, Some, None, Result, Err, IsErrAnd, IsTrue, IsSome, slice_index}
 use Rattle.std.specs.List.{All, AllZip}
-use Rattle.codec_defs.specs.Shape.{decoded}
-use Rattle.codec_defs.specs.Schema.{OutPoint, Transaction, cell_output, Block}
+use Rattle.chain_defs.specs.Shape.{decoded}
+use Rattle.chain_defs.specs.Schema.{OutPoint, Transaction, cell_output, Block}
 use Rattle.outside.specs.declared.disk.ReadStop.TheVariants.{NoMemory}
 use Rattle.chain_defs.specs.Hashes.{transaction_hash}
 use Rattle.chain_defs.specs.Branch.{branch_places}
@@ -10,12 +10,12 @@ use Rattle.chain_tree.specs.declared.entry.Entry.{Entry}
 use Rattle.chain_tree.specs.Entries.{place_of_hash}
 use Rattle.cell_defs.specs.Row.{Row}
 use Rattle.cell_model.specs.Copies.{ResolvedValue, ResolvedTxValue, IsCopyOf}
-use Rattle.rule_names.specs.declared.rule.Rule.{Rule}
-use Rattle.rule_names.specs.declared.rule.Rule.TheVariants.{TransactionForm, Proposed, Inputs}
-use Rattle.tx_defs.specs.Site.{Site, Found}
-use Rattle.tx_defs.specs.Resolving.{inputs, deps, heights}
-use Rattle.tx_defs.specs.Rules.{has_form, form_rules, cell_rules}
-use Rattle.tx_defs.specs.Capacity as capacity
+use Rattle.rule_defs.specs.declared.rule.Rule.{Rule}
+use Rattle.rule_defs.specs.declared.rule.Rule.TheVariants.{TransactionForm, Proposed, Inputs}
+use Rattle.rule_defs.specs.Site.{Site, Found}
+use Rattle.rule_defs.specs.Resolving.{inputs, deps, heights}
+use Rattle.rule_defs.specs.TransactionRules.{has_form, form_rules, cell_rules}
+use Rattle.rule_defs.specs.Capacity as capacity
 use Rattle.tx_rules.specs.At.{found_row, spends_rows}
 use Rattle.tx_rules.specs.declared.capacity.Balance.{Balance}
 use Rattle.tx_rules.specs.declared.resolving.TxStop.{TxStop}

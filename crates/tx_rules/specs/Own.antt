@@ -1,6 +1,6 @@
 -- The transactions of the block that is judged, as a block.
 use Rattle.std.specs.Prelude.{ℕ, List, []}
-use Rattle.codec_defs.specs.Schema.{Header, Transaction, Block}
+use Rattle.chain_defs.specs.Schema.{Header, Transaction, Block}
 use Rattle.tx_rules.specs.declared.at.Held.{Held}
 use Rattle.tx_rules.specs.declared.at.Held.TheVariants.{Block as whole, Apart as apart}
 

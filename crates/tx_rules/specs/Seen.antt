@@ -1,10 +1,10 @@
 -- The row of a cell that a transaction sees.
 use Rattle.std.specs.Prelude.{◌≡◌, ℕ, List, Some, None}
-use Rattle.codec_defs.specs.Schema.{Block}
+use Rattle.chain_defs.specs.Schema.{Block}
 use Rattle.chain_tree.specs.declared.entry.Entry.{Entry}
 use Rattle.chain_tree.specs.Entries.{entry_at}
 use Rattle.cell_defs.specs.Row.{Row, row_of}
-use Rattle.tx_defs.specs.Site.{Site, Found}
+use Rattle.rule_defs.specs.Site.{Site, Found}
 use Rattle.tx_rules.specs.At.{place_of_height}
 
 -- a row is that of a cell that is seen, over kept blocks and the parent's place

@@ -1,18 +1,18 @@
 -- What the steps of judging a transaction say: the rules in groups, and tables by answer.
 use Rattle.std.specs.Prelude.{◌≡◌, ℕ, ◌<◌, ◌≤◌, Bool, List, [], ◌∷◌, map, Result, Ok, Err, Some, None, slice_index}
-use Rattle.codec_defs.specs.Schema.{OutPoint, Transaction, Block}
-use Rattle.fold_defs.specs.First.{first_failing}
+use Rattle.chain_defs.specs.Schema.{OutPoint, Transaction, Block}
+use Rattle.chain_defs.specs.First.{first_failing}
 use Rattle.outside.specs.declared.disk.Area.TheVariants.{Log}
 use Rattle.outside.specs.declared.disk.ReadStop.TheVariants.{DiskFault, NoMemory, Damaged}
 use Rattle.chain_defs.specs.Branch.{branch_places}
 use Rattle.cell_defs.specs.Row.{Row}
-use Rattle.rule_names.specs.Number.{rule_number}
-use Rattle.tx_defs.specs.Site.{Site}
-use Rattle.tx_defs.specs.Resolving.{spends_live_cells, has_cell_deps, has_header_deps, inputs, deps, heights}
-use Rattle.tx_defs.specs.Age.{uses_mature_cells, meets_each_since}
-use Rattle.tx_defs.specs.Withdrawals.{names_deposits}
-use Rattle.tx_defs.specs.Capacity.{makes_good_cells, balances, fee, interest}
-use Rattle.tx_defs.specs.Rules.{has_form}
+use Rattle.rule_defs.specs.RuleNumber.{rule_number}
+use Rattle.rule_defs.specs.Site.{Site}
+use Rattle.rule_defs.specs.Resolving.{spends_live_cells, has_cell_deps, has_header_deps, inputs, deps, heights}
+use Rattle.rule_defs.specs.Age.{uses_mature_cells, meets_each_since}
+use Rattle.rule_defs.specs.Withdrawals.{names_deposits}
+use Rattle.rule_defs.specs.Capacity.{makes_good_cells, balances, fee, interest}
+use Rattle.rule_defs.specs.TransactionRules.{has_form}
 use Rattle.tx_rules.specs.At.{found_row}
 use Rattle.tx_rules.specs.Outcome.{IsTried}
 use Rattle.tx_rules.specs.declared.capacity.Balance.{Balance}

@@ -1,15 +1,15 @@
 // J23 and J24: how old the cells of a transaction are.
 ghost use Rattle.std.specs.Prelude.{◌≡◌, ◌^◌, ◌<◌, ◌≤◌, ◌&&◌, List, length, map, Err, IfOk, Option};
 ghost use Rattle.std.specs.List.{list_all, zip};
-ghost use Rattle.codec_defs.specs.Schema.{OutPoint};
+ghost use Rattle.chain_defs.specs.Schema.{OutPoint};
 ghost use Rattle.cell_defs.specs.Row.{Row};
-ghost use Rattle.time_defs.specs.Since.{is_valid, is_met};
+ghost use Rattle.chain_defs.specs.Since.{is_valid, is_met};
 ghost use Rattle.chain_defs.specs.Median.{median_time};
 ghost use Rattle.outside.specs.declared.disk.Area.TheVariants.{Log};
 ghost use Rattle.outside.specs.declared.disk.Damage.{Damage};
 ghost use Rattle.chain_tree.specs.Told.{Stored, blocks_of};
-ghost use Rattle.tx_defs.specs.Site.{Site, Found, height_at};
-ghost use Rattle.tx_defs.specs.Age as rules;
+ghost use Rattle.rule_defs.specs.Site.{Site, Found, height_at};
+ghost use Rattle.rule_defs.specs.Age as rules;
 ghost use Rattle.tx_rules.specs.At.{IsPlaced, IsSiteOf, AreSeen, found_row};
 ghost use Rattle.tx_rules.specs.Seen.{IsRowOf};
 

@@ -28,7 +28,7 @@ pub struct Own<'a, 'b> {
 }
 
 impl<'a, 'b> Model for Own<'a, 'b> {
-    ghost use Rattle.codec_defs.specs.Schema.{Block};
+    ghost use Rattle.chain_defs.specs.Schema.{Block};
     ghost use Rattle.tx_rules.specs.Own.{block_of};
 
     ghost Value = { Block };
@@ -117,12 +117,12 @@ impl<'a, 'o, 'b> Model for TxAt<'a, 'o, 'b> {
 
 impl<'a, 'o, 'b> TxAt<'a, 'o, 'b> {
     ghost use Rattle.std.specs.Prelude.{◌≡◌, ◌+◌, ◌^◌, ◌<◌, List, IsSomeAnd};
-    ghost use Rattle.codec_defs.specs.Schema.{OutPoint};
+    ghost use Rattle.chain_defs.specs.Schema.{OutPoint};
     ghost use Rattle.std.specs.declared.option.Option.{Option};
     ghost use Rattle.cell_defs.specs.Row.{Row};
     ghost use Rattle.chain_tree.specs.Entries.{entry_at};
     ghost use Rattle.chain_tree.specs.Told.{Stored};
-    ghost use Rattle.tx_defs.specs.Site.{Site, height_at};
+    ghost use Rattle.rule_defs.specs.Site.{Site, height_at};
     ghost use Rattle.tx_rules.specs.At.{IsPlaced, IsSiteOf};
 
     /// The height of the block that the transaction stands in.

@@ -1,8 +1,8 @@
 // J27: what the inputs count and the outputs hold.
 ghost use Rattle.std.specs.Prelude.{◌≡◌, ◌<◌, ◌^◌, ℕ, IsTrue, IsSome, false, pos, ◌-ℤ◌, nat_abs, List, length, map, Err, Some, None, IfOk, IfSome, slice_index, Option};
 ghost use Rattle.std.specs.List.{AllZip, sum_by};
-ghost use Rattle.codec_defs.specs.Schema.{OutPoint};
-ghost use Rattle.time_defs.specs.Dao.{field_of_bytes, as_u64};
+ghost use Rattle.chain_defs.specs.Schema.{OutPoint};
+ghost use Rattle.chain_defs.specs.Dao.{field_of_bytes, as_u64};
 ghost use Rattle.cell_defs.specs.Row.{Row};
 ghost use Rattle.cell_model.specs.Copies.{IsCopyOf};
 ghost use Rattle.chain_defs.specs.Branch.{branch_places};
@@ -11,10 +11,10 @@ ghost use Rattle.outside.specs.declared.disk.Damage.{Damage};
 ghost use Rattle.chain_tree.specs.declared.entry.Entry.{Entry};
 ghost use Rattle.chain_tree.specs.Entries.{entry_at};
 ghost use Rattle.chain_tree.specs.Told.{Stored, blocks_of};
-ghost use Rattle.tx_defs.specs.Site.{Site, Found, height_at};
-ghost use Rattle.tx_defs.specs.Resolving.{inputs, heights};
-ghost use Rattle.tx_defs.specs.Withdrawals.{names_deposits, withdraws_well};
-ghost use Rattle.tx_defs.specs.Capacity as rules;
+ghost use Rattle.rule_defs.specs.Site.{Site, Found, height_at};
+ghost use Rattle.rule_defs.specs.Resolving.{inputs, heights};
+ghost use Rattle.rule_defs.specs.Withdrawals.{names_deposits, withdraws_well};
+ghost use Rattle.rule_defs.specs.Capacity as rules;
 ghost use Rattle.tx_rules.specs.At.{IsPlaced, IsSiteOf};
 ghost use Rattle.tx_rules.specs.Outcome.{Copies, IsBalanceOf};
 ghost use Rattle.tx_rules.specs.Seen.{IsRowOf};

@@ -1,7 +1,7 @@
 // Copies of the cells that rows name, each kept block read once.
 ghost use Rattle.std.specs.Prelude.{◌≡◌, ◌<◌, ◌+◌, List, length, map, Some, None, Err, IfOk, IfSome, IsSomeAnd, IsTrue, Option, replicate, slice_get};
 ghost use Rattle.std.specs.List.{All, AllZip};
-ghost use Rattle.codec_defs.specs.Schema.{OutPoint, Block};
+ghost use Rattle.chain_defs.specs.Schema.{OutPoint, Block};
 ghost use Rattle.cell_defs.specs.Cell.{Cell};
 ghost use Rattle.cell_model.specs.Copies.{IsCopyOf, CopiesOutput, NamesOutput, output_in};
 ghost use Rattle.cell_defs.specs.Row.{Row};
@@ -10,7 +10,7 @@ ghost use Rattle.outside.specs.declared.disk.Damage.{Damage};
 ghost use Rattle.outside.specs.declared.disk.ReadStop.TheVariants.{DiskFault, Damaged};
 ghost use Rattle.chain_tree.specs.Told.{Stored, blocks_of};
 ghost use Rattle.chain_tree.specs.Reading.{HasRead, stop_of};
-ghost use Rattle.tx_defs.specs.Site.{Site, Found};
+ghost use Rattle.rule_defs.specs.Site.{Site, Found};
 ghost use Rattle.tx_rules.specs.At.{IsPlaced, IsSiteOf, AreSeen, found_row};
 ghost use Rattle.tx_rules.specs.Copying.{IsFoundAt, IsBlockAt, IsCopyOfRow, CopiesItsRow, AreTaken, row_in, HoldsOutput};
 ghost use Rattle.tx_rules.specs.Outcome.{Copies};

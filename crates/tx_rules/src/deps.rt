@@ -1,7 +1,7 @@
 // J21: the cells that the cell deps stand for.
 ghost use Rattle.std.specs.Prelude.{◌≡◌, ◌<◌, ℕ, List, Some, Err, length, IfOk, map};
 ghost use Rattle.std.specs.Option.{option_map};
-ghost use Rattle.codec_defs.specs.Schema.{CellOutput, Block};
+ghost use Rattle.chain_defs.specs.Schema.{CellOutput, Block};
 ghost use Rattle.outside.specs.declared.disk.Area.TheVariants.{Log};
 ghost use Rattle.outside.specs.declared.disk.Damage.{Damage};
 ghost use Rattle.outside.specs.declared.disk.ReadStop.TheVariants.{DiskFault, Damaged};
@@ -10,8 +10,8 @@ ghost use Rattle.chain_tree.specs.Reading.{HasRead, stop_of};
 ghost use Rattle.cell_defs.specs.Cell.{Cell};
 ghost use Rattle.cell_defs.specs.Row.{row_of};
 ghost use Rattle.cell_model.specs.Copies.{NamesOutput, output_in};
-ghost use Rattle.tx_defs.specs.Site.{Site};
-ghost use Rattle.tx_defs.specs.Resolving.{cells_of_dep, dep_cells};
+ghost use Rattle.rule_defs.specs.Site.{Site};
+ghost use Rattle.rule_defs.specs.Resolving.{cells_of_dep, dep_cells};
 ghost use Rattle.tx_rules.specs.At.{IsPlaced, IsSiteOf, found_row, place_of_height};
 ghost use Rattle.tx_rules.specs.Members.{Adds, rows_of, member_rows};
 

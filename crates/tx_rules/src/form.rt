@@ -1,9 +1,9 @@
 // J18: what a transaction is by itself.
 ghost use Rattle.std.specs.Prelude.{◌≡◌, ◌<◌, ◌&&◌, ◌==◌, nat_lt, IfOk, Some, length, map, slice_get};
-ghost use Rattle.codec_defs.specs.Shape.{encoded};
-ghost use Rattle.codec_defs.specs.Schema.{cell_dep};
+ghost use Rattle.chain_defs.specs.Shape.{encoded};
+ghost use Rattle.chain_defs.specs.Schema.{cell_dep};
 ghost use Rattle.chain_defs.specs.Hashes.{are_distinct};
-ghost use Rattle.tx_defs.specs.Rules as rules;
+ghost use Rattle.rule_defs.specs.TransactionRules as rules;
 
 use crate::arrays::array_of;
 use mol_schema::TxView;

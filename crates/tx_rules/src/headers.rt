@@ -2,14 +2,14 @@
 ghost use Rattle.std.specs.Prelude.{◌≡◌, ◌≤◌, List, Some, length, IfOk, IfSome, IsSomeAnd, map, slice_index, Option};
 ghost use Rattle.std.specs.Option.{option_map};
 ghost use Rattle.std.specs.List.{AllZip};
-ghost use Rattle.codec_defs.specs.Schema.{OutPoint};
+ghost use Rattle.chain_defs.specs.Schema.{OutPoint};
 ghost use Rattle.cell_defs.specs.Row.{Row};
 ghost use Rattle.chain_defs.specs.Kept.{place_of};
 ghost use Rattle.chain_defs.specs.Branch.{branch_places};
 ghost use Rattle.chain_tree.specs.Entries.{entry_at, place_of_hash};
 ghost use Rattle.chain_tree.specs.Told.{Stored, blocks_of};
-ghost use Rattle.tx_defs.specs.Site.{Site};
-ghost use Rattle.tx_defs.specs.Resolving.{header_heights, mature_ancestor};
+ghost use Rattle.rule_defs.specs.Site.{Site};
+ghost use Rattle.rule_defs.specs.Resolving.{header_heights, mature_ancestor};
 ghost use Rattle.tx_rules.specs.At.{IsPlaced, IsSiteOf};
 
 use crate::at::TxAt;

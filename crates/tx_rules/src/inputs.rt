@@ -1,9 +1,9 @@
 // J20: the cells that are spent.
 ghost use Rattle.std.specs.Prelude.{◌≡◌, ◌<◌, IfOk, Some, None, length, map, slice_get};
 ghost use Rattle.std.specs.Option.{option_map};
-ghost use Rattle.codec_defs.specs.Shape.{encoded};
-ghost use Rattle.codec_defs.specs.Schema.{out_point};
-ghost use Rattle.tx_defs.specs.Resolving.{spends_each_once};
+ghost use Rattle.chain_defs.specs.Shape.{encoded};
+ghost use Rattle.chain_defs.specs.Schema.{out_point};
+ghost use Rattle.rule_defs.specs.Resolving.{spends_each_once};
 ghost use Rattle.tx_rules.specs.At as sites;
 
 use crate::arrays::array_of;

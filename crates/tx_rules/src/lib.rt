@@ -1,7 +1,7 @@
 //! The rules on one transaction after the cellbase, J18 to J27 (docs/RULES.md, "A block").
 //!
 //! [`resolve`] is the contract of use: over a tree, the live cells that the transaction sees and a source of kept
-//! blocks it answers the least of these rules that is broken, exactly by `tx_defs`, and otherwise the transaction with
+//! blocks it answers the least of these rules that is broken, exactly by `rule_defs`, and otherwise the transaction with
 //! copies of the cells of its inputs and deps, its fee and its interest. What it answers of J18 to J20 stands on the
 //! transaction, its proposal and the rows of its inputs alone, whatever the source tells. It copies the cells of the
 //! inputs where J18 to J25 are kept, those of the deps where all are, and no other. Whether the transaction's id is

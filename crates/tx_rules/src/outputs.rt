@@ -1,11 +1,11 @@
 // J25: the cells that are made.
 ghost use Rattle.std.specs.Prelude.{◌≡◌, ◌^◌, ◌<◌, not, length, map, is_some};
 ghost use Rattle.std.specs.List.{list_any, range_with_len};
-ghost use Rattle.codec_defs.specs.Schema.{OutPoint};
+ghost use Rattle.chain_defs.specs.Schema.{OutPoint};
 ghost use Rattle.cell_defs.specs.Cell as cell_rules;
 ghost use Rattle.chain_defs.specs.Hashes.{transaction_hash};
-ghost use Rattle.tx_defs.specs.Site.{Site};
-ghost use Rattle.tx_defs.specs.Capacity as rules;
+ghost use Rattle.rule_defs.specs.Site.{Site};
+ghost use Rattle.rule_defs.specs.Capacity as rules;
 
 use cell_model::{Cells, OutPoint, data_at, occupied};
 use mol_schema::{OutputView, TxView};

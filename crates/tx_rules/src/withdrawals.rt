@@ -3,7 +3,7 @@ ghost use Rattle.std.specs.Prelude.{◌≡◌, ◌<◌, ◌&&◌, ◌||◌, ◌=
 ghost use Rattle.std.specs.Option.{option_map, option_and_then};
 ghost use Rattle.std.specs.List.{AllZip, list_all, list_any};
 ghost use Rattle.std.specs.List.Sorted.{IsNonDecreasing, IsPermutation};
-ghost use Rattle.codec_defs.specs.Schema.{OutPoint};
+ghost use Rattle.chain_defs.specs.Schema.{OutPoint};
 ghost use Rattle.cell_defs.specs.Cell.{Cell};
 ghost use Rattle.cell_defs.specs.Row.{Row};
 ghost use Rattle.cell_model.specs.Copies.{IsCopyOf};
@@ -12,9 +12,9 @@ ghost use Rattle.outside.specs.declared.disk.Area.TheVariants.{Log};
 ghost use Rattle.outside.specs.declared.disk.Damage.{Damage};
 ghost use Rattle.outside.specs.declared.disk.ReadStop.TheVariants.{DiskFault, Damaged};
 ghost use Rattle.chain_tree.specs.Told.{Stored, blocks_of};
-ghost use Rattle.tx_defs.specs.Site.{Site, Found, height_at};
-ghost use Rattle.tx_defs.specs.Resolving.{inputs, heights};
-ghost use Rattle.tx_defs.specs.Withdrawals as rules;
+ghost use Rattle.rule_defs.specs.Site.{Site, Found, height_at};
+ghost use Rattle.rule_defs.specs.Resolving.{inputs, heights};
+ghost use Rattle.rule_defs.specs.Withdrawals as rules;
 ghost use Rattle.tx_rules.specs.At.{IsPlaced, IsSiteOf};
 ghost use Rattle.tx_rules.specs.Outcome.{Copies};
 ghost use Rattle.tx_rules.specs.Seen.{IsRowOf};
@@ -96,7 +96,7 @@ fn index_in(bytes: &[u8]) -> Option<u64>
 }
 
 /// The index of the header dep of the deposit block of the input at a place, as its witness has it.
-#[tactic(auto, unfolding(tx_defs::specs::Withdrawals::deposit_index))]
+#[tactic(auto, unfolding(rule_defs::specs::Withdrawals::deposit_index))]
 fn deposit_index(tx: &TxView<'_>, i: usize) -> Option<u64>
     ensures { result ≡ rules.deposit_index tx.now i }
 {

@@ -5,13 +5,13 @@ use Rattle.std.specs.List.{list_any, flat_map}
 use Rattle.std.specs.Str.{bytes_eq}
 use Rattle.std.proofs.lemmas.Bool.{or_left, or_right}
 use Rattle.std.proofs.lemmas.List.Folds.{list_any-append}
-use Rattle.codec_defs.specs.Schema.{Header, UncleBlock, Block}
+use Rattle.chain_defs.specs.Schema.{Header, UncleBlock, Block}
 use Rattle.chain_defs.specs.Kept.{header_hash, block_at, place_of}
 use Rattle.chain_defs.specs.Branch.{branch_places, branch}
 use Rattle.chain_defs.proofs.KeptLaws.{place_of-there}
 use Rattle.chain_tree.specs.declared.entry.Entry.{Entry}
 use Rattle.chain_tree.specs.Blocks.{Describes, IndexesBlocks}
-use Rattle.family_defs.specs.Uncles.{embedded_uncles, known_headers}
+use Rattle.rule_defs.specs.Uncles.{embedded_uncles, known_headers}
 use Rattle.uncle_rules.specs.Embedded.{embedded_at, embedded_in, embedded_from, UnclesValue, IndexesUncles}
 use Rattle.uncle_rules.specs.Known.{has_number, is_named, is_on, is_named_on}
 use Rattle.uncle_rules.proofs.PlaceLemmas.{any_at, any-branch, named-none, named-some}

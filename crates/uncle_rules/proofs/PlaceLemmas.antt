@@ -6,7 +6,7 @@ use Rattle.std.specs.Str.{bytes_eq}
 use Rattle.std.proofs.lemmas.Bool.{ne_eqb, eq-eqb, or_from, and_left, and_right, false_from_ne_true, cases_order}
 use Rattle.std.proofs.lemmas.Slice.Eq.{bytes_eq-Decides}
 use Rattle.std.proofs.lemmas.Option.{same_Some}
-use Rattle.codec_defs.specs.Schema.{Block}
+use Rattle.chain_defs.specs.Schema.{Block}
 use Rattle.chain_defs.specs.Kept.{block_hash, block_at, place_of, IsKept}
 use Rattle.chain_defs.specs.Branch.{branch_places, branch}
 use Rattle.chain_defs.proofs.KeptLaws.{place_of-none, hashes-differ}

@@ -8,10 +8,10 @@ use Rattle.std.proofs.lemmas.List.{take_all}
 use Rattle.std.proofs.lemmas.List.Folds.{list_all_more, list_all_at}
 use Rattle.std.proofs.lemmas.List.FromFn.{length-enumerate_from, get_or-enumerate_from}
 use Rattle.std.proofs.lemmas.Option.{slice_get_within, get_or_from_slice_get}
-use Rattle.codec_defs.specs.Schema.{Header, UncleBlock, Block}
-use Rattle.time_defs.specs.Specification.{Specification}
+use Rattle.chain_defs.specs.Schema.{Header, UncleBlock, Block}
+use Rattle.chain_defs.specs.Specification.{Specification}
 use Rattle.chain_defs.specs.Kept.{header_hash}
-use Rattle.family_defs.specs.Uncles.{stands_on, is_new, is_beside, proposes_well, known_headers, is_uncle, has_uncles}
+use Rattle.rule_defs.specs.Uncles.{stands_on, is_new, is_beside, proposes_well, known_headers, is_uncle, has_uncles}
 use Rattle.uncle_rules.specs.Known.{is_named}
 
 -- ---- The parent

@@ -1,6 +1,6 @@
 -- The uncles that kept blocks embed.
 use Rattle.std.specs.Prelude.{◌≡◌, ℕ, suc, List, [], ◌∷◌, ◌++◌, map}
-use Rattle.codec_defs.specs.Schema.{UncleBlock, Block}
+use Rattle.chain_defs.specs.Schema.{UncleBlock, Block}
 use Rattle.chain_defs.specs.Kept.{header_hash}
 
 -- an embedded uncle: the hash and the number of its header, and the place of the block that embeds it

@@ -2,7 +2,7 @@
 use Rattle.std.specs.Prelude.{ℕ, Bool, true, ◌&&◌, ◌==◌, List, Option, Some, None}
 use Rattle.std.specs.List.{list_any}
 use Rattle.std.specs.Str.{bytes_eq}
-use Rattle.codec_defs.specs.Schema.{Header}
+use Rattle.chain_defs.specs.Schema.{Header}
 use Rattle.chain_defs.specs.Kept.{header_hash}
 use Rattle.uncle_rules.specs.Embedded.{Embedded}
 

@@ -1,7 +1,7 @@
 // The proposal ids of an uncle.
 ghost use Rattle.std.specs.Prelude.{◌≡◌, ◌<◌, Some, length, slice_get, IfOk};
 ghost use Rattle.chain_defs.specs.Hashes as hashes;
-ghost use Rattle.family_defs.specs.Uncles as rules;
+ghost use Rattle.rule_defs.specs.Uncles as rules;
 
 use blake2b_ckb::Hasher;
 use epochs::Spec;

@@ -1,8 +1,8 @@
 // J15: the uncles of a block.
 ghost use Rattle.std.specs.Prelude.{◌≡◌, ◌<◌, ◌≤◌, ◌&&◌, List, length, map, take, IfOk};
 ghost use Rattle.std.specs.List.{list_any};
-ghost use Rattle.codec_defs.specs.Schema.{Block};
-ghost use Rattle.family_defs.specs.Uncles as rules;
+ghost use Rattle.chain_defs.specs.Schema.{Block};
+ghost use Rattle.rule_defs.specs.Uncles as rules;
 ghost use Rattle.chain_defs.specs.Branch.{branch};
 ghost use Rattle.chain_tree.specs.Blocks.{IndexesBlocks};
 ghost use Rattle.uncle_rules.specs.Embedded.{IndexesUncles};

@@ -3,11 +3,11 @@ use Rattle.std.proofs.Common.{◌≡◌, ◌↔◌, ℕ, ◌<◌, ◌≤◌, Boo
 use Rattle.std.specs.Prelude.{is_some, IsTrue}
 use Rattle.std.proofs.lemmas.Bool.{cases_lt}
 use Rattle.std.proofs.lemmas.Bool.Decides.{Decides-ltb}
-use Rattle.codec_defs.specs.Schema.{Block}
+use Rattle.chain_defs.specs.Schema.{Block}
 use Rattle.chain_defs.specs.Kept.{block_hash, place_of, kept_limit}
 use Rattle.chain_defs.specs.Branch.{branch}
-use Rattle.time_defs.specs.Specification.{Specification}
-use Rattle.block_defs.specs.Rules.{first_broken}
+use Rattle.chain_defs.specs.Specification.{Specification}
+use Rattle.verdict_defs.specs.Rules.{first_broken}
 use Rattle.verdict_defs.specs.Verdict.{verdict, verdict_of, verdict_of_block, verdict_on, verdict_by_rules, has_room}
 use Rattle.verdict_defs.specs.Laws.{AnswersBlock, AnswersExactly}
 use Rattle.verdict_defs.specs.declared.verdict.Verdict.{Verdict}

@@ -7,17 +7,17 @@ use Rattle.std.proofs.lemmas.Bool.{false_from_ne_true}
 use Rattle.std.proofs.lemmas.Bool.Decides.{Decides-ltb, Decides-eqb}
 use Rattle.std.proofs.lemmas.List.{append-nil, append_assoc, length_push}
 use Rattle.std.proofs.lemmas.List.Elements.{All-head, All-tail}
-use Rattle.codec_defs.specs.Shape.{decoded}
-use Rattle.codec_defs.specs.Schema.{Block}
-use Rattle.codec_defs.specs.Schema as shapes
-use Rattle.fold_defs.proofs.FirstLemmas.{finds_none}
+use Rattle.chain_defs.specs.Shape.{decoded}
+use Rattle.chain_defs.specs.Schema.{Block}
+use Rattle.chain_defs.specs.Schema as shapes
+use Rattle.chain_defs.proofs.FirstLemmas.{finds_none}
 use Rattle.chain_defs.specs.Kept.{block_hash, block_at, place_of, StandsOn, IsKept, follows, kept_limit, blocks_of_item, block_list}
 use Rattle.chain_defs.specs.Branch.{branch}
 use Rattle.chain_defs.proofs.KeptLaws.{place_of-below, place_of-there, place_of-push, IsKept-one, IsKept-push}
 use Rattle.chain_defs.proofs.BranchLaws.{branch-last, branch-push}
-use Rattle.time_defs.specs.Specification.{Specification}
+use Rattle.chain_defs.specs.Specification.{Specification}
 use Rattle.rule_defs.specs.Header.{has_version, parent_of}
-use Rattle.block_defs.specs.Rules.{all_rules, first_broken}
+use Rattle.verdict_defs.specs.Rules.{all_rules, first_broken}
 use Rattle.verdict_defs.specs.Verdict.{verdict, verdict_of, verdict_on, verdict_by_rules, joins, has_room, kept_after}
 use Rattle.verdict_defs.specs.Chain.{Chain, chain_after, chain_over}
 use Rattle.verdict_defs.specs.Laws.{MayJoin, CanJoin, JoinsExactly, KeepsWhatJoins, KeepingKeeps, KeptStays, JoinsOnItsBranch}

@@ -1,9 +1,9 @@
 -- A chain: its specification and the blocks that are kept. Items are judged one after the other, each over what is kept by then
 -- (docs/COMMANDS.md, "The text").
 use Rattle.std.specs.Prelude.{ℕ, List}
-use Rattle.codec_defs.specs.Schema.{Block}
-use Rattle.fold_defs.specs.Fold.{keep, verdicts}
-use Rattle.time_defs.specs.Specification.{Specification, specification_of}
+use Rattle.chain_defs.specs.Schema.{Block}
+use Rattle.chain_defs.specs.Fold.{keep, verdicts}
+use Rattle.chain_defs.specs.Specification.{Specification, specification_of}
 use Rattle.verdict_defs.specs.Verdict.{verdict, kept_after}
 use Rattle.chain_defs.specs.Kept.{blocks_of_item}
 use Rattle.verdict_defs.specs.declared.verdict.Verdict.{Verdict}

@@ -1,12 +1,12 @@
 -- What the verdict is for, in words (docs/COMMANDS.md, "The text").
 use Rattle.std.specs.Prelude.{◌≡◌, ◌↔◌, ℕ, ◌<◌, ◌≤◌, List, [], ◌∷◌, ◌++◌, length, Some, None, is_some, IsTrue}
-use Rattle.codec_defs.specs.Shape.{decoded}
-use Rattle.codec_defs.specs.Schema.{Block}
-use Rattle.codec_defs.specs.Schema as shapes
+use Rattle.chain_defs.specs.Shape.{decoded}
+use Rattle.chain_defs.specs.Schema.{Block}
+use Rattle.chain_defs.specs.Schema as shapes
 use Rattle.chain_defs.specs.Kept.{block_hash, place_of, IsKept, kept_limit}
 use Rattle.chain_defs.specs.Branch.{branch}
-use Rattle.time_defs.specs.Specification.{Specification}
-use Rattle.block_defs.specs.Rules.{first_broken}
+use Rattle.chain_defs.specs.Specification.{Specification}
+use Rattle.verdict_defs.specs.Rules.{first_broken}
 use Rattle.verdict_defs.specs.Verdict.{verdict, joins, kept_after}
 use Rattle.verdict_defs.specs.Chain.{Chain, chain_over}
 use Rattle.verdict_defs.specs.declared.verdict.Verdict.{Verdict}

@@ -1,3 +1,14 @@
+pub mod Scene
+pub mod Groups
+pub mod Codes
+pub mod Sources
+pub mod Items
+pub mod TypeId
+pub mod Outcome
+pub mod ScriptRules
+pub mod Transactions
+pub mod Rules
+pub mod Ext
 pub mod Verdict
 pub mod Chain
 pub mod Trial

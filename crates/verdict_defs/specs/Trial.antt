@@ -1,14 +1,14 @@
 -- What comes of a transaction that is judged alone, after the last block of the best branch (docs/COMMANDS.md, "The text").
 use Rattle.std.specs.Prelude.{ℕ, List, Option, Some, None}
-use Rattle.codec_defs.specs.Shape.{decoded}
-use Rattle.codec_defs.specs.Schema.{Transaction, Block, transaction}
-use Rattle.time_defs.specs.Specification.{Specification}
+use Rattle.chain_defs.specs.Shape.{decoded}
+use Rattle.chain_defs.specs.Schema.{Transaction, Block, transaction}
+use Rattle.chain_defs.specs.Specification.{Specification}
 use Rattle.chain_defs.specs.Tip.{best_branch}
-use Rattle.tx_defs.specs.Capacity.{fee}
-use Rattle.script_defs.specs.Scene.{scene_of}
-use Rattle.script_defs.specs.Rules.{cycles_of}
-use Rattle.block_defs.specs.Rules.{broken_in_dry_run}
-use Rattle.tx_defs.specs.Site.{site_after}
+use Rattle.rule_defs.specs.Capacity.{fee}
+use Rattle.verdict_defs.specs.Scene.{scene_of}
+use Rattle.verdict_defs.specs.ScriptRules.{cycles_of}
+use Rattle.verdict_defs.specs.Rules.{broken_in_dry_run}
+use Rattle.rule_defs.specs.Site.{site_after}
 use Rattle.verdict_defs.specs.Chain.{Chain}
 use Rattle.verdict_defs.specs.declared.trial.Trial.{Trial}
 use Rattle.verdict_defs.specs.declared.trial.Trial.TheVariants.{Passes, Refused}

@@ -1,12 +1,12 @@
 -- The verdict on an item, over the kept blocks: the frame around the rules on a block. The first case that holds decides
 -- (docs/COMMANDS.md, "The text").
 use Rattle.std.specs.Prelude.{ℕ, nat_lt, Bool, true, false, List, ◌++◌, length, Option, Some, None, is_some, if◌then◌else◌}
-use Rattle.codec_defs.specs.Shape.{decoded}
-use Rattle.codec_defs.specs.Schema.{Block, block}
+use Rattle.chain_defs.specs.Shape.{decoded}
+use Rattle.chain_defs.specs.Schema.{Block, block}
 use Rattle.chain_defs.specs.Kept.{block_hash, place_of, kept_limit, blocks_of_item}
 use Rattle.chain_defs.specs.Branch.{branch}
-use Rattle.time_defs.specs.Specification.{Specification}
-use Rattle.block_defs.specs.Rules.{first_broken}
+use Rattle.chain_defs.specs.Specification.{Specification}
+use Rattle.verdict_defs.specs.Rules.{first_broken}
 use Rattle.verdict_defs.specs.declared.verdict.Verdict.{Verdict}
 use Rattle.verdict_defs.specs.declared.verdict.Verdict.TheVariants.{Joined, Known, Refused, Full}
 

@@ -4,10 +4,10 @@ use Rattle.std.specs.List.{concat}
 use Rattle.std.proofs.Math.ListN.{drop_of_length-le}
 use Rattle.std.proofs.lemmas.Bool.Decides.{nat_tests}
 use Rattle.std.proofs.lemmas.List.{append-nil, drop-replicate, length-replicate, map-set, take-replicate}
-use Rattle.vm_defs.specs.Memory.{page_size, memory_size, overwritten}
+use Rattle.machine_defs.specs.Memory.{page_size, memory_size, overwritten}
 use Rattle.vm_mem.specs.Pages.{IsMarked, whole, is_allocated, Pages, pages_of, written}
 use Rattle.vm_mem.proofs.Edited.{AreSound, length-overwritten, same-pages, through-same, whole-zeros}
-use Rattle.vm_defs.proofs.Overwritten.{overwritten-more}
+use Rattle.machine_defs.proofs.Overwritten.{overwritten-more}
 use Rattle.vm_mem.proofs.Paging.{write-concat}
 use Rattle.vm_mem.proofs.Placed.{below-wholes, page-at, page-below, place-is, wholes}
 use Rattle.vm_mem.proofs.Zeros.{replicate-add}

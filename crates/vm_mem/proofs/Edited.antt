@@ -4,7 +4,7 @@ use Rattle.std.specs.List.{concat, All}
 use Rattle.std.proofs.lemmas.List.{get_or-map, length-map, map-set, set-get_or, get_or-set_same, get_or-set_other, length-append, length-take-le, length-drop}
 use Rattle.std.proofs.lemmas.List.Elements.{All-set}
 use Rattle.std.proofs.lemmas.Bool.{cases_eq}
-use Rattle.vm_defs.specs.Memory.{page_size, page_count, memory_size, overwritten}
+use Rattle.machine_defs.specs.Memory.{page_size, page_count, memory_size, overwritten}
 use Rattle.vm_mem.specs.Pages.{IsPage, IsAllocated, IsMarked, whole, is_allocated, Pages, pages_of, written}
 use Rattle.vm_mem.proofs.Paging.{write-concat}
 use Rattle.vm_mem.proofs.Placed.{wholes, below-wholes, page-below, place-is}

@@ -2,9 +2,9 @@
 use Rattle.std.proofs.Common.{◌≡◌, ℕ, take, refl}
 use Rattle.std.proofs.Math.Nat.{div-div-eq-div-mul}
 use Rattle.std.specs.Int.{w64, to_le_bytes}
-use Rattle.vm_defs.specs.declared.memory.Width.{Width}
-use Rattle.vm_defs.specs.declared.memory.Width.TheVariants.{B1, B2, B4, B8}
-use Rattle.vm_defs.specs.Memory.{byte_count, bytes_of}
+use Rattle.machine_defs.specs.declared.memory.Width.{Width}
+use Rattle.machine_defs.specs.declared.memory.Width.TheVariants.{B1, B2, B4, B8}
+use Rattle.machine_defs.specs.Memory.{byte_count, bytes_of}
 
 pub low-bytes : (width : Width) (n : ℕ) → take (byte_count width) (to_le_bytes w64 n) ≡ bytes_of (byte_count width) n
 low-bytes B1 n = refl

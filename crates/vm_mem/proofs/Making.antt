@@ -1,7 +1,7 @@
 -- Pages are allocated one after another.
 use Rattle.std.proofs.Common.{◌≡◌, ℕ, ◌+◌, ◌-◌, ◌*◌, ◌/◌, ◌<◌, ◌≤◌, ◌⊎◌, refl, ◌∙◌, subst, arith, inl, inr}
 use Rattle.std.proofs.lemmas.Bool.{cases_eq, cases_lt}
-use Rattle.vm_defs.specs.Memory.{page_size}
+use Rattle.machine_defs.specs.Memory.{page_size}
 use Rattle.vm_mem.specs.Pages.{AreAllocated, IsAllocated, IsUnder, Pages}
 
 -- no pages are allocated but those from `first` to before `next`

@@ -2,8 +2,8 @@
 use Rattle.std.proofs.Common.{◌≡◌, ℕ, ◌+◌, ◌-◌, ◌≤◌, List, length, take, drop, slice_range, refl, sym, ◌∙◌, ap, subst, arith}
 use Rattle.std.proofs.lemmas.List.{append-nil, length-take-le, take-append-drop}
 use Rattle.std.proofs.Math.Seq.{take-add}
-use Rattle.vm_defs.specs.Memory.{overwritten}
-use Rattle.vm_defs.proofs.Overwritten.{overwritten-more, take-past}
+use Rattle.machine_defs.specs.Memory.{overwritten}
+use Rattle.machine_defs.proofs.Overwritten.{overwritten-more, take-past}
 use Rattle.vm_mem.specs.Pages.{Pages, written}
 
 pub written-none : (old : Pages) (at : ℕ) (bytes : List ℕ) → old ≡ written old at (take 0 bytes)

@@ -4,7 +4,7 @@ use Rattle.std.specs.List.{concat}
 use Rattle.std.proofs.lemmas.List.{drop-append-le, take-append-le, set_split, append_assoc, length-drop, length-append}
 use Rattle.std.proofs.lemmas.List.Folds.{concat-append}
 use Rattle.std.proofs.Math.Seq.{drop-append-add, take-append-add}
-use Rattle.vm_defs.specs.Memory.{overwritten}
+use Rattle.machine_defs.specs.Memory.{overwritten}
 
 abbrev pub AreOf : ℕ → List (List ℕ) → Type 0
 AreOf n [] = Unit {0}

@@ -2,7 +2,7 @@
 use Rattle.std.proofs.Common.{◌≡◌, ℕ, suc, ◌+◌, ◌*◌, ◌/◌, ◌%◌, ◌<◌, ◌≤◌, List, [], ◌∷◌, length, get_or, slice_range, map, sym, ◌∙◌, ap, subst, arith}
 use Rattle.std.specs.List.{concat, All}
 use Rattle.std.proofs.lemmas.List.{get_or-map, length-map}
-use Rattle.vm_defs.specs.Memory.{page_size, page_count, memory_size, number_of}
+use Rattle.machine_defs.specs.Memory.{page_size, page_count, memory_size, number_of}
 use Rattle.vm_mem.specs.Pages.{IsPage, whole}
 use Rattle.vm_mem.proofs.Paging.{AreOf, range-concat}
 use Rattle.vm_mem.proofs.Wholes.{length-whole}

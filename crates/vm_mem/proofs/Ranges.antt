@@ -2,8 +2,8 @@
 use Rattle.std.proofs.Common.{◌≡◌, ℕ, ◌+◌, ◌-◌, ◌<◌, ◌≤◌, ◌⊎◌, List, ◌++◌, length, drop, replicate, get_or, slice_range, sym, ◌∙◌, ap, arith, inl, inr}
 use Rattle.std.proofs.lemmas.Bool.{cases_lt}
 use Rattle.std.proofs.lemmas.List.{get_or-drop, get_or-append-add, get_or-take, get_or_append_left, length-append, length-drop, length-replicate, length-take-le, same_lists}
-use Rattle.vm_defs.specs.Memory.{overwritten}
-use Rattle.vm_defs.proofs.CodeLaws.{get_or-before, get_or-after, get_or-written, length-overwritten}
+use Rattle.machine_defs.specs.Memory.{overwritten}
+use Rattle.machine_defs.proofs.CodeLaws.{get_or-before, get_or-after, get_or-written, length-overwritten}
 
 pub length-range : {X : Type 0} (xs : List X) (start count : ℕ) → start + count ≤ length xs → length (slice_range xs start (start + count)) ≡ count
 length-range xs start count h =

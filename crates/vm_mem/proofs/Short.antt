@@ -3,7 +3,7 @@ use Rattle.std.proofs.Common.{◌≡◌, ℕ, ◌<◌, ◌^◌, ℤ, SFits, to_z
 use Rattle.std.proofs.Math.Facts.{sfits_widen}
 use Rattle.std.proofs.lemmas.Bool.Decides.{nat_tests}
 use Rattle.std.proofs.lemmas.Int.{ints, to_z-of_z}
-use Rattle.isa_defs.specs.Instruction.{IsImmediate, sign_extended}
+use Rattle.machine_defs.specs.Instruction.{IsImmediate, sign_extended}
 
 short-12 : (n : ℕ) (imm : ℤ) → n < 2 ^ 12 → imm ≡ sign_extended 12 n → SFits w32 imm
 unfolding sign_extended

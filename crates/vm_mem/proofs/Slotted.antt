@@ -1,26 +1,26 @@
 -- Slots that are right for a memory, and stay right.
 use Rattle.std.proofs.Common.{◌≡◌, ◌⊎◌, inl, inr, ℕ, ◌==◌, Bool, true, false, if◌then◌else◌, ◌%◌, ◌-◌, ◌+◌, ◌/◌, ◌^◌, ◌<◌, ◌≤◌, List, length, set, replicate, get_or, Option, Some, None, Result, Ok, Err, refl, sym, ap, ◌∙◌, subst, arith, length-set, OnOk, OnErr, IfSome}
 use Rattle.std.proofs.lemmas.Bool.{cases_eq}
-use Rattle.std.proofs.lemmas.Nat.{and_comm, and_le_r, and_mask}
+use Rattle.std.proofs.lemmas.Nat.{and_comm, and_mask}
 use Rattle.std.proofs.lemmas.List.{get_or-replicate, get_or-set_other, get_or-set_same, length-replicate}
-use Rattle.isa_defs.specs.declared.ins.Ins.{Ins}
-use Rattle.vm_defs.specs.declared.memory.MemFault.{MemFault}
-use Rattle.isa_defs.specs.Instruction.{HasRegisters}
-use Rattle.isa_defs.specs.Decode.{decode, with_length}
-use Rattle.isa_defs.specs.Table.{full_forms}
-use Rattle.isa_defs.specs.Compressed.{compressed_forms}
-use Rattle.isa_defs.specs.Row.{encoded_in}
+use Rattle.machine_defs.specs.declared.ins.Ins.{Ins}
+use Rattle.machine_defs.specs.declared.memory.MemFault.{MemFault}
+use Rattle.machine_defs.specs.Instruction.{HasRegisters}
+use Rattle.machine_defs.specs.Decode.{decode, with_length}
+use Rattle.machine_defs.specs.Table.{full_forms}
+use Rattle.machine_defs.specs.Compressed.{compressed_forms}
+use Rattle.machine_defs.specs.Row.{encoded_in}
 use Rattle.std.specs.Option.{option_map}
-use Rattle.isa_defs.proofs.DecodeLaws.{decode-registers}
-use Rattle.vm_defs.specs.Memory.{Memory, memory_size, new_memory, fetch, store, set_code}
-use Rattle.vm_defs.specs.Code.{IsWhole, decoded, instruction_at}
-use Rattle.vm_defs.proofs.CodeLaws.{new-whole, store-whole, store-keeps-code, set_code-whole, set_code-keeps-code, instruction-kept, fetch-inside}
+use Rattle.machine_defs.proofs.DecodeLaws.{decode-registers}
+use Rattle.machine_defs.specs.Memory.{Memory, memory_size, new_memory, fetch, store, set_code}
+use Rattle.machine_defs.specs.Code.{IsWhole, decoded, instruction_at}
+use Rattle.machine_defs.proofs.CodeLaws.{new-whole, store-whole, store-keeps-code, set_code-whole, set_code-keeps-code, instruction-kept, fetch-inside}
 use Rattle.vm_mem.specs.declared.slot.Slot.{Slot}
 use Rattle.vm_mem.specs.declared.stop.MemStop.{MemStop}
 use Rattle.vm_mem.specs.declared.stop.MemStop.TheVariants.{Fault, NoMemory}
 use Rattle.vm_mem.specs.Paged.{PagedMemory, Stores}
 use Rattle.vm_mem.specs.Kept.{instruction_of}
-use Rattle.vm_mem.specs.Slots.{Table, slot_of, AreEmpty, Holds, Holding, IsKept}
+use Rattle.vm_mem.specs.Slots.{Table, slot_of, AreEmpty, Holding, IsKept}
 
 -- ---- a new memory
 
@@ -150,13 +150,6 @@ filled memory table i slot holding is-kept = record {
 }
 
 -- ---- what a slot holds
-
-pub slot-holds : (memory : Memory) (table : Table) (at i : ℕ) (slot : Slot) → Holding memory table → i ≡ slot_of table.mask at
-    → slot ≡ get_or table.slots i slot → slot.at ≡ at → IsKept memory slot
-slot-holds memory table at i slot holding i-is is same =
-    let below : i ≤ table.mask = rw i-is (and_le_r (at / 2) table.mask) in
-    let there : Holds memory table.mask i slot = subst (Holds memory table.mask i) (sym is) (holding.held.each i slot below) in
-    there (ap (slot_of table.mask) same ∙ sym i-is)
 
 decoded-registers : (word : Result ℕ MemFault) (found : Ins × ℕ) → decoded word ≡ Ok (Some found) → HasRegisters found.0
 decoded-registers (Ok word) found is =

@@ -5,9 +5,9 @@ use Rattle.std.specs.List.{concat}
 use Rattle.std.proofs.lemmas.Bool.{cases_eq, cases_lt, false≢true}
 use Rattle.std.proofs.lemmas.Grind.{get_or_default_zero}
 use Rattle.std.proofs.lemmas.List.{get_or_default, get_or-map, get_or-set_other, get_or-set_same, get_or-replicate, get_or_past, length-append, length-map, length-replicate, map-id, same_lists, set-get_or}
-use Rattle.vm_defs.specs.Memory.{page_size, page_count, memory_size, number_of, overwritten}
-use Rattle.vm_defs.proofs.CodeLaws.{length-overwritten}
-use Rattle.vm_defs.proofs.Overwritten.{take-past}
+use Rattle.machine_defs.specs.Memory.{page_size, page_count, memory_size, number_of, overwritten}
+use Rattle.machine_defs.proofs.CodeLaws.{length-overwritten}
+use Rattle.machine_defs.proofs.Overwritten.{take-past}
 use Rattle.vm_mem.specs.Pages.{ArePlaced, IsAllocated, IsMarked, IsPage, Pages, is_allocated, page_at, pages_of, whole, written}
 use Rattle.vm_mem.proofs.Cleared.{clear-clean, clear-marked, clear-pages}
 use Rattle.vm_mem.proofs.Edited.{AreSound, make-bytes, make-is-made, make-only, make-stays, through, whole-full, whole-zeros, write-pages}

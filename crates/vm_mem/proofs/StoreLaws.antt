@@ -2,9 +2,9 @@
 use Rattle.std.proofs.Common.{◌≡◌, inl, inr, ℕ, zero, suc, ◌+◌, ◌-◌, ◌*◌, ◌/◌, ◌%◌, ◌^◌, ◌<◌, ◌≤◌, false, List, length, get_or, slice_range, Ok, refl, sym, ap, ◌∙◌, subst, arith}
 use Rattle.std.proofs.Math.Nat.{div-div-eq-div-mul, mod-add-div, pow-succ'}
 use Rattle.std.proofs.lemmas.Bool.Decides.{nat_tests}
-use Rattle.vm_defs.specs.Memory.{Memory, bytes_of, is_out_of_range, load, memory_size, number_of}
-use Rattle.vm_defs.proofs.CodeLaws.{get_or-before, get_or-after, get_or-written, store-is}
-use Rattle.vm_defs.proofs.Numbers.{number-none, number-step}
+use Rattle.machine_defs.specs.Memory.{Memory, bytes_of, is_out_of_range, load, memory_size, number_of}
+use Rattle.machine_defs.proofs.CodeLaws.{get_or-before, get_or-after, get_or-written, store-is}
+use Rattle.machine_defs.proofs.Numbers.{number-none, number-step}
 use Rattle.vm_mem.specs.Laws.{LoadsWhatWasStored, StoreLeavesTheRest}
 
 -- ---- numbers by their bytes

@@ -1,7 +1,7 @@
 -- The bytes of a page, allocated or not.
 use Rattle.std.proofs.Common.{◌≡◌, ℕ, true, ◌==◌, List, length, replicate, refl, sym, inl, inr}
 use Rattle.std.proofs.lemmas.List.{length-replicate}
-use Rattle.vm_defs.specs.Memory.{page_size}
+use Rattle.machine_defs.specs.Memory.{page_size}
 use Rattle.vm_mem.specs.Pages.{IsPage, whole}
 
 pub whole-empty : (page : List ℕ) → true ≡ (length page == 0) → whole page ≡ replicate page_size 0

@@ -1,12 +1,12 @@
 -- Accesses within one page, whose kind is the one that counts.
 use Rattle.std.proofs.Common.{◌≡◌, ◌≢◌, ℕ, suc, ◌+◌, ◌-◌, ◌/◌, ◌%◌, ◌==◌, ◌<◌, ◌≤◌, false, List, [], ◌∷◌, length, get_or, slice_range, Ok, Err, refl, sym, ◌∙◌, ap, arith}
 use Rattle.std.proofs.lemmas.List.{drop_more}
-use Rattle.vm_defs.specs.declared.memory.PageKind.{PageKind}
-use Rattle.vm_defs.specs.declared.memory.PageKind.TheVariants.{Data, Code}
-use Rattle.vm_defs.specs.declared.memory.MemFault.TheVariants.{RunData}
-use Rattle.vm_defs.specs.Memory.{Memory, page_size, page_count, memory_size, number_of, overwritten, is_out_of_range, kinds_under, store, fetch, fetch_pair}
+use Rattle.machine_defs.specs.declared.memory.PageKind.{PageKind}
+use Rattle.machine_defs.specs.declared.memory.PageKind.TheVariants.{Data, Code}
+use Rattle.machine_defs.specs.declared.memory.MemFault.TheVariants.{RunData}
+use Rattle.machine_defs.specs.Memory.{Memory, page_size, page_count, memory_size, number_of, overwritten, is_out_of_range, kinds_under, store, fetch, fetch_pair}
 use Rattle.vm_mem.specs.Paged.{PagedMemory, IsReady}
-use Rattle.vm_defs.proofs.Numbers.{halves-4}
+use Rattle.machine_defs.proofs.Numbers.{halves-4}
 use Rattle.vm_mem.proofs.Placed.{page-below}
 
 -- `count` bytes from an address on lie in one page of memory, of a kind

@@ -1,7 +1,7 @@
 -- Pages that were never stored to.
 use Rattle.std.proofs.Common.{◌≡◌, ℕ, zero, suc, ◌+◌, ◌*◌, ◌≤◌, false, List, [], ◌++◌, replicate, map, refl, arith}
 use Rattle.std.specs.List.{concat}
-use Rattle.vm_defs.specs.Memory.{page_size, page_count, memory_size}
+use Rattle.machine_defs.specs.Memory.{page_size, page_count, memory_size}
 use Rattle.vm_mem.specs.Pages.{whole, is_allocated}
 use Rattle.vm_mem.proofs.Wholes.{whole-empty}
 

@@ -2,8 +2,8 @@
 use Rattle.std.specs.Prelude.{ℕ, ◌==◌, ℤ, if◌then◌else◌}
 use Rattle.std.specs.Int.{w32}
 use mir.Val.{SFits}
-use Rattle.isa_defs.specs.declared.ins.Ins.{Ins}
-use Rattle.isa_defs.specs.declared.ins.Ins.TheVariants as ins
+use Rattle.machine_defs.specs.declared.ins.Ins.{Ins}
+use Rattle.machine_defs.specs.declared.ins.Ins.TheVariants as ins
 use Rattle.vm_mem.specs.declared.kept.Kept.{Kept}
 use Rattle.vm_mem.specs.declared.kept.Kept.TheVariants.{Lui, Auipc, Jal, Jalr, Beq, Bne, Blt, Bge, Bltu, Bgeu, Lb, Lh, Lw, Ld, Lbu, Lhu, Lwu, Sb, Sh, Sw, Sd, Addi, Slti, Sltiu, Xori, Ori, Andi, Slli, Srli, Srai, Addiw, Slliw, Srliw, Sraiw, Add, Sub, Sll, Slt, Sltu, Xor, Srl, Sra, Or, And, Mul, Mulh, Mulhsu, Mulhu, Div, Divu, Rem, Remu, Addw, Subw, Sllw, Srlw, Sraw, Mulw, Divw, Divuw, Remw, Remuw, Fence, FenceI, Ecall, Ebreak}
 

@@ -1,6 +1,6 @@
 -- Loads and stores beside one another (RISC-V Unprivileged ISA, "Load and Store Instructions").
 use Rattle.std.specs.Prelude.{◌≡◌, ◌⊎◌, ℕ, ◌+◌, ◌%◌, ◌^◌, ◌≤◌, List, length, Ok}
-use Rattle.vm_defs.specs.Memory.{Memory, bytes_of, load, memory_size, store}
+use Rattle.machine_defs.specs.Memory.{Memory, bytes_of, load, memory_size, store}
 
 -- A load gives back what was stored at the same place: the low bytes of the number.
 abbrev pub LoadsWhatWasStored : Type 0

@@ -1,8 +1,8 @@
 -- What contracts see of a `Memory`: the machine's memory, and which of its pages are allocated.
 use Rattle.std.specs.Prelude.{◌≡◌, ℕ, ◌+◌, ◌/◌, ◌%◌, ◌<◌, ◌≤◌, Bool, List, slice_index_or, Result, Ok, Err}
-use Rattle.vm_defs.specs.Memory.{Memory, memory_size, page_size}
-use Rattle.vm_defs.specs.declared.memory.PageKind.TheVariants.{Data}
-use Rattle.vm_defs.specs.declared.memory.MemFault.{MemFault}
+use Rattle.machine_defs.specs.Memory.{Memory, memory_size, page_size}
+use Rattle.machine_defs.specs.declared.memory.PageKind.TheVariants.{Data}
+use Rattle.machine_defs.specs.declared.memory.MemFault.{MemFault}
 use Rattle.vm_mem.specs.declared.stop.MemStop.{MemStop}
 use Rattle.vm_mem.specs.declared.stop.MemStop.TheVariants.{Fault, NoMemory}
 use Rattle.vm_mem.specs.Pages.{IsAllocated}

@@ -1,7 +1,7 @@
 -- Pages that take memory only once they are stored to: the bytes of such a page, or none.
 use Rattle.std.specs.Prelude.{◌≡◌, ℕ, ◌+◌, ◌/◌, ◌%◌, ◌<◌, ◌≤◌, ◌==◌, nat_lt, Bool, true, false, IsTrue, slice_index_or, slice_range, List, [], length, map, replicate, if◌then◌else◌, ◌⊎◌}
 use Rattle.std.specs.List.{concat}
-use Rattle.vm_defs.specs.Memory.{page_count, page_size, overwritten}
+use Rattle.machine_defs.specs.Memory.{page_count, page_size, overwritten}
 
 -- all bytes one after another, and which pages are allocated
 pub record Pages : Type 0 where

@@ -1,8 +1,8 @@
 -- Instructions that were decoded. Code is never written again, so that one stays right for the life of the memory.
 use Rattle.std.specs.Prelude.{◌≡◌, ◌≢◌, ◌⊎◌, ℕ, ◌+◌, ◌/◌, ◌%◌, ◌≤◌, List, length, slice_index_or, Some, Ok, bit_and}
-use Rattle.isa_defs.specs.Instruction.{HasRegisters}
-use Rattle.vm_defs.specs.Memory.{Memory}
-use Rattle.vm_defs.specs.Code.{IsWhole, instruction_at}
+use Rattle.machine_defs.specs.Instruction.{HasRegisters}
+use Rattle.machine_defs.specs.Memory.{Memory}
+use Rattle.machine_defs.specs.Code.{IsWhole, instruction_at}
 use Rattle.vm_mem.specs.Kept.{instruction_of}
 use Rattle.vm_mem.specs.declared.slot.Slot.{Slot}
 

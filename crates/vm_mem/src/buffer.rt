@@ -1,6 +1,6 @@
 // Numbers among bytes, the lowest byte first, and bytes that are written over.
 ghost use Rattle.std.specs.Prelude.{◌≡◌, ◌+◌, ◌%◌, ◌^◌, ◌≤◌, length, replicate, slice_range};
-ghost use Rattle.vm_defs.specs.Memory.{number_of, overwritten};
+ghost use Rattle.machine_defs.specs.Memory.{number_of, overwritten};
 
 #[inline(always)]
 pub(crate) fn read_u8(bytes: &[u8], at: usize) -> u8

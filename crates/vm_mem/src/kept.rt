@@ -1,6 +1,6 @@
 // The form in which an instruction is kept.
 ghost use Rattle.std.specs.Prelude.{◌≡◌};
-ghost use Rattle.isa_defs.specs.Instruction.{FitsFormat};
+ghost use Rattle.machine_defs.specs.Instruction.{FitsFormat};
 ghost use Rattle.vm_mem.specs.Kept.{IsShort, instruction_of, target_of};
 
 use rv_decode::Ins;

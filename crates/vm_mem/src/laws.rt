@@ -1,5 +1,5 @@
 // The laws of loads and stores, and of code.
-ghost use Rattle.vm_defs.specs.Code.{SetCodeKeepsCode, StoreKeepsCode};
+ghost use Rattle.machine_defs.specs.Code.{SetCodeKeepsCode, StoreKeepsCode};
 ghost use Rattle.vm_mem.specs.Laws.{LoadsWhatWasStored, StoreLeavesTheRest};
 
 /// States what a load gives after a store. It does nothing.

@@ -1,8 +1,8 @@
 // The machine's memory, with the instructions of its code that were decoded.
 ghost use Rattle.std.specs.Prelude.{◌≡◌, ◌≢◌, ℕ, ◌%◌, length, false, replicate, Ok, Err, OnOk, OnErr, IfOk, IfSome, ◌↔◌, ◌⊎◌};
-ghost use Rattle.isa_defs.specs.Instruction.{FitsFormat, HasRegisters};
-ghost use Rattle.vm_defs.specs.Memory.{byte_count, bytes_of, fetch, load, new_memory, page_size, page_count, set_code, store};
-ghost use Rattle.vm_defs.specs.Code.{instruction_at};
+ghost use Rattle.machine_defs.specs.Instruction.{FitsFormat, HasRegisters};
+ghost use Rattle.machine_defs.specs.Memory.{byte_count, bytes_of, fetch, load, new_memory, page_size, page_count, set_code, store};
+ghost use Rattle.machine_defs.specs.Code.{instruction_at};
 ghost use Rattle.vm_mem.specs.Pages.{AreAllocated, IsAllocated, IsUnder};
 ghost use Rattle.vm_mem.specs.Paged.{Stores};
 ghost use Rattle.vm_mem.specs.Slots.{IsKept};
@@ -11,11 +11,11 @@ use super::kept::kept_form;
 use super::paged::Paged;
 use super::slot::{Slot, Slots};
 use super::stop::MemStop;
+use machine_defs::{MemFault, Width};
 use outside::NoMemory;
 use rv_decode::{Ins, decode};
 use std::alloc::Global;
 use std::marker::Model;
-use vm_defs::{MemFault, Width};
 
 /// 4,194,304 bytes in 1,024 pages, each of data or of code.
 ///

@@ -1,19 +1,19 @@
 // Memory in pages of data and of code.
 ghost use Rattle.std.specs.Prelude.{◌≡◌, ◌≢◌, ℕ, ◌+◌, ◌*◌, ◌%◌, ◌<◌, ◌≤◌, length, false, replicate, Ok, Err, true, OnOk, OnErr, IfOk, IfErr, IsTrue, ◌↔◌, ◌⊎◌};
 ghost use Rattle.std.specs.List.{list_all, list_any};
-ghost use Rattle.vm_defs.specs.Memory.{byte_count, bytes_of, fetch, fetch_pair, is_code, is_out_of_range, kinds_under, load, memory_size, new_memory, overwritten, page_size, page_count, set_code, store};
+ghost use Rattle.machine_defs.specs.Memory.{byte_count, bytes_of, fetch, fetch_pair, is_code, is_out_of_range, kinds_under, load, memory_size, new_memory, overwritten, page_size, page_count, set_code, store};
 ghost use Rattle.vm_mem.specs.Pages.{AreAllocated, IsAllocated, IsUnder};
 ghost use Rattle.vm_mem.specs.Paged.{IsReady, Stores};
 
 use super::pages::{PAGE_COUNT, PAGE_SIZE, Pages};
 use super::stop::MemStop;
+use machine_defs::{MEMORY_SIZE, MemFault, PageKind, Width};
 use outside::NoMemory;
 use std::alloc::Global;
 use std::marker::Model;
-use vm_defs::{MEMORY_SIZE, MemFault, PageKind, Width};
 
 // The bytes of a page, as addresses count them.
-const PAGE: u64 = vm_defs::PAGE_SIZE;
+const PAGE: u64 = machine_defs::PAGE_SIZE;
 
 /// 4,194,304 bytes in 1,024 pages, each of data or of code.
 #[derive(Drop)]
@@ -24,7 +24,7 @@ pub(crate) struct Paged {
 
 impl Model for Paged {
     ghost use Rattle.std.specs.Prelude.{◌≡◌, length};
-    ghost use Rattle.vm_defs.specs.Memory.{page_count};
+    ghost use Rattle.machine_defs.specs.Memory.{page_count};
     ghost use Rattle.vm_mem.specs.Paged.{PagedMemory};
 
     ghost Value = { PagedMemory };
@@ -36,7 +36,7 @@ impl Model for Paged {
 
 impl Paged {
     /// Memory that is zero, with all its pages of data.
-    #[tactic(auto, unfolding(vm_defs::specs::Memory::new_memory))]
+    #[tactic(auto, unfolding(machine_defs::specs::Memory::new_memory))]
     pub(crate) fn new(alloc: Global) -> Result<Paged, NoMemory>
         ensures memory { IfOk result (λ memory. memory.memory ≡ new_memory) }
         ensures allocated { IfOk result (λ memory. memory.allocated ≡ replicate page_count false) }
@@ -47,7 +47,7 @@ impl Paged {
     }
 
     /// The number at an address, of the lowest byte first. A page of code may be read.
-    #[tactic(auto, unfolding(vm_defs::specs::Memory::load))]
+    #[tactic(auto, unfolding(machine_defs::specs::Memory::load))]
     #[inline(always)]
     pub(crate) fn load(&self, at: u64, width: Width) -> Result<u64, MemFault>
         ensures { result ≡ load self.now.memory at (byte_count width) }
@@ -61,7 +61,7 @@ impl Paged {
     }
 
     /// Writes the low bytes of a number at an address, the lowest first.
-    #[tactic(auto, unfolding(vm_defs::specs::Memory::memory_size))]
+    #[tactic(auto, unfolding(machine_defs::specs::Memory::memory_size))]
     #[inline(always)]
     pub(crate) fn store(&mut self, at: u64, width: Width, value: u64) -> Result<(), MemStop>
         ensures stores { Stores (store self.old.memory at (bytes_of (byte_count width) value)) self.old.memory self.new.memory result }
@@ -86,7 +86,7 @@ impl Paged {
     }
 
     /// Writes bytes at an address, all or none.
-    #[tactic(auto, unfolding(vm_defs::specs::Memory::store))]
+    #[tactic(auto, unfolding(machine_defs::specs::Memory::store))]
     #[inline]
     pub(crate) fn copy_in(&mut self, at: u64, bytes: &[u8]) -> Result<(), MemStop>
         ensures stores { Stores (store self.old.memory at bytes.now) self.old.memory self.new.memory result }
@@ -111,7 +111,7 @@ impl Paged {
     }
 
     /// Makes a range of bytes zero, all or none, and takes no memory: a page that is not allocated is zero.
-    #[tactic(auto, unfolding(vm_defs::specs::Memory::store))]
+    #[tactic(auto, unfolding(machine_defs::specs::Memory::store))]
     pub(crate) fn clear(&mut self, at: u64, count: u64) -> Result<(), MemFault>
         ensures cleared { OnOk result (Ok self.new.memory ≡ store self.old.memory at (replicate count 0)) }
         ensures fault { (fault : MemFault) → (result ≡ Err fault) ↔ (store self.old.memory at (replicate count 0) ≡ Err fault) }
@@ -129,7 +129,7 @@ impl Paged {
     }
 
     /// The four bytes at an address where the low two bits are 11, and else the two bytes there.
-    #[tactic(auto, unfolding(vm_defs::specs::Memory::memory_size))]
+    #[tactic(auto, unfolding(machine_defs::specs::Memory::memory_size))]
     #[inline(always)]
     pub(crate) fn fetch(&self, at: u64) -> Result<u32, MemFault>
         ensures { result ≡ fetch self.now.memory at }
@@ -141,7 +141,7 @@ impl Paged {
     }
 
     /// Makes whole pages code that are data.
-    #[tactic(auto, unfolding(vm_defs::specs::Memory::set_code, vm_defs::specs::Memory::memory_size, vm_defs::specs::Memory::page_count))]
+    #[tactic(auto, unfolding(machine_defs::specs::Memory::set_code, machine_defs::specs::Memory::memory_size, machine_defs::specs::Memory::page_count))]
     pub(crate) fn set_code(&mut self, at: u64, pages: u32) -> Result<(), MemFault>
         requires { at % page_size ≡ 0 }
         ensures code { OnOk result (Ok self.new.memory ≡ set_code self.old.memory at pages) }
@@ -175,7 +175,7 @@ impl Paged {
     }
 
     // Whether bytes lie in one page of data that is allocated.
-    #[tactic(auto, unfolding(vm_defs::specs::Memory::memory_size, vm_defs::specs::Memory::page_count))]
+    #[tactic(auto, unfolding(machine_defs::specs::Memory::memory_size, machine_defs::specs::Memory::page_count))]
     #[inline(always)]
     fn is_ready(&self, at: u64, count: u64) -> bool
         requires { count ≤ page_size }
@@ -202,7 +202,7 @@ impl Paged {
 
     // A word whose four bytes lie in one page. They are read at once, and the high half is cut off where it
     // is no part of the word.
-    #[tactic(auto, unfolding(vm_defs::specs::Memory::memory_size, vm_defs::specs::Memory::page_count))]
+    #[tactic(auto, unfolding(machine_defs::specs::Memory::memory_size, machine_defs::specs::Memory::page_count))]
     #[inline(always)]
     fn fetch_in_page(&self, at: usize) -> Result<u32, MemFault>
         requires memory { at < memory_size }
@@ -218,7 +218,7 @@ impl Paged {
     }
 
     // A word pair by pair, each with its own fault: at the end of a page, or past memory.
-    #[tactic(auto, unfolding(vm_defs::specs::Memory::fetch, vm_defs::specs::Memory::memory_size))]
+    #[tactic(auto, unfolding(machine_defs::specs::Memory::fetch, machine_defs::specs::Memory::memory_size))]
     #[cold]
     #[inline(never)]
     fn fetch_pairs(&self, at: u64) -> Result<u32, MemFault>
@@ -233,7 +233,7 @@ impl Paged {
     }
 
     // Two bytes of code.
-    #[tactic(auto, unfolding(vm_defs::specs::Memory::fetch_pair))]
+    #[tactic(auto, unfolding(machine_defs::specs::Memory::fetch_pair))]
     #[inline]
     fn fetch_pair(&self, at: u64) -> Result<u16, MemFault>
         ensures pair { result ≡ fetch_pair self.now.memory at }
@@ -247,7 +247,7 @@ impl Paged {
     }
 
     // Whether two bytes lie in pages of code.
-    #[tactic(auto, unfolding(vm_defs::specs::Memory::kinds_under, vm_defs::specs::Memory::memory_size, vm_defs::specs::Memory::page_count))]
+    #[tactic(auto, unfolding(machine_defs::specs::Memory::kinds_under, machine_defs::specs::Memory::memory_size, machine_defs::specs::Memory::page_count))]
     #[inline]
     fn is_code(&self, at: usize) -> bool
         requires { at + 2 ≤ memory_size }
@@ -261,7 +261,7 @@ impl Paged {
     }
 
     // Whether a byte of the range lies in a page of code.
-    #[tactic(auto, unfolding(vm_defs::specs::Memory::kinds_under, vm_defs::specs::Memory::memory_size, vm_defs::specs::Memory::page_count))]
+    #[tactic(auto, unfolding(machine_defs::specs::Memory::kinds_under, machine_defs::specs::Memory::memory_size, machine_defs::specs::Memory::page_count))]
     #[inline]
     fn has_code(&self, at: usize, count: usize) -> bool
         requires { at + count ≤ memory_size }
@@ -293,7 +293,7 @@ fn size(width: Width) -> u64
 }
 
 // Where a range of bytes begins, if it lies in memory.
-#[tactic(auto, unfolding(vm_defs::specs::Memory::is_out_of_range, vm_defs::specs::Memory::memory_size))]
+#[tactic(auto, unfolding(machine_defs::specs::Memory::is_out_of_range, machine_defs::specs::Memory::memory_size))]
 #[inline(always)]
 fn place(at: u64, count: u64) -> Result<usize, MemFault>
     ensures inside { IfOk result (λ place. (place ≡ at) × (is_out_of_range at count ≡ false)) }

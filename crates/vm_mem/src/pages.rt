@@ -1,6 +1,6 @@
 // Bytes in pages that take memory at their first store.
 ghost use Rattle.std.specs.Prelude.{◌≡◌, ℕ, ◌+◌, ◌*◌, ◌/◌, ◌%◌, ◌^◌, ◌<◌, ◌≤◌, ◌⊎◌, length, false, replicate, slice_index_or, slice_range, IsOk, OnOk, IfOk};
-ghost use Rattle.vm_defs.specs.Memory.{number_of, memory_size, page_size, page_count};
+ghost use Rattle.machine_defs.specs.Memory.{number_of, memory_size, page_size, page_count};
 ghost use Rattle.vm_mem.specs.Pages.{AreAllocated, IsAllocated, IsUnder, written};
 
 use super::buffer;
@@ -8,9 +8,9 @@ use outside::NoMemory;
 use std::alloc::Global;
 use std::marker::Model;
 
-pub(crate) const PAGE_SIZE: usize = vm_defs::PAGE_SIZE as usize;
+pub(crate) const PAGE_SIZE: usize = machine_defs::PAGE_SIZE as usize;
 
-pub(crate) const PAGE_COUNT: usize = vm_defs::PAGE_COUNT as usize;
+pub(crate) const PAGE_COUNT: usize = machine_defs::PAGE_COUNT as usize;
 
 /// All bytes of memory, and which pages are allocated.
 #[derive(Drop)]
@@ -36,7 +36,7 @@ impl Model for Pages {
 
 impl Pages {
     /// Pages that are all zero.
-    #[tactic(auto, unfolding(vm_defs::specs::Memory::page_count))]
+    #[tactic(auto, unfolding(machine_defs::specs::Memory::page_count))]
     pub(crate) fn new(alloc: Global) -> Result<Pages, NoMemory>
         ensures bytes { IfOk result (λ pages. pages.bytes ≡ replicate memory_size 0) }
         ensures allocated { IfOk result (λ pages. pages.allocated ≡ replicate page_count false) }
@@ -51,7 +51,7 @@ impl Pages {
         })
     }
 
-    #[tactic(auto, unfolding(vm_defs::specs::Memory::memory_size, vm_defs::specs::Memory::page_count))]
+    #[tactic(auto, unfolding(machine_defs::specs::Memory::memory_size, machine_defs::specs::Memory::page_count))]
     #[inline(always)]
     pub(crate) fn read_u8(&self, at: usize) -> u8
         requires { at + 1 ≤ memory_size }
@@ -60,7 +60,7 @@ impl Pages {
         buffer::read_u8(&self.bytes, self.starts[at / PAGE_SIZE] + at % PAGE_SIZE)
     }
 
-    #[tactic(auto, unfolding(vm_defs::specs::Memory::memory_size, vm_defs::specs::Memory::page_count))]
+    #[tactic(auto, unfolding(machine_defs::specs::Memory::memory_size, machine_defs::specs::Memory::page_count))]
     #[inline(always)]
     pub(crate) fn read_u16(&self, at: usize) -> u16
         requires { at + 2 ≤ memory_size }
@@ -73,7 +73,7 @@ impl Pages {
     }
 
     // A number over two pages is rare, and stays out of the code that reads one.
-    #[tactic(auto, unfolding(vm_defs::specs::Memory::memory_size))]
+    #[tactic(auto, unfolding(machine_defs::specs::Memory::memory_size))]
     #[cold]
     #[inline(never)]
     fn read_u16_over_pages(&self, at: usize) -> u16
@@ -83,7 +83,7 @@ impl Pages {
         u16::from(self.read_u8(at)) + (u16::from(self.read_u8(at + 1)) << 8)
     }
 
-    #[tactic(auto, unfolding(vm_defs::specs::Memory::memory_size, vm_defs::specs::Memory::page_count))]
+    #[tactic(auto, unfolding(machine_defs::specs::Memory::memory_size, machine_defs::specs::Memory::page_count))]
     #[inline(always)]
     pub(crate) fn read_u32(&self, at: usize) -> u32
         requires { at + 4 ≤ memory_size }
@@ -97,7 +97,7 @@ impl Pages {
     }
 
     // As for two bytes.
-    #[tactic(auto, unfolding(vm_defs::specs::Memory::memory_size))]
+    #[tactic(auto, unfolding(machine_defs::specs::Memory::memory_size))]
     #[cold]
     #[inline(never)]
     fn read_u32_over_pages(&self, at: usize) -> u32
@@ -108,7 +108,7 @@ impl Pages {
         u32::from(self.read_u16(at)) + (u32::from(self.read_u16(at + 2)) << 16)
     }
 
-    #[tactic(auto, unfolding(vm_defs::specs::Memory::memory_size, vm_defs::specs::Memory::page_count))]
+    #[tactic(auto, unfolding(machine_defs::specs::Memory::memory_size, machine_defs::specs::Memory::page_count))]
     #[inline(always)]
     pub(crate) fn read_u64(&self, at: usize) -> u64
         requires { at + 8 ≤ memory_size }
@@ -121,7 +121,7 @@ impl Pages {
     }
 
     // As for two bytes.
-    #[tactic(auto, unfolding(vm_defs::specs::Memory::memory_size))]
+    #[tactic(auto, unfolding(machine_defs::specs::Memory::memory_size))]
     #[cold]
     #[inline(never)]
     fn read_u64_over_pages(&self, at: usize) -> u64
@@ -132,7 +132,7 @@ impl Pages {
     }
 
     /// Whether a page is allocated.
-    #[tactic(auto, unfolding(vm_defs::specs::Memory::page_count))]
+    #[tactic(auto, unfolding(machine_defs::specs::Memory::page_count))]
     #[inline(always)]
     pub(crate) fn is_allocated(&self, page: usize) -> bool
         requires { page < page_count }
@@ -142,7 +142,7 @@ impl Pages {
     }
 
     // Allocates one page, if it is not.
-    #[tactic(auto, unfolding(vm_defs::specs::Memory::memory_size, vm_defs::specs::Memory::page_count))]
+    #[tactic(auto, unfolding(machine_defs::specs::Memory::memory_size, machine_defs::specs::Memory::page_count))]
     #[inline]
     fn allocate_page(&mut self, page: usize) -> Result<(), NoMemory>
         requires { page < page_count }
@@ -161,7 +161,7 @@ impl Pages {
     }
 
     /// Allocates the pages of a range of bytes that are not.
-    #[tactic(auto, unfolding(vm_defs::specs::Memory::memory_size, vm_defs::specs::Memory::page_count))]
+    #[tactic(auto, unfolding(machine_defs::specs::Memory::memory_size, machine_defs::specs::Memory::page_count))]
     #[inline]
     pub(crate) fn allocate(&mut self, at: usize, count: usize) -> Result<(), NoMemory>
         requires { at + count ≤ memory_size }
@@ -183,7 +183,7 @@ impl Pages {
     }
 
     /// Writes bytes within one page.
-    #[tactic(auto, unfolding(vm_defs::specs::Memory::memory_size, vm_defs::specs::Memory::page_count))]
+    #[tactic(auto, unfolding(machine_defs::specs::Memory::memory_size, machine_defs::specs::Memory::page_count))]
     #[inline(always)]
     pub(crate) fn write_page(&mut self, at: usize, bytes: &[u8])
         requires allocated { IsAllocated self.old.allocated (at / page_size) }
@@ -198,7 +198,7 @@ impl Pages {
     }
 
     /// Writes bytes to pages that are allocated.
-    #[tactic(auto, unfolding(vm_defs::specs::Memory::memory_size, vm_defs::specs::Memory::page_count))]
+    #[tactic(auto, unfolding(machine_defs::specs::Memory::memory_size, machine_defs::specs::Memory::page_count))]
     #[inline]
     pub(crate) fn write(&mut self, at: usize, bytes: &[u8])
         requires memory { at + length bytes.now ≤ memory_size }
@@ -215,7 +215,7 @@ impl Pages {
     }
 
     // Makes bytes within one page zero. A page that is not dirty has no other, and one is clean after it was cleared whole.
-    #[tactic(auto, unfolding(vm_defs::specs::Memory::memory_size, vm_defs::specs::Memory::page_count))]
+    #[tactic(auto, unfolding(machine_defs::specs::Memory::memory_size, machine_defs::specs::Memory::page_count))]
     #[inline]
     fn clear_page(&mut self, at: usize, count: usize)
         requires memory { at < memory_size }
@@ -231,7 +231,7 @@ impl Pages {
     }
 
     /// Makes bytes zero, and takes no memory. The cost is that of the dirty pages, and one look at each other page.
-    #[tactic(auto, unfolding(vm_defs::specs::Memory::memory_size, vm_defs::specs::Memory::page_count))]
+    #[tactic(auto, unfolding(machine_defs::specs::Memory::memory_size, machine_defs::specs::Memory::page_count))]
     #[inline]
     pub(crate) fn clear(&mut self, at: usize, count: usize)
         requires { at + count ≤ memory_size }

@@ -1,6 +1,6 @@
 // Instructions that were decoded, in slots by their addresses.
 ghost use Rattle.std.specs.Prelude.{◌≡◌, ◌-◌, ◌%◌, ◌≤◌, IfOk};
-ghost use Rattle.vm_defs.specs.Memory.{Memory};
+ghost use Rattle.machine_defs.specs.Memory.{Memory};
 ghost use Rattle.vm_mem.specs.Slots.{AreEmpty, Holding, IsKept, slot_of};
 
 use super::kept::Kept;

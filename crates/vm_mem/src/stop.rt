@@ -1,6 +1,6 @@
+use machine_defs::MemFault;
 use std::error::Error;
 use std::fmt;
-use vm_defs::MemFault;
 
 /// Why a store was not made.
 #[derive(Clone, Copy, Debug, PartialEq, Eq)]

@@ -1,7 +1,7 @@
 -- The cycles so far, and what is left of a budget.
 use Rattle.std.proofs.Common.{◌≡◌, ℕ, ◌+◌, ◌-◌, ◌%◌, ◌^◌, ◌<◌, ◌≤◌, Bool, true, nat_lt, not, IsTrue, inl, inr, arith, refl, sym, ap, subst, ◌∙◌}
 use Rattle.std.proofs.lemmas.Bool.{cases_lt, lt-ltb, le-ltb}
-use Rattle.vm_defs.specs.Step.{Machine, charged, is_spent}
+use Rattle.machine_defs.specs.Step.{Machine, charged, is_spent}
 use Rattle.vm_step.specs.declared.place.Place.{Place}
 use Rattle.vm_step.specs.Running.{RunningMachine, cycles_of, machine_at}
 
@@ -9,11 +9,6 @@ use Rattle.vm_step.specs.Running.{RunningMachine, cycles_of, machine_at}
 pub cycles-at-first : (budget cycles : ℕ) → budget ≤ 2 ^ 40 → cycles ≤ budget → cycles_of budget (budget - cycles) ≡ cycles
 unfolding cycles_of
 cycles-at-first budget cycles bound within = omega (arith, bound, within)
-
--- the code's difference
-pub cycles-are : (budget left : ℕ) → left < 2 ^ 64 → (budget + (2 ^ 64 - left)) % 2 ^ 64 ≡ cycles_of budget left
-unfolding cycles_of
-cycles-are budget left fits = omega (arith, fits)
 
 -- A cost is taken from what is left, which wraps where that is less.
 pub cycles-paid : (budget left cost : ℕ) → budget ≤ 2 ^ 40 → cost ≤ 2 ^ 40 → cycles_of budget left ≤ budget

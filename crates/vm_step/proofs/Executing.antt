@@ -1,10 +1,10 @@
 -- What an instruction does, from what the code did to the machine. The code sees the machine by its fields, as `seen`.
 use Rattle.std.proofs.Common.{◌≡◌, ◌≢◌, ℕ, ◌%◌, ◌==◌, Bool, true, false, if◌then◌else◌, List, slice_set, refl, Option, None, Result, Ok, Err, ◌⊎◌, inl, ap, sym, subst, ◌∙◌}
-use Rattle.vm_defs.specs.declared.memory.MemFault.{MemFault}
-use Rattle.vm_defs.specs.declared.step.Step.{Step}
-use Rattle.vm_defs.specs.declared.step.Step.TheVariants.{Went, Ecall, Fault, Spent, NoMemory}
-use Rattle.vm_defs.specs.Memory.{Memory}
-use Rattle.vm_defs.specs.Step.{Machine, after, past_instruction, stored, with_register}
+use Rattle.machine_defs.specs.declared.memory.MemFault.{MemFault}
+use Rattle.machine_defs.specs.declared.step.Step.{Step}
+use Rattle.machine_defs.specs.declared.step.Step.TheVariants.{Went, Ecall, Fault, Spent, NoMemory}
+use Rattle.machine_defs.specs.Memory.{Memory}
+use Rattle.machine_defs.specs.Step.{Machine, after, past_instruction, stored, with_register}
 use Rattle.vm_mem.specs.Pages.{IsAllocated}
 use Rattle.vm_mem.specs.Paged.{PagedMemory, Stores}
 use Rattle.vm_step.specs.declared.place.Place.{Place}

@@ -1,13 +1,13 @@
 -- Steps up to one that does not go.
 use Rattle.std.proofs.Common.{◌≡◌, ◌≢◌, ℕ, zero, suc, ◌+◌, ◌-◌, ◌/◌, ◌%◌, ◌<◌, ◌≤◌, Bool, true, List, ◌⊎◌, inl, inr, Option, Some, None, refl, sym, ap, subst, ◌∙◌, arith}
 use Rattle.std.proofs.lemmas.Bool.{cases_lt}
-use Rattle.vm_defs.specs.declared.step.Step.{Step}
-use Rattle.vm_defs.specs.declared.step.Step.TheVariants.{Went, Ecall, Fault, Spent, NoMemory}
-use Rattle.vm_defs.specs.Memory.{page_size}
-use Rattle.vm_defs.specs.Program.{Leads, followed, stop_of}
-use Rattle.vm_defs.specs.Step.{Machine, step_of}
-use Rattle.vm_defs.proofs.ProgramLaws.{Pays, step-pays, stops-step-by-step}
-use Rattle.vm_defs.proofs.ReachLaws.{leads-prefix, leads-same}
+use Rattle.machine_defs.specs.declared.step.Step.{Step}
+use Rattle.machine_defs.specs.declared.step.Step.TheVariants.{Went, Ecall, Fault, Spent, NoMemory}
+use Rattle.machine_defs.specs.Memory.{page_size}
+use Rattle.machine_defs.specs.Program.{Leads, followed, stop_of}
+use Rattle.machine_defs.specs.Step.{Machine, step_of}
+use Rattle.machine_defs.proofs.ProgramLaws.{Pays, step-pays, stops-step-by-step}
+use Rattle.machine_defs.proofs.ReachLaws.{leads-prefix, leads-same}
 use Rattle.vm_mem.specs.declared.slot.Slot.{Slot}
 use Rattle.vm_mem.specs.Pages.{IsAllocated}
 use Rattle.vm_mem.specs.Slots.{IsKept}

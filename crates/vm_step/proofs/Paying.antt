@@ -1,8 +1,8 @@
 -- An instruction that is paid for.
 use Rattle.std.proofs.Common.{◌≡◌, ℕ, ◌%◌, Bool, true, false, not, Option, inl, refl, sym, ap, ◌∙◌}
-use Rattle.vm_defs.specs.declared.step.Step.{Step}
-use Rattle.vm_defs.specs.declared.step.Step.TheVariants.{Went, Ecall, Fault, Spent, NoMemory}
-use Rattle.vm_defs.specs.Step.{Machine, charged, is_spent}
+use Rattle.machine_defs.specs.declared.step.Step.{Step}
+use Rattle.machine_defs.specs.declared.step.Step.TheVariants.{Went, Ecall, Fault, Spent, NoMemory}
+use Rattle.machine_defs.specs.Step.{Machine, charged, is_spent}
 use Rattle.vm_step.specs.Running.{RunningMachine, ByteRange, IsStep, Executes, paying}
 
 was_false : (b : Bool) → not b ≡ true → b ≡ false

@@ -3,8 +3,8 @@ use Rattle.std.proofs.Common.{◌≡◌, ◌≢◌, ◌⊎◌, inl, inr, ℕ, �
 use Rattle.std.proofs.lemmas.Bool.{cases_lt}
 use Rattle.std.proofs.lemmas.List.{get_or-take, take-set-le}
 use Rattle.std.proofs.Math.Seq.{take-set-lt}
-use Rattle.isa_defs.proofs.RowLaws.{not_equal}
-use Rattle.vm_defs.specs.Step.{Machine, register, with_register}
+use Rattle.machine_defs.proofs.RowLaws.{not_equal}
+use Rattle.machine_defs.specs.Step.{Machine, register, with_register}
 use Rattle.vm_mem.specs.Kept.{target_of}
 use Rattle.vm_step.specs.Running.{RunningMachine}
 
@@ -98,11 +98,6 @@ pub register-written : (old seen : RunningMachine) (registers : List ℕ) (i val
 register-written old seen registers i value same is other below =
     ap (λ (machine : Machine). record seen { machine = machine }) (set-seen seen.machine registers i value is (omega (arith, other)) below)
     ∙ ap (λ (running : RunningMachine). record running { machine = with_register running.machine i value }) same
-
--- x0 is not written
-pub zero-written : (running : RunningMachine) (i value : ℕ) → i ≡ 0 → running ≡ record running { machine = with_register running.machine i value }
-unfolding with_register
-zero-written running i value zero = rw (eq-eqb i 0 zero) refl
 
 -- A register is read.
 pub register-read : (machine : Machine) (registers : List ℕ) (i : ℕ) → machine.registers ≡ take 32 registers → i < 32 → slice_index registers 0 ≡ 0

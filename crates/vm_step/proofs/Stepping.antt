@@ -1,14 +1,14 @@
 -- A step in its order.
 use Rattle.std.proofs.Common.{◌≡◌, ◌≢◌, ◌⊎◌, inl, inr, arith, ℕ, Bool, true, false, ◌≤◌, ◌%◌, Option, Some, None, Result, Ok, Err, sym, ap, subst, ◌∙◌, eq-eqb, refl}
-use Rattle.isa_defs.specs.declared.ins.Ins.{Ins}
-use Rattle.vm_defs.specs.declared.memory.MemFault.{MemFault}
-use Rattle.vm_defs.specs.declared.step.Step.{Step}
-use Rattle.vm_defs.specs.declared.step.Step.TheVariants.{Went, Ecall, Fault, Spent, NoMemory}
-use Rattle.vm_defs.proofs.ProgramLaws.{Pays, step-pays}
-use Rattle.isa_defs.specs.Instruction.{cycles}
-use Rattle.vm_defs.specs.Code.{instruction_at}
-use Rattle.vm_defs.specs.Step.{Machine, charged, effect, execute, fault_number, step_of, with_instruction}
-use Rattle.isa_defs.proofs.RowLaws.{not_equal}
+use Rattle.machine_defs.specs.declared.ins.Ins.{Ins}
+use Rattle.machine_defs.specs.declared.memory.MemFault.{MemFault}
+use Rattle.machine_defs.specs.declared.step.Step.{Step}
+use Rattle.machine_defs.specs.declared.step.Step.TheVariants.{Went, Ecall, Fault, Spent, NoMemory}
+use Rattle.machine_defs.proofs.ProgramLaws.{Pays, step-pays}
+use Rattle.machine_defs.specs.Instruction.{cycles}
+use Rattle.machine_defs.specs.Code.{instruction_at}
+use Rattle.machine_defs.specs.Step.{Machine, charged, effect, execute, fault_number, step_of, with_instruction}
+use Rattle.machine_defs.proofs.RowLaws.{not_equal}
 use Rattle.vm_mem.specs.declared.slot.Slot.{Slot}
 use Rattle.vm_mem.specs.Kept.{instruction_of}
 use Rattle.vm_mem.specs.Pages.{IsAllocated}

@@ -1,9 +1,9 @@
 -- How a number that was loaded is extended to the 64 bits of a register.
 use Rattle.std.specs.Prelude.{ℕ}
 use Rattle.std.specs.Int.{w8, w16, w32}
-use Rattle.vm_defs.specs.declared.memory.Width.{Width}
-use Rattle.vm_defs.specs.declared.memory.Width.TheVariants.{B1, B2, B4, B8}
-use Rattle.vm_defs.specs.Step.{extended_from, zero_extended}
+use Rattle.machine_defs.specs.declared.memory.Width.{Width}
+use Rattle.machine_defs.specs.declared.memory.Width.TheVariants.{B1, B2, B4, B8}
+use Rattle.machine_defs.specs.Step.{extended_from, zero_extended}
 use Rattle.vm_step.specs.declared.extension.Extension.{Extension}
 use Rattle.vm_step.specs.declared.extension.Extension.TheVariants.{Sign, Zero}
 

@@ -1,13 +1,13 @@
 -- A machine that runs: what contracts see of it, and what a step of it does.
 use Rattle.std.specs.Prelude.{◌≡◌, ◌≢◌, ◌⊎◌, ℕ, ◌+◌, ◌-◌, ◌%◌, ◌^◌, ◌<◌, ◌≤◌, ℤ, Bool, true, false, List, Option, Some, None, IfSome, Result, Ok, Err, if◌then◌else◌}
-use Rattle.isa_defs.specs.declared.ins.Ins.{Ins}
-use Rattle.isa_defs.specs.declared.ins.Ins.TheVariants.{Sb, Sh, Sw, Sd}
-use Rattle.vm_defs.specs.declared.memory.MemFault.{MemFault}
-use Rattle.vm_defs.specs.declared.step.Step.{Step}
-use Rattle.vm_defs.specs.declared.step.Step.TheVariants.{Went, Ecall, Fault, Spent, NoMemory}
-use Rattle.vm_defs.specs.Code.{instruction_at}
-use Rattle.vm_defs.specs.Program.{Leads, stop_of}
-use Rattle.vm_defs.specs.Step.{Machine, charged, is_spent, moved, register, step_of}
+use Rattle.machine_defs.specs.declared.ins.Ins.{Ins}
+use Rattle.machine_defs.specs.declared.ins.Ins.TheVariants.{Sb, Sh, Sw, Sd}
+use Rattle.machine_defs.specs.declared.memory.MemFault.{MemFault}
+use Rattle.machine_defs.specs.declared.step.Step.{Step}
+use Rattle.machine_defs.specs.declared.step.Step.TheVariants.{Went, Ecall, Fault, Spent, NoMemory}
+use Rattle.machine_defs.specs.Code.{instruction_at}
+use Rattle.machine_defs.specs.Program.{Leads, stop_of}
+use Rattle.machine_defs.specs.Step.{Machine, charged, is_spent, moved, register, step_of}
 use Rattle.vm_step.specs.declared.place.Place.{Place}
 use Rattle.vm_mem.specs.Pages.{IsAllocated, AreAllocated, IsUnder}
 

@@ -2,9 +2,9 @@
 ghost use Rattle.std.specs.Prelude.{◌≡◌, ◌<◌, ◌≤◌, true, None};
 ghost use Rattle.std.specs.Int.{w64};
 ghost use Rattle.std.specs.Int.RustNames.{int_lt};
-ghost use Rattle.isa_defs.specs.Alu.{bits_of, signed};
-ghost use Rattle.vm_defs.specs.Memory.{byte_count};
-ghost use Rattle.vm_defs.specs.Step.{branch, jump, load, moved, past_instruction, store, write};
+ghost use Rattle.machine_defs.specs.Alu.{bits_of, signed};
+ghost use Rattle.machine_defs.specs.Memory.{byte_count};
+ghost use Rattle.machine_defs.specs.Step.{branch, jump, load, moved, past_instruction, store, write};
 ghost use Rattle.vm_mem.specs.Kept.{target_of};
 ghost use Rattle.vm_step.specs.Extension.{extended};
 ghost use Rattle.vm_step.specs.Running.{Executes, machine_at, range_at, stands, with_place};
@@ -13,7 +13,7 @@ use super::extension::{Extension, extended};
 use super::fault::fault_number;
 use super::machine::Machine;
 use super::place::Place;
-use vm_defs::{Step, Width};
+use machine_defs::{Step, Width};
 use vm_mem::MemStop;
 
 /// An immediate, as a register holds it.
@@ -26,7 +26,7 @@ pub(crate) fn wide(imm: i32) -> u64
 
 /// An address and an offset from it.
 #[inline(always)]
-#[tactic(auto, unfolding(vm_defs::specs::Step::moved))]
+#[tactic(auto, unfolding(machine_defs::specs::Step::moved))]
 pub(crate) fn moved(address: u64, offset: i32) -> u64
     ensures { result ≡ moved address offset }
 {
@@ -103,7 +103,7 @@ impl Machine {
     }
 
     /// A number from memory is written to a register. A fault comes also where that is x0.
-    #[tactic(auto, unfolding(vm_defs::specs::Step::register))]
+    #[tactic(auto, unfolding(machine_defs::specs::Step::register))]
     #[inline(always)]
     pub(crate) fn load(
         &mut self,
@@ -132,7 +132,7 @@ impl Machine {
     }
 
     /// The low bytes of a register are written to memory.
-    #[tactic(auto, unfolding(vm_defs::specs::Step::register))]
+    #[tactic(auto, unfolding(machine_defs::specs::Step::register))]
     #[inline(always)]
     pub(crate) fn store(
         &mut self,

@@ -1,9 +1,9 @@
 // An instruction: its cost, and then its effect. Each arm pays its own cost, so that a step goes from what was decoded
 // to its arm at once.
 ghost use Rattle.std.specs.Prelude.{◌≡◌, ◌^◌, ◌<◌, ◌≤◌, true, None};
-ghost use Rattle.isa_defs.specs.Instruction.{HasRegisters, cycles};
-ghost use Rattle.vm_defs.specs.Memory.{byte_count};
-ghost use Rattle.vm_defs.specs.Step.{branch, by_immediate, by_registers, charged, effect, jump, load, past_instruction, store, write};
+ghost use Rattle.machine_defs.specs.Instruction.{HasRegisters, cycles};
+ghost use Rattle.machine_defs.specs.Memory.{byte_count};
+ghost use Rattle.machine_defs.specs.Step.{branch, by_immediate, by_registers, charged, effect, jump, load, past_instruction, store, write};
 ghost use Rattle.vm_mem.specs.Kept.{instruction_of, target_of};
 ghost use Rattle.vm_step.specs.Extension.{extended};
 ghost use Rattle.vm_step.specs.Running.{Executes, machine_at, paying, range_at, stored_range, stands, with_place};
@@ -14,13 +14,13 @@ use super::extension::Extension;
 use super::extension::Extension::{Sign, Zero};
 use super::machine::Machine;
 use super::place::Place;
+use machine_defs::Width::{B1, B2, B4, B8};
+use machine_defs::{Step, Width};
 use rv_alu::Alu::{
     Add, Addw, And, Div, Divu, Divuw, Divw, Mul, Mulh, Mulhsu, Mulhu, Mulw, Or, Rem, Remu, Remuw,
     Remw, Sll, Sllw, Slt, Sltu, Sra, Sraw, Srl, Srlw, Sub, Subw, Xor,
 };
 use rv_alu::{Alu, op};
-use vm_defs::Width::{B1, B2, B4, B8};
-use vm_defs::{Step, Width};
 use vm_mem::Kept;
 
 impl Machine {
@@ -163,7 +163,7 @@ impl Machine {
 
     // An operation on two registers.
     #[inline(always)]
-    #[tactic(auto, unfolding(vm_defs::specs::Step::register))]
+    #[tactic(auto, unfolding(machine_defs::specs::Step::register))]
     fn by_registers(
         &mut self,
         place: &mut Place,
@@ -189,7 +189,7 @@ impl Machine {
 
     // An operation on a register and an immediate.
     #[inline(always)]
-    #[tactic(auto, unfolding(vm_defs::specs::Step::register))]
+    #[tactic(auto, unfolding(machine_defs::specs::Step::register))]
     fn by_immediate(
         &mut self,
         place: &mut Place,

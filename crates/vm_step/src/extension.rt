@@ -2,7 +2,7 @@
 ghost use Rattle.std.specs.Prelude.{◌≡◌};
 ghost use Rattle.vm_step.specs.Extension.{extended};
 
-use vm_defs::Width;
+use machine_defs::Width;
 
 /// How a number that was loaded is extended to 64 bits.
 #[derive(Clone, Copy)]
@@ -13,7 +13,7 @@ pub(crate) enum Extension {
 
 /// A number that was loaded, as a register holds it.
 #[inline(always)]
-#[tactic(auto, unfolding(vm_defs::specs::Step::extended_from))]
+#[tactic(auto, unfolding(machine_defs::specs::Step::extended_from))]
 pub(crate) fn extended(extension: Extension, width: Width, n: u64) -> u64
     ensures { result ≡ extended extension width n }
 {

@@ -1,8 +1,8 @@
 // The numbers of a step's faults.
 ghost use Rattle.std.specs.Prelude.{◌≡◌};
-ghost use Rattle.vm_defs.specs.Step.{fault_number};
+ghost use Rattle.machine_defs.specs.Step.{fault_number};
 
-use vm_defs::MemFault;
+use machine_defs::MemFault;
 
 /// No instruction is at the program counter.
 pub(crate) const NO_INSTRUCTION: u8 = 4;

@@ -1,7 +1,7 @@
 // The laws of a run.
 
-ghost use Rattle.vm_defs.specs.Alone.{answer_ecall};
-ghost use Rattle.vm_defs.specs.Program.{Answer, GoesOnWithinBudget, HasStepsEnough, KeepsAccount, RunsStepByStep, RunsStopByStop, StepHasMemory, StepKeepsAccount, StopsStepByStep};
+ghost use Rattle.machine_defs.specs.Alone.{answer_ecall};
+ghost use Rattle.machine_defs.specs.Program.{Answer, GoesOnWithinBudget, HasStepsEnough, KeepsAccount, RunsStepByStep, RunsStopByStop, StepHasMemory, StepKeepsAccount, StopsStepByStep};
 
 /// States what a run keeps, whatever ECALL does, as long as its answer keeps the account. It does nothing.
 ///

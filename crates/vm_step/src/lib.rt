@@ -1,6 +1,6 @@
 //! The machine that runs: one step of it, and the steps up to an ECALL (RFC 0003; RFC 0014 for the cycles).
 //!
-//! `Machine::step` is exact against `step_of` of `vm_defs`, for every state of the machine: its clause `steps`
+//! `Machine::step` is exact against `step_of` of `machine_defs`, for every state of the machine: its clause `steps`
 //! says the answer, the program counter, each register, memory and the cycles. Out of memory for a page that
 //! is stored to is the one answer that the definitions do not have; the clause `room` says where it never
 //! comes. `Machine::run` makes the steps up to the first whose answer is not `Went`, exact against `stop_of`.
@@ -19,4 +19,4 @@ mod place;
 
 pub use laws::run_laws;
 pub use machine::Machine;
-pub use vm_defs::Step;
+pub use machine_defs::Step;

@@ -1,8 +1,8 @@
 // The machine, and what its user sees and changes of it.
 ghost use Rattle.std.specs.Borrow.{sem};
 ghost use Rattle.std.specs.Prelude.{◌≡◌, ◌≢◌, ◌⊎◌, ℕ, ◌%◌, ◌^◌, ◌<◌, ◌≤◌, true, false, not, IsTrue};
-ghost use Rattle.vm_defs.specs.Program.{new_machine};
-ghost use Rattle.vm_defs.specs.Step.{charged, is_spent, register, step_of, with_register};
+ghost use Rattle.machine_defs.specs.Program.{new_machine};
+ghost use Rattle.machine_defs.specs.Step.{charged, is_spent, register, step_of, with_register};
 ghost use Rattle.vm_mem.specs.Kept.{target_of};
 ghost use Rattle.vm_mem.specs.Pages.{IsAllocated};
 ghost use Rattle.vm_mem.specs.Slots.{IsKept};
@@ -11,8 +11,8 @@ ghost use Rattle.vm_step.specs.Running.{HasRoom, IsOneStep, IsStep, IsStoredTo, 
 
 use super::fault::{NO_INSTRUCTION, fault_number};
 use super::place::Place;
+use machine_defs::Step;
 use std::marker::Model;
-use vm_defs::Step;
 use vm_mem::{Memory, Slot, kept_form};
 
 const STACK_POINTER: u64 = 0x3f_fff0;
@@ -60,7 +60,7 @@ impl Machine {
     ///
     /// All registers are 0 but the stack pointer, x2, which is 0x3ffff0. The cycles are those that its loading took, and
     /// the budget is the most that there may be.
-    #[tactic(auto, unfolding(vm_defs::specs::Program::new_machine, vm_defs::specs::Program::initial_registers))]
+    #[tactic(auto, unfolding(machine_defs::specs::Program::new_machine, machine_defs::specs::Program::initial_registers))]
     pub fn new(memory: Memory, pc: u64, cycles: u64, budget: u64) -> Machine
         requires bound { budget ≤ 2 ^ 40 }
         requires within { cycles ≤ budget }
@@ -162,7 +162,7 @@ impl Machine {
 
     /// Register `i`; x0 is 0.
     #[inline(always)]
-    #[tactic(auto, unfolding(vm_defs::specs::Step::register))]
+    #[tactic(auto, unfolding(machine_defs::specs::Step::register))]
     pub fn reg(&self, i: u8) -> u64
         requires { i < 32 }
         ensures { result ≡ register self.now.machine i }
@@ -172,7 +172,7 @@ impl Machine {
 
     /// Writes register `i`; what is written to x0 is dropped.
     #[inline(always)]
-    #[tactic(auto, unfolding(vm_defs::specs::Step::with_register))]
+    #[tactic(auto, unfolding(machine_defs::specs::Step::with_register))]
     pub fn set_reg(&mut self, i: u8, value: u64)
         requires { i < 32 }
         ensures { self.new ≡ record self.old { machine = with_register self.old.machine i value } }
@@ -184,7 +184,7 @@ impl Machine {
 
     // Writes the target of an instruction that is kept, which is never x0.
     #[inline(always)]
-    #[tactic(auto, unfolding(vm_defs::specs::Step::with_register))]
+    #[tactic(auto, unfolding(machine_defs::specs::Step::with_register))]
     pub(crate) fn set_target(&mut self, rd: u8, value: u64)
         requires { target_of rd < 32 }
         ensures { self.new ≡ record self.old { machine = with_register self.old.machine (target_of rd) value } }

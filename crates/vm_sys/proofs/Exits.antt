@@ -7,18 +7,18 @@ use Rattle.outside.specs.declared.disk.ReadStop.{ReadStop}
 use Rattle.outside.specs.declared.disk.ReadStop.TheVariants as read_stop
 use Rattle.std.proofs.lemmas.Bool.Decides.{nat_tests}
 use Rattle.std.proofs.lemmas.List.{length-append, length-drop, length-replicate, length-take}
-use Rattle.vm_defs.specs.declared.memory.MemFault.TheVariants.{Range}
-use Rattle.vm_defs.specs.Program.{loading_cycles}
-use Rattle.sys_defs.specs.World.{Call, Item, Items, Unknown}
+use Rattle.machine_defs.specs.declared.memory.MemFault.TheVariants.{Range}
+use Rattle.machine_defs.specs.Program.{loading_cycles}
+use Rattle.machine_defs.specs.World.{Call, Item, Items, Unknown}
 use Rattle.vm_sys.proofs.Ranges.{in-memory, in-memory_from, out-from, refused-first, refused-rest, store-out, stored-both, stored-parts}
-use Rattle.vm_defs.specs.declared.memory.MemFault.{MemFault}
-use Rattle.vm_defs.specs.Memory.{Memory, bytes_of, is_out_of_range, page_size, set_code}
-use Rattle.vm_defs.specs.Memory as memory
-use Rattle.vm_defs.specs.Step.{Machine, charged, fault_number, is_spent, with_register}
+use Rattle.machine_defs.specs.declared.memory.MemFault.{MemFault}
+use Rattle.machine_defs.specs.Memory.{Memory, bytes_of, is_out_of_range, page_size, set_code}
+use Rattle.machine_defs.specs.Memory as memory
+use Rattle.machine_defs.specs.Step.{Machine, charged, fault_number, is_spent, with_register}
 use Rattle.vm_mem.specs.Paged.{Stores}
 use Rattle.vm_mem.specs.declared.stop.MemStop.{MemStop}
 use Rattle.vm_mem.specs.declared.stop.MemStop.TheVariants as mem_stop
-use Rattle.sys_defs.specs.Answer.{argument, paid_for, stored, with_part, with_length, loads_part, code_bytes, with_content, loads_code}
+use Rattle.machine_defs.specs.Answer.{argument, paid_for, stored, with_part, with_length, loads_part, code_bytes, with_content, loads_code}
 use Rattle.vm_sys.specs.declared.syscall.Sys.{Sys}
 use Rattle.vm_sys.specs.declared.syscall.Sys.TheVariants.{Done, Exit, Fault, Spent, Stop}
 use Rattle.vm_mem.specs.Pages.{IsUnder}

@@ -6,12 +6,12 @@ use Rattle.std.proofs.lemmas.Bool.{cases_lt, false_from_ne_true, false≢true}
 use Rattle.std.proofs.lemmas.Bool.Decides.{nat_tests}
 use Rattle.std.proofs.lemmas.List.{get_or-drop, get_or-take, get_or_default, length-append, length-drop, length-take}
 use Rattle.std.proofs.lemmas.List.Folds.{Any-from_list_any, list_any_at}
-use Rattle.vm_defs.specs.declared.memory.MemFault.{MemFault}
-use Rattle.vm_defs.specs.declared.memory.MemFault.TheVariants.{Range, WriteCode}
-use Rattle.vm_defs.specs.declared.memory.PageKind.{PageKind}
-use Rattle.vm_defs.specs.declared.memory.PageKind.TheVariants.{Data}
-use Rattle.vm_defs.specs.Memory.{Memory, is_code, is_out_of_range, kinds_under, memory_size, overwritten, page_size, store}
-use Rattle.vm_defs.proofs.Overwritten.{overwritten-more}
+use Rattle.machine_defs.specs.declared.memory.MemFault.{MemFault}
+use Rattle.machine_defs.specs.declared.memory.MemFault.TheVariants.{Range, WriteCode}
+use Rattle.machine_defs.specs.declared.memory.PageKind.{PageKind}
+use Rattle.machine_defs.specs.declared.memory.PageKind.TheVariants.{Data}
+use Rattle.machine_defs.specs.Memory.{Memory, is_code, is_out_of_range, kinds_under, memory_size, overwritten, page_size, store}
+use Rattle.machine_defs.proofs.Overwritten.{overwritten-more}
 
 pub in-memory : (at count : ℕ) → is_out_of_range at count ≡ false → at + count ≤ 4194304
 unfolding is_out_of_range memory_size

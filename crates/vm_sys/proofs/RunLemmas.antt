@@ -3,21 +3,21 @@ use Rattle.std.proofs.Common.{◌≡◌, ℕ, zero, suc, ◌+◌, ◌-◌, ◌<�
 use Rattle.std.proofs.lemmas.Bool.{cases_lt}
 use Rattle.std.specs.Prelude.{Option, Some, None, Ok, Err}
 use Rattle.outside.specs.declared.disk.ReadStop.{ReadStop}
-use Rattle.vm_defs.specs.declared.outcome.Outcome.{Outcome}
-use Rattle.vm_defs.specs.declared.outcome.Outcome.TheVariants.{Exit, Fault, Spent}
-use Rattle.vm_defs.specs.declared.step.Step.{Step}
-use Rattle.vm_defs.specs.declared.step.Step.TheVariants as step
-use Rattle.vm_defs.specs.Step.{Machine, step_of}
-use Rattle.vm_defs.specs.Program.{Answer, KeepsAccount, Leads, Reaches, advance, answered, ended_or, run, stop_of, Ended}
-use Rattle.vm_defs.proofs.ProgramLaws.{Pays, runs-stop-by-stop, step-pays, stop-goes-on}
-use Rattle.vm_defs.proofs.ReachLaws.{last-of, reaches-more, reached-on-the-way}
+use Rattle.machine_defs.specs.declared.outcome.Outcome.{Outcome}
+use Rattle.machine_defs.specs.declared.outcome.Outcome.TheVariants.{Exit, Fault, Spent}
+use Rattle.machine_defs.specs.declared.step.Step.{Step}
+use Rattle.machine_defs.specs.declared.step.Step.TheVariants as step
+use Rattle.machine_defs.specs.Step.{Machine, step_of}
+use Rattle.machine_defs.specs.Program.{Answer, KeepsAccount, Leads, Reaches, advance, answered, ended_or, run, stop_of, Ended}
+use Rattle.machine_defs.proofs.ProgramLaws.{Pays, runs-stop-by-stop, step-pays, stop-goes-on}
+use Rattle.machine_defs.proofs.ReachLaws.{last-of, reaches-more, reached-on-the-way}
 use Rattle.vm_step.specs.Running as steps
 use Rattle.vm_step.specs.Running.{RunningMachine, HasRoom, LeavesRoom, Stops, WantsPage, next_range}
 use Rattle.vm_step.proofs.Going.{has-room-later, touched}
 use Rattle.vm_mem.specs.Pages.{IsAllocated}
-use Rattle.sys_defs.specs.World.{Items}
-use Rattle.sys_defs.specs.Answer.{syscall}
-use Rattle.sys_laws.proofs.AccountLaws.{syscall-keeps, syscalls-keep-account}
+use Rattle.machine_defs.specs.World.{Items}
+use Rattle.machine_defs.specs.Answer.{syscall}
+use Rattle.machine_defs.proofs.AccountLaws.{syscall-keeps, syscalls-keep-account}
 use Rattle.vm_sys.specs.declared.syscall.Sys.{Sys}
 use Rattle.vm_sys.specs.declared.syscall.Sys.TheVariants as sys
 use Rattle.vm_sys.specs.Answering.{Answers, IsAnswerOfSome}

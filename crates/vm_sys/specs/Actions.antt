@@ -1,6 +1,6 @@
 -- The deeds of the code in the definitions' terms.
 use Rattle.std.specs.Prelude.{Option, Some, None}
-use Rattle.sys_defs.specs.Table as table
+use Rattle.machine_defs.specs.SyscallTable as table
 use Rattle.vm_sys.specs.declared.call.Form.{Form}
 use Rattle.vm_sys.specs.declared.call.Form.TheVariants.{Part, Field, Code}
 use Rattle.vm_sys.specs.declared.call.Action.{Action}

@@ -1,20 +1,20 @@
 -- How the machine answers a syscall.
 use Rattle.std.specs.Prelude.{◌≡◌, ◌⊎◌, ◌≤◌, ⊤, ℕ, Bool, true, false, List, drop, length, take, Option, Some, None, Result, Ok, Err}
 use Rattle.outside.specs.declared.disk.ReadStop.TheVariants as read_stop
-use Rattle.vm_defs.specs.declared.outcome.Outcome.{Outcome}
-use Rattle.vm_defs.specs.declared.outcome.Outcome.TheVariants as outcome
-use Rattle.vm_defs.specs.Memory.{Memory, bytes_of, load, set_code, store}
-use Rattle.vm_defs.specs.declared.memory.MemFault.{MemFault}
-use Rattle.vm_defs.specs.Step.{Machine, fault_number}
+use Rattle.machine_defs.specs.declared.outcome.Outcome.{Outcome}
+use Rattle.machine_defs.specs.declared.outcome.Outcome.TheVariants as outcome
+use Rattle.machine_defs.specs.Memory.{Memory, bytes_of, load, set_code, store}
+use Rattle.machine_defs.specs.declared.memory.MemFault.{MemFault}
+use Rattle.machine_defs.specs.Step.{Machine, fault_number}
 use Rattle.vm_mem.specs.declared.stop.MemStop.{MemStop}
 use Rattle.vm_mem.specs.declared.stop.MemStop.TheVariants as mem_stop
 use Rattle.vm_mem.specs.Pages.{IsAllocated, IsUnder}
 use Rattle.vm_step.specs.Running.{RunningMachine}
-use Rattle.sys_defs.specs.Table as table
-use Rattle.sys_defs.specs.Table.{action_of}
-use Rattle.sys_defs.specs.World.{Item, Items, Here, NoIndex, Missing, Unknown}
-use Rattle.sys_defs.specs.Answer.{Answered, argument, asks}
-use Rattle.vm_defs.specs.Alone.{syscall_number}
+use Rattle.machine_defs.specs.SyscallTable as table
+use Rattle.machine_defs.specs.SyscallTable.{action_of}
+use Rattle.machine_defs.specs.World.{Item, Items, Here, NoIndex, Missing, Unknown}
+use Rattle.machine_defs.specs.Answer.{Answered, argument, asks}
+use Rattle.machine_defs.specs.Alone.{syscall_number}
 use Rattle.vm_sys.specs.declared.syscall.Sys.{Sys}
 use Rattle.vm_sys.specs.declared.syscall.Sys.TheVariants.{Done, Exit, Fault, Spent, Stop}
 

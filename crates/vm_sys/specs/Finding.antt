@@ -2,7 +2,7 @@
 use Rattle.std.specs.Prelude.{◌≡◌, ℕ, List, Option, Some, None}
 use Rattle.outside.specs.Causes.{counted}
 use Rattle.outside.specs.declared.disk.Damage.{Damage}
-use Rattle.sys_defs.specs.World as world
+use Rattle.machine_defs.specs.World as world
 use Rattle.vm_sys.specs.declared.world.Found.{Found}
 use Rattle.vm_sys.specs.declared.world.Found.TheVariants.{Here, NoIndex, Missing, Unknown}
 

@@ -1,17 +1,17 @@
 -- A run under a world: what leads to its end, and where it wants memory (docs/MACHINE.md, "A run").
 use Rattle.std.specs.Prelude.{◌≡◌, ◌≢◌, ◌⊎◌, ℕ, ◌<◌, ◌≤◌, true, Option, Some, None, Result, Ok, Err}
 use Rattle.outside.specs.declared.disk.ReadStop.{ReadStop}
-use Rattle.vm_defs.specs.declared.outcome.Outcome.{Outcome}
-use Rattle.vm_defs.specs.declared.outcome.Outcome.TheVariants as outcome
-use Rattle.vm_defs.specs.declared.step.Step.TheVariants.{Went, Ecall}
-use Rattle.vm_defs.specs.Alone.{syscall_number}
-use Rattle.vm_defs.specs.Program.{Answer, Reaches, answered, stop_of}
-use Rattle.vm_defs.specs.Step.{Machine, step_of}
+use Rattle.machine_defs.specs.declared.outcome.Outcome.{Outcome}
+use Rattle.machine_defs.specs.declared.outcome.Outcome.TheVariants as outcome
+use Rattle.machine_defs.specs.declared.step.Step.TheVariants.{Went, Ecall}
+use Rattle.machine_defs.specs.Alone.{syscall_number}
+use Rattle.machine_defs.specs.Program.{Answer, Reaches, answered, stop_of}
+use Rattle.machine_defs.specs.Step.{Machine, step_of}
 use Rattle.vm_step.specs.Running.{RunningMachine, Touches, next_range}
-use Rattle.sys_defs.specs.Table as table
-use Rattle.sys_defs.specs.Table.{action_of}
-use Rattle.sys_defs.specs.World.{Item, Items, Unknown}
-use Rattle.sys_defs.specs.Answer.{asks, syscall}
+use Rattle.machine_defs.specs.SyscallTable as table
+use Rattle.machine_defs.specs.SyscallTable.{action_of}
+use Rattle.machine_defs.specs.World.{Item, Items, Unknown}
+use Rattle.machine_defs.specs.Answer.{asks, syscall}
 use Rattle.vm_sys.specs.declared.syscall.Sys.{Sys}
 use Rattle.vm_sys.specs.declared.syscall.Sys.TheVariants.{Done, Exit, Fault, Spent, Stop}
 

@@ -1,7 +1,7 @@
 // A syscall's number and arguments.
 ghost use Rattle.std.specs.Prelude.{◌≡◌};
-ghost use Rattle.sys_defs.specs.Table as table;
-ghost use Rattle.sys_defs.specs.Answer.{asks};
+ghost use Rattle.machine_defs.specs.SyscallTable as table;
+ghost use Rattle.machine_defs.specs.Answer.{asks};
 ghost use Rattle.vm_sys.specs.Actions.{form_meaning, meaning_of_any};
 
 use std::marker::Model;
@@ -32,7 +32,7 @@ pub struct Call {
 }
 
 impl Model for Call {
-    ghost use Rattle.sys_defs.specs.World as world;
+    ghost use Rattle.machine_defs.specs.World as world;
 
     ghost Value = { world.Call };
 
@@ -58,7 +58,7 @@ pub(crate) enum Action {
 }
 
 /// What the syscall of a number does (RFC 0009).
-#[tactic(auto, unfolding(sys_defs::specs::Table::action_of, sys_defs::specs::Table::syscalls))]
+#[tactic(auto, unfolding(machine_defs::specs::SyscallTable::action_of, machine_defs::specs::SyscallTable::syscalls))]
 pub(crate) fn action_of(number: u64) -> Option<Action>
     ensures { meaning_of_any result ≡ table.action_of number }
 {

@@ -2,16 +2,16 @@
 ghost use Rattle.std.specs.Prelude.{◌≡◌, ◌+◌, ◌-◌, ◌^◌, ◌%◌, ◌/◌, ◌==◌, ◌||◌, ◌≤◌, ◌++◌, ◌⊎◌, ℕ, true, not, nat_lt, length, take, drop, replicate, OnErr, OnOk};
 ghost use Rattle.outside.specs.declared.disk.ReadStop.{ReadStop};
 ghost use Rattle.outside.specs.declared.disk.ReadStop.TheVariants as read_stop;
-ghost use Rattle.vm_defs.specs.Memory.{page_size, bytes_of, load, store};
+ghost use Rattle.machine_defs.specs.Memory.{page_size, bytes_of, load, store};
 ghost use Rattle.vm_mem.specs.Paged.{Stores};
 ghost use Rattle.vm_mem.specs.Pages.{IsAllocated, IsUnder};
-ghost use Rattle.sys_defs.specs.Answer.{loads_code, loads_part, paid_for, stored};
+ghost use Rattle.machine_defs.specs.Answer.{loads_code, loads_part, paid_for, stored};
 ghost use Rattle.vm_sys.specs.Answering.{AddsPages, ContentTouches, HasBytes, HoldsPart, IsAnswer, WhereCutOff, IsStopped, IsPlaced, PartTouches, goes_on_of, with_memory};
 
 use super::call::{A0, A1, A2, A3};
 use super::syscall::Sys;
+use machine_defs::{MEMORY_SIZE, MemFault, PAGE_SIZE, Width};
 use outside::ReadStop;
-use vm_defs::{MEMORY_SIZE, MemFault, PAGE_SIZE, Width};
 use vm_mem::{MemStop, Memory};
 use vm_step::Machine;
 
@@ -177,7 +177,7 @@ fn is_unaligned(at: u64, size: u64) -> bool
 }
 
 // Writes content, and zeros after it up to the size, to pages of data, which become code.
-#[tactic(auto, unfolding(vm_defs::specs::Memory::is_out_of_range, vm_defs::specs::Memory::memory_size))]
+#[tactic(auto, unfolding(machine_defs::specs::Memory::is_out_of_range, machine_defs::specs::Memory::memory_size))]
 fn place_code(memory: &mut Memory, at: u64, content: &[u8], size: u64) -> Result<(), MemStop>
     requires aligned { at % page_size ≡ 0 }
     requires fits { length content.now ≤ size }

@@ -4,18 +4,18 @@ ghost use Rattle.outside.specs.Causes.{CountsFault};
 ghost use Rattle.outside.specs.declared.disk.Area.TheVariants.{Log};
 ghost use Rattle.outside.specs.declared.disk.Damage.{Damage};
 ghost use Rattle.outside.specs.declared.disk.ReadStop.TheVariants.{DiskFault, Damaged, NoMemory};
-ghost use Rattle.vm_defs.specs.Program as programs;
+ghost use Rattle.machine_defs.specs.Program as programs;
 ghost use Rattle.vm_mem.specs.Pages.{IsAllocated};
 ghost use Rattle.vm_step.specs.Running.{LeavesRoom, WantsPage};
-ghost use Rattle.sys_defs.specs.World.{Items};
-ghost use Rattle.sys_defs.specs.Answer.{syscall};
+ghost use Rattle.machine_defs.specs.World.{Items};
+ghost use Rattle.machine_defs.specs.Answer.{syscall};
 ghost use Rattle.vm_sys.specs.Finding.{Finds};
 ghost use Rattle.vm_sys.specs.Running.{Advances, AdvancesBySome, IsWithin, RunWants, StopLoadsItem, outcome_of};
 
 use super::syscall::{Sys, handle};
 use super::world::World;
+use machine_defs::{Outcome, Step};
 use outside::ReadStop;
-use vm_defs::{Outcome, Step};
 use vm_step::Machine;
 
 /// Runs the machine to its end: its steps, and the answers to its ECALLs over what surrounds the script.

@@ -4,8 +4,8 @@ ghost use Rattle.outside.specs.Causes.{CountsFault};
 ghost use Rattle.outside.specs.declared.disk.Area.TheVariants.{Log};
 ghost use Rattle.outside.specs.declared.disk.Damage.{Damage};
 ghost use Rattle.outside.specs.declared.disk.ReadStop.TheVariants.{DiskFault, Damaged, NoMemory};
-ghost use Rattle.sys_defs.specs.World.{Items};
-ghost use Rattle.sys_defs.specs.World as items;
+ghost use Rattle.machine_defs.specs.World.{Items};
+ghost use Rattle.machine_defs.specs.World as items;
 ghost use Rattle.vm_sys.specs.Finding.{item_of, Finds};
 
 use super::call::Call;
@@ -79,7 +79,7 @@ pub struct Alone;
 impl World for Alone {
     ghost use Rattle.std.specs.Prelude.{Some, None, [], ⊤};
     ghost use Rattle.std.proofs.Common.{arith};
-    ghost use Rattle.sys_defs.specs.World.{nothing};
+    ghost use Rattle.machine_defs.specs.World.{nothing};
 
     ghost told = { λ alone. Some nothing };
 

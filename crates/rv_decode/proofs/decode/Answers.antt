@@ -1,5 +1,5 @@
 use Rattle.std.proofs.Common.{◌%◌, ◌^◌, rules, arith}
-use Rattle.isa_defs.proofs.Formats.{full-form-fits}
+use Rattle.machine_defs.proofs.Formats.{full-form-fits}
 use Rattle.rv_decode.proofs.CompressedForms.{compressed-full, full-full}
 use Rattle.rv_decode.proofs.decode.Goals as goal
 

@@ -1,5 +1,5 @@
 use Rattle.std.proofs.Common.{refl}
-use Rattle.hash_defs.specs.CkbHash.{compress}
+use Rattle.chain_defs.specs.CkbHash.{compress}
 use Rattle.blake2b_ckb.proofs.compression.compress.Goals as goal
 
 pub returns : goal.returns

@@ -1,5 +1,5 @@
 use Rattle.std.proofs.Common.{refl}
-use Rattle.hash_defs.specs.CkbHash.{mix}
+use Rattle.chain_defs.specs.CkbHash.{mix}
 use Rattle.blake2b_ckb.specs.Compression.{half_mix}
 use Rattle.blake2b_ckb.proofs.compression.mix.Goals as goal
 

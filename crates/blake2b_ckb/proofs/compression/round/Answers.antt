@@ -1,5 +1,5 @@
 use Rattle.std.proofs.Common.{refl}
-use Rattle.hash_defs.specs.CkbHash.{round}
+use Rattle.chain_defs.specs.CkbHash.{round}
 use Rattle.blake2b_ckb.proofs.compression.round.Goals as goal
 
 pub returns : goal.returns

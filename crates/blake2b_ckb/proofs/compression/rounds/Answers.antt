@@ -1,5 +1,5 @@
 use Rattle.std.proofs.Common.{◌≡◌, ℕ, suc, List, refl}
-use Rattle.hash_defs.specs.CkbHash.{round, round_words, rounds, sigma}
+use Rattle.chain_defs.specs.CkbHash.{round, round_words, rounds, sigma}
 use Rattle.blake2b_ckb.proofs.compression.rounds.Goals as goal
 
 rounds_none : (v m : List ℕ) → v ≡ rounds v m 0

@@ -1,4 +1,4 @@
-use Rattle.hash_defs.specs.CkbHash.{words}
+use Rattle.chain_defs.specs.CkbHash.{words}
 use Rattle.blake2b_ckb.proofs.compression.words.Goals as goal
 
 pub returns : goal.returns

@@ -2,11 +2,11 @@ use Rattle.std.proofs.Common.{◌≡◌, ℕ, ◌-◌, ◌≤◌, pos, List, Som
 use Rattle.std.specs.Int.{w128}
 use Rattle.std.proofs.lemmas.Int.{to_z-of_z}
 use Rattle.chain_defs.specs.Branch.{branch}
-use Rattle.codec_defs.specs.Schema.{Block}
+use Rattle.chain_defs.specs.Schema.{Block}
 use Rattle.chain_tree.specs.Told.{Stored, blocks_of}
-use Rattle.tx_defs.specs.Site.{Site, site_at}
+use Rattle.rule_defs.specs.Site.{Site, site_at}
 use Rattle.tx_rules.specs.At.{AtValue}
-use Rattle.rule_names.specs.Number.{rule_number}
+use Rattle.rule_defs.specs.RuleNumber.{rule_number}
 use Rattle.block_judge.specs.BlockCells.{rows_in}
 use Rattle.block_judge.specs.Standing.{Stands}
 use Rattle.block_judge.proofs.MovedLemmas.{can-move-none, moved-none, moved-more, moved-all}

@@ -1,6 +1,6 @@
 use Rattle.std.proofs.Common.{◌≡◌, Some, refl, sym, ap, ◌∙◌, arith}
 use Rattle.chain_defs.specs.Branch.{branch}
-use Rattle.rule_names.specs.Number.{rule_number}
+use Rattle.rule_defs.specs.RuleNumber.{rule_number}
 use Rattle.block_judge.proofs.Exits.{same_rule, same_read, as_step, no_error, no_rule, no_read}
 use Rattle.block_judge.proofs.SightLemmas.{breaks-header, breaks-body, leaves-family, body-asks, body-rule}
 use Rattle.block_judge.proofs.at_sight.judge_at_sight.Goals as goal

@@ -1,7 +1,7 @@
 use Rattle.std.proofs.Common.{◌≡◌, Some, refl, sym, ap, ◌∙◌, arith}
 use Rattle.chain_defs.specs.Branch.{branch}
-use Rattle.family_defs.specs.Rules.{no_cell}
-use Rattle.rule_names.specs.Number.{rule_number}
+use Rattle.rule_defs.specs.FamilyRules.{no_cell}
+use Rattle.rule_defs.specs.RuleNumber.{rule_number}
 use Rattle.block_judge.proofs.Exits.{same_rule, same_read, no_error, no_rule, no_read}
 use Rattle.block_judge.proofs.SightLemmas.{breaks-15, breaks-16, breaks-17, keeps-family, has-first}
 use Rattle.block_judge.proofs.at_sight.judge_family.Goals as goal

@@ -1,6 +1,6 @@
 use Rattle.std.proofs.Common.{ℕ, ap, ◌∙◌, arith}
-use Rattle.codec_defs.specs.Schema.{Header}
-use Rattle.family_defs.specs.Cellbase.{is_well_formed_cellbase}
+use Rattle.chain_defs.specs.Schema.{Header}
+use Rattle.rule_defs.specs.Cellbase.{is_well_formed_cellbase}
 use Rattle.block_judge.proofs.CellbaseLemmas.{no-first, first-formed}
 use Rattle.block_judge.proofs.cellbase.forms_cellbase.Goals as goal
 

@@ -3,7 +3,7 @@ use Rattle.std.specs.Prelude.{not, IfOk}
 use Rattle.std.specs.List.{list_any}
 use Rattle.std.proofs.lemmas.Bool.{and_left, and_right, and_from}
 use Rattle.chain_defs.specs.Hashes.{are_distinct}
-use Rattle.family_defs.specs.Cellbase.{is_cellbase}
+use Rattle.rule_defs.specs.Cellbase.{is_cellbase}
 use Rattle.block_judge.proofs.CellbaseLemmas.{begins, begins-not, no-cellbase, one-cellbase}
 use Rattle.block_judge.proofs.cellbase.has_cellbase.Goals as goal
 use Rattle.block_judge.proofs.cellbase.has_cellbase.Goals.{then-not-is_cellbase-via-then-not-is_cellbase, then-not-is_cellbase-via-else-not-is_cellbase+then-has_later_cellbase}

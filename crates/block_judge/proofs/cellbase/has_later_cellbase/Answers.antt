@@ -1,5 +1,5 @@
 use Rattle.std.proofs.Common.{sym, ◌∙◌}
-use Rattle.family_defs.specs.Cellbase.{is_cellbase}
+use Rattle.rule_defs.specs.Cellbase.{is_cellbase}
 use Rattle.block_judge.proofs.CellbaseLemmas.{any-here, any-after_cellbase}
 use Rattle.block_judge.proofs.cellbase.has_later_cellbase.Goals as goal
 

@@ -1,6 +1,6 @@
 use Rattle.std.proofs.Common.{◌≡◌, drop}
 use Rattle.std.specs.List.{list_any}
-use Rattle.family_defs.specs.Cellbase.{is_cellbase}
+use Rattle.rule_defs.specs.Cellbase.{is_cellbase}
 use Rattle.block_judge.proofs.cellbase.has_later_cellbase.Given as goal
 
 abbrev pub invariant-later : goal.invariant-later

@@ -1,5 +1,5 @@
 use Rattle.std.proofs.Common.{sym, ◌∙◌}
-use Rattle.fold_defs.proofs.WalkLemmas.{every-fails, every-goes-on}
+use Rattle.chain_defs.proofs.WalkLemmas.{every-fails, every-goes-on}
 use Rattle.block_judge.proofs.CellbaseLemmas.{is_empty}
 use Rattle.block_judge.proofs.cellbase.has_no_data.Goals as goal
 

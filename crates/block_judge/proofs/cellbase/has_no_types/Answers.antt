@@ -1,6 +1,6 @@
 use Rattle.std.proofs.Common.{sym, ap, ◌∙◌}
 use Rattle.std.specs.Prelude.{is_some, not}
-use Rattle.fold_defs.proofs.WalkLemmas.{every-fails, every-goes-on}
+use Rattle.chain_defs.proofs.WalkLemmas.{every-fails, every-goes-on}
 use Rattle.block_judge.proofs.CellbaseLemmas.{is_untyped}
 use Rattle.block_judge.proofs.cellbase.has_no_types.Goals as goal
 

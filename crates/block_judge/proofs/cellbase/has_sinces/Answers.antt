@@ -1,7 +1,7 @@
 use Rattle.std.proofs.Common.{sym, ◌∙◌}
 use Rattle.std.proofs.lemmas.Bool.{ne_eqb, eq-eqb}
-use Rattle.fold_defs.proofs.WalkLemmas.{every-fails, every-goes-on}
-use Rattle.family_defs.specs.Cellbase.{has_since}
+use Rattle.chain_defs.proofs.WalkLemmas.{every-fails, every-goes-on}
+use Rattle.rule_defs.specs.Cellbase.{has_since}
 use Rattle.block_judge.proofs.cellbase.has_sinces.Goals as goal
 
 pub returns-then-since-number : goal.returns-then-since-number

@@ -1,6 +1,6 @@
 use Rattle.std.proofs.Common.{◌≡◌, drop}
 use Rattle.std.specs.List.{list_all}
-use Rattle.family_defs.specs.Cellbase.{has_since}
+use Rattle.rule_defs.specs.Cellbase.{has_since}
 use Rattle.block_judge.proofs.cellbase.has_sinces.Given as goal
 
 abbrev pub invariant-inputs : goal.invariant-inputs

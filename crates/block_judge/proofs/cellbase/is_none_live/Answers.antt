@@ -1,6 +1,6 @@
 use Rattle.std.proofs.Common.{sym, ap, ◌∙◌}
 use Rattle.std.specs.Prelude.{is_some}
-use Rattle.fold_defs.proofs.WalkLemmas.{any-found, any-goes-on}
+use Rattle.chain_defs.proofs.WalkLemmas.{any-found, any-goes-on}
 use Rattle.block_judge.proofs.cellbase.is_none_live.Goals as goal
 
 pub returns-then-is_some : goal.returns-then-is_some

@@ -1,11 +1,11 @@
 use Rattle.std.proofs.Common.{◌≡◌, ◌<◌, Bool, List, ℕ, Some, None, sym, ap, ◌∙◌, subst}
 use Rattle.std.specs.Prelude.{IsTrue}
 use Rattle.std.specs.Str.{bytes_eq}
-use Rattle.codec_defs.specs.Schema.{Header}
-use Rattle.time_defs.specs.Dao.{DaoField, next_field, field_bytes}
-use Rattle.time_defs.proofs.RatedLemmas.{rated-parts}
+use Rattle.chain_defs.specs.Schema.{Header}
+use Rattle.chain_defs.specs.Dao.{DaoField, next_field, field_bytes}
+use Rattle.chain_defs.proofs.RatedLemmas.{rated-parts}
 use Rattle.chain_defs.specs.Branch.{branch}
-use Rattle.reward_defs.proofs.DaoLaws.{rated-next}
+use Rattle.rule_defs.proofs.DaoLaws.{rated-next}
 use Rattle.tx_rules.proofs.BranchLemmas.{branch-long}
 use Rattle.block_judge.proofs.EndingLemmas.{next-there}
 use Rattle.block_judge.proofs.ending.has_next_dao.Goals as goal

@@ -2,11 +2,11 @@ use Rattle.std.proofs.Common.{◌≡◌, ◌+◌, drop, length, sym, ap, ◌∙�
 use Rattle.std.specs.Prelude.{slice_get}
 use Rattle.std.specs.List.{enumerate_from}
 use Rattle.std.proofs.lemmas.List.{drop_all}
-use Rattle.codec_defs.specs.Schema.{RawTransaction}
+use Rattle.chain_defs.specs.Schema.{RawTransaction}
 use Rattle.cell_defs.specs.Cell.{occupied_by}
-use Rattle.fold_defs.proofs.WalkLemmas.{enumerated-there}
+use Rattle.chain_defs.proofs.WalkLemmas.{enumerated-there}
 use Rattle.tx_rules.proofs.MoneyLemmas.{sum-more, sum-end}
-use Rattle.reward_defs.specs.Field.{occupied_output, made_by}
+use Rattle.rule_defs.specs.Field.{occupied_output, made_by}
 use Rattle.block_judge.proofs.ending.made_by.Goals as goal
 
 pub outputs-init : goal.outputs-init

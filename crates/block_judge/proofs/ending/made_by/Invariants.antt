@@ -1,7 +1,7 @@
 use Rattle.std.proofs.Common.{◌≡◌, ◌+◌, ◌*◌, ◌≤◌, ◌^◌, ◌-◌, drop}
 use Rattle.std.specs.Prelude.{sum_by}
 use Rattle.std.specs.List.{enumerate_from}
-use Rattle.reward_defs.specs.Field.{occupied_output, made_by}
+use Rattle.rule_defs.specs.Field.{occupied_output, made_by}
 use Rattle.block_judge.proofs.ending.made_by.Given as goal
 
 -- with what is left it is all that the outputs occupy

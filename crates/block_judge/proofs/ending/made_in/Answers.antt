@@ -1,9 +1,9 @@
 use Rattle.std.proofs.Common.{◌+◌, drop, ap, arith}
 use Rattle.std.proofs.lemmas.List.{drop_all}
 use Rattle.std.specs.Prelude.{sum_by}
-use Rattle.fold_defs.proofs.WalkLemmas.{drop-there}
+use Rattle.chain_defs.proofs.WalkLemmas.{drop-there}
 use Rattle.tx_rules.proofs.MoneyLemmas.{sum-more, sum-end}
-use Rattle.reward_defs.specs.Field.{made_by}
+use Rattle.rule_defs.specs.Field.{made_by}
 use Rattle.block_judge.proofs.ending.made_in.Goals as goal
 
 pub transactions-preserved : goal.transactions-preserved

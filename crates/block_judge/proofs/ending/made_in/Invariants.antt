@@ -1,6 +1,6 @@
 use Rattle.std.proofs.Common.{◌≡◌, ◌+◌, ◌*◌, ◌≤◌, ◌^◌, ◌-◌, drop}
 use Rattle.std.specs.Prelude.{sum_by}
-use Rattle.reward_defs.specs.Field.{made_by}
+use Rattle.rule_defs.specs.Field.{made_by}
 use Rattle.block_judge.proofs.ending.made_in.Given as goal
 
 -- with what is left it is all that the transactions make

@@ -1,8 +1,8 @@
 use Rattle.std.proofs.Common.{ap, ◌∙◌, rules}
 use Rattle.std.specs.Int.{w128}
 use Rattle.std.proofs.lemmas.Int.{to_z-of_z}
-use Rattle.time_defs.specs.Specification.{Specification}
-use Rattle.reward_defs.specs.Shares.{primary_at, secondary_at}
+use Rattle.chain_defs.specs.Specification.{Specification}
+use Rattle.rule_defs.specs.Shares.{primary_at, secondary_at}
 use Rattle.block_judge.proofs.EndingLemmas.{movement-same}
 use Rattle.block_judge.proofs.ending.movement_of.Goals as goal
 

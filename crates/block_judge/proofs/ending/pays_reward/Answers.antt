@@ -1,11 +1,11 @@
 use Rattle.std.proofs.Common.{◌≡◌, ℕ, ◌+◌, ◌-◌, ◌<◌, length, sym, ap, ◌∙◌, arith}
 use Rattle.std.specs.Prelude.{◌==◌}
-use Rattle.codec_defs.specs.Schema.{RawTransaction}
-use Rattle.time_defs.specs.Specification.{Specification}
+use Rattle.chain_defs.specs.Schema.{RawTransaction}
+use Rattle.chain_defs.specs.Specification.{Specification}
 use Rattle.chain_defs.specs.Kept.{block_at}
 use Rattle.chain_defs.specs.Branch.{branch}
 use Rattle.chain_tree.specs.Told.{blocks_of}
-use Rattle.reward_defs.specs.Payment.{owed_to, lock_of, are_owed}
+use Rattle.rule_defs.specs.Payment.{owed_to, lock_of, are_owed}
 use Rattle.chain_tree.proofs.ReadLemmas.{unread, read_on}
 use Rattle.tx_rules.proofs.BranchLemmas.{branch-long}
 use Rattle.block_judge.proofs.EndingLemmas.{if-ok, block-up, pays-early, pays-found, pays-none}

@@ -1,12 +1,12 @@
 use Rattle.std.proofs.Common.{◌≤◌, Some, None, refl, ap, ◌∙◌, subst}
-use Rattle.time_defs.specs.Specification.{Specification}
+use Rattle.chain_defs.specs.Specification.{Specification}
 use Rattle.chain_defs.specs.Branch.{branch}
 use Rattle.chain_tree.specs.Told.{blocks_of}
 use Rattle.tx_rules.specs.At.{AtValue}
-use Rattle.script_defs.specs.Rules.{cycles_of}
-use Rattle.script_defs.specs.Scene.{scene_of}
-use Rattle.tx_defs.specs.Site.{site_after}
-use Rattle.rule_names.specs.Number.{rule_number}
+use Rattle.verdict_defs.specs.ScriptRules.{cycles_of}
+use Rattle.verdict_defs.specs.Scene.{scene_of}
+use Rattle.rule_defs.specs.Site.{site_after}
+use Rattle.rule_defs.specs.RuleNumber.{rule_number}
 use Rattle.block_judge.proofs.Exits.{as_step, no_error}
 use Rattle.block_judge.proofs.SiteLemmas.{site-alone}
 use Rattle.block_judge.proofs.NextLemmas.{alone-judged}

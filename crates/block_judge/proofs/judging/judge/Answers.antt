@@ -1,5 +1,5 @@
 use Rattle.std.proofs.Common.{◌≡◌, refl, inl, ap, sym, ◌∙◌, Some, Err, arith}
-use Rattle.rule_names.specs.Number.{rule_number}
+use Rattle.rule_defs.specs.RuleNumber.{rule_number}
 use Rattle.chain_defs.specs.Branch.{branch}
 use Rattle.cell_defs.specs.Events.{live_cell}
 use Rattle.chain_tree.specs.Told.{blocks_of}

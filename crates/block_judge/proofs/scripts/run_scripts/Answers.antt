@@ -1,7 +1,7 @@
 use Rattle.std.proofs.Common.{Err, ap, subst}
 use Rattle.outside.specs.declared.disk.ReadStop.TheVariants.{Damaged}
 use Rattle.tx_rules.specs.At.{AtValue}
-use Rattle.script_defs.specs.Scene.{scene_of}
+use Rattle.verdict_defs.specs.Scene.{scene_of}
 use Rattle.block_judge.specs.Stops.{AnswersRunning}
 use Rattle.block_judge.proofs.Exits.{same_stop, no_error, read_as, running-stop}
 use Rattle.block_judge.proofs.SceneLemmas.{scene-told}

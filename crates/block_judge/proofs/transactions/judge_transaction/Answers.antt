@@ -1,14 +1,14 @@
 use Rattle.std.proofs.Common.{◌<◌, ◌^◌, ℤ, nat_abs, inr, Err, sym, ap, ◌∙◌, subst, arith}
 use Rattle.std.specs.List.{sum_by}
-use Rattle.fold_defs.specs.First.{first_failing}
+use Rattle.chain_defs.specs.First.{first_failing}
 use Rattle.outside.specs.declared.disk.ReadStop.TheVariants.{Damaged}
-use Rattle.codec_defs.specs.Schema.{Transaction}
+use Rattle.chain_defs.specs.Schema.{Transaction}
 use Rattle.chain_tree.specs.Told.{blocks_of}
 use Rattle.tx_rules.specs.At.{spends_rows}
 use Rattle.tx_rules.specs.declared.resolving.TxOk.{TxOk}
-use Rattle.tx_defs.specs.Rules.{has_form}
-use Rattle.script_defs.specs.Scene.{scene_of}
-use Rattle.script_defs.specs.Rules.{script_rules, cycles_of}
+use Rattle.rule_defs.specs.TransactionRules.{has_form}
+use Rattle.verdict_defs.specs.Scene.{scene_of}
+use Rattle.verdict_defs.specs.ScriptRules.{script_rules, cycles_of}
 use Rattle.block_judge.specs.ByRows.{StopsByRows}
 use Rattle.chain_tree.proofs.ReadLemmas.{read_on}
 use Rattle.block_judge.proofs.Exits.{same_stop, as_step, no_error, read_as, resolving-stop}

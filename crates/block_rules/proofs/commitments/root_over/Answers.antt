@@ -1,7 +1,7 @@
 use Rattle.std.proofs.Common.{◌≡◌, ℕ, ◌<◌, ◌^◌, List, [], ◌∷◌, length, map, sym, ap, ap₂, ◌∙◌, subst, arith}
 use Rattle.std.specs.Prelude.{IfOk}
 use Rattle.std.proofs.lemmas.List.{length-map}
-use Rattle.hash_defs.specs.Root.{root}
+use Rattle.chain_defs.specs.Root.{root}
 use Rattle.chain_defs.specs.Hashes.{transaction_hash, witness_hash, transactions_root}
 use Rattle.block_rules.proofs.commitments.root_over.Goals as goal
 

@@ -1,6 +1,6 @@
 use Rattle.std.proofs.Common.{length, arith, rules}
-use Rattle.codec_defs.specs.Shape.{encoded}
-use Rattle.codec_defs.specs.Schema.{UncleBlock, block}
+use Rattle.chain_defs.specs.Shape.{encoded}
+use Rattle.chain_defs.specs.Schema.{UncleBlock, block}
 use Rattle.block_rules.proofs.ListLemmas.{less-more}
 use Rattle.block_rules.proofs.rules.counted_length.Goals as goal
 

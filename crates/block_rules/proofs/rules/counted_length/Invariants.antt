@@ -1,7 +1,7 @@
 use Rattle.std.proofs.Common.{◌≡◌, ◌-◌, ◌*◌, length, take}
 use Rattle.std.specs.Prelude.{sum_by}
-use Rattle.codec_defs.specs.Shape.{encoded}
-use Rattle.codec_defs.specs.Schema.{block}
+use Rattle.chain_defs.specs.Shape.{encoded}
+use Rattle.chain_defs.specs.Schema.{block}
 use Rattle.block_rules.proofs.rules.counted_length.Given as goal
 
 abbrev pub invariant-uncles : goal.invariant-uncles

@@ -1,4 +1,4 @@
-use Rattle.hash_defs.proofs.RootLaws.{node-inner, node-leaf}
+use Rattle.chain_defs.proofs.RootLaws.{node-inner, node-leaf}
 use Rattle.cbmt.proofs.laws.root_laws.Goals as goal
 
 pub returns-clause-inner : goal.returns-clause-inner

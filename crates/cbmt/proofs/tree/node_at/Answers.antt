@@ -1,5 +1,5 @@
 use Rattle.std.proofs.Common.{◌≡◌, ◌-◌, length, arith, sym}
-use Rattle.hash_defs.proofs.RootLaws.{node-leaf}
+use Rattle.chain_defs.proofs.RootLaws.{node-leaf}
 use Rattle.cbmt.proofs.tree.node_at.Goals as goal
 
 pub returns-else-j-inner : goal.returns-else-j-inner

@@ -1,9 +1,9 @@
 use Rattle.std.proofs.Common.{◌≡◌, ◌≢◌, ℕ, ◌+◌, ◌-◌, ◌*◌, ◌<◌, ◌≤◌, List, [], ◌++◌, length, slice_set, slice_index_or, inl, inr, sym, ap, ◌∙◌, arith, length-set, get_or-set_other, rules}
 use Rattle.std.proofs.lemmas.Bool.{cases_eq}
 use Rattle.std.proofs.lemmas.Grind.{get_or-set_at}
-use Rattle.hash_defs.specs.CkbHash.{ckbhash}
-use Rattle.hash_defs.specs.Root.{node}
-use Rattle.hash_defs.proofs.RootLaws.{node-inner}
+use Rattle.chain_defs.specs.CkbHash.{ckbhash}
+use Rattle.chain_defs.specs.Root.{node}
+use Rattle.chain_defs.proofs.RootLaws.{node-inner}
 use Rattle.cbmt.proofs.tree.root.Goals as goal
 
 -- with node i written, the nodes from i on are known

@@ -1,5 +1,5 @@
 use Rattle.std.proofs.Common.{◌≡◌, ℕ, ◌+◌, ◌<◌, ◌≤◌, [], length, slice_index_or}
-use Rattle.hash_defs.specs.Root.{node}
+use Rattle.chain_defs.specs.Root.{node}
 use Rattle.cbmt.proofs.tree.root.Given as goal
 
 -- the nodes from j on are known

@@ -1,9 +1,9 @@
 use Rattle.std.proofs.Common.{◌≡◌, Option, Some, refl, sym, ap, subst, ◌∙◌, rules}
 use Rattle.std.specs.Prelude.{IsSome}
-use Rattle.codec_defs.specs.Shape.{decoded}
-use Rattle.codec_defs.specs.Schema.{CellOutput, cell_output}
-use Rattle.codec_defs.proofs.ShapeLaws.{decoded-is}
-use Rattle.codec_defs.proofs.RowLaws.{cell_output-check}
+use Rattle.chain_defs.specs.Shape.{decoded}
+use Rattle.chain_defs.specs.Schema.{CellOutput, cell_output}
+use Rattle.chain_defs.proofs.ShapeLaws.{decoded-is}
+use Rattle.chain_defs.proofs.RowLaws.{cell_output-check}
 use Rattle.cell_model.proofs.copies.copy_of.Goals as goal
 
 pub returns-clause-copied : goal.returns-clause-copied

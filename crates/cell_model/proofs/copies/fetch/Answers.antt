@@ -1,5 +1,5 @@
 use Rattle.std.proofs.Common.{◌≡◌, Some, ap, ◌∙◌, subst, rules}
-use Rattle.codec_defs.specs.Schema.{Block}
+use Rattle.chain_defs.specs.Schema.{Block}
 use Rattle.outside.proofs.Endings.{handed, is_told, no_answer}
 use Rattle.chain_tree.proofs.ReadLemmas.{read_on}
 use Rattle.cell_model.specs.Copies.{CopiesOutput, output_in}

@@ -2,10 +2,10 @@ use Rattle.std.proofs.Common.{◌≡◌, ◌∷◌, [], ◌++◌, ◌*◌, ◌+�
 use Rattle.std.specs.List.{concat}
 use Rattle.std.proofs.lemmas.List.{length_push}
 use Rattle.std.proofs.lemmas.List.Elements.{All-same, All-push}
-use Rattle.codec_defs.specs.Schema.{OutPoint}
+use Rattle.chain_defs.specs.Schema.{OutPoint}
 use Rattle.cell_defs.specs.Row.{Row}
 use Rattle.cell_defs.specs.Ext.{row_bytes}
-use Rattle.ext_defs.specs.Fits.{FitsRow}
+use Rattle.cell_defs.specs.Fits.{FitsRow}
 use Rattle.cell_model.proofs.ExtLemmas.{one_read_more, one_row_more, no_row}
 use Rattle.cell_model.proofs.ext.read_rows.Goals as goal
 

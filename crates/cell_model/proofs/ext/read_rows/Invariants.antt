@@ -1,7 +1,7 @@
 use Rattle.std.proofs.Common.{◌≡◌, ◌-◌, ◌*◌, length, map, take, drop}
 use Rattle.std.specs.List.{All, concat}
 use Rattle.cell_defs.specs.Ext.{row_bytes, are_rows}
-use Rattle.ext_defs.specs.Fits.{FitsRow}
+use Rattle.cell_defs.specs.Fits.{FitsRow}
 use Rattle.cell_model.proofs.ext.read_rows.Given as goal
 
 abbrev pub invariant-rows : goal.invariant-rows

@@ -1,8 +1,8 @@
 use Rattle.std.proofs.Common.{◌≡◌, ◌++◌, ◌∷◌, [], List, Vec, ℕ, Global, Some, sym, ap, ◌∙◌}
 use Rattle.std.proofs.lemmas.List.{map_push}
-use Rattle.codec_defs.specs.Shape.{decoded}
-use Rattle.codec_defs.specs.Schema.{block}
-use Rattle.codec_defs.proofs.ShapeLaws.{IsA-decoded}
+use Rattle.chain_defs.specs.Shape.{decoded}
+use Rattle.chain_defs.specs.Schema.{block}
+use Rattle.chain_defs.proofs.ShapeLaws.{IsA-decoded}
 use Rattle.cell_model.specs.ListBlocks.{ids_of, id_lists}
 use Rattle.cell_model.proofs.ListLemmas.{decoded_in, one_image_more, all_images}
 use Rattle.cell_model.proofs.list_blocks.proposal_ids_of_all.Goals as goal

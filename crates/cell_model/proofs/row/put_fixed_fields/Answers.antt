@@ -1,6 +1,6 @@
 use Rattle.std.proofs.Common.{◌≡◌, ◌++◌, length, ap, ◌∙◌, rules}
 use Rattle.std.specs.Int.{w32, w64, to_le_bytes}
-use Rattle.codec_defs.specs.Schema.{OutPoint}
+use Rattle.chain_defs.specs.Schema.{OutPoint}
 use Rattle.cell_defs.specs.Row.{Row}
 use Rattle.cell_model.proofs.RowLemmas.{put_more}
 use Rattle.cell_model.proofs.row.put_fixed_fields.Goals as goal

@@ -3,7 +3,7 @@ use Rattle.std.specs.Option.{option_map}
 use Rattle.std.proofs.lemmas.Option.{slice_get_past}
 use Rattle.cell_defs.specs.Events.{Makes, Spends}
 use Rattle.chain_defs.specs.Hashes.{transaction_hash}
-use Rattle.codec_defs.specs.Schema.{OutPoint, RawTransaction}
+use Rattle.chain_defs.specs.Schema.{OutPoint, RawTransaction}
 use Rattle.cell_state.specs.Walk.{height_of, spends_at}
 use Rattle.cell_state.proofs.EventLemmas.{make, event-spent, spend-at, event-made}
 use Rattle.cell_state.proofs.events.event_at.Goals as goal

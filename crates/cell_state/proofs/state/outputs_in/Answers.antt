@@ -1,7 +1,7 @@
 use Rattle.std.proofs.Common.{◌≡◌, length, ap, ◌∙◌, arith}
 use Rattle.std.proofs.lemmas.List.Sums.{sum_by_more}
 use Rattle.std.proofs.lemmas.Option.{slice_get_within, get_or_from_slice_get}
-use Rattle.codec_defs.specs.Schema.{RawTransaction, Transaction}
+use Rattle.chain_defs.specs.Schema.{RawTransaction, Transaction}
 use Rattle.cell_state.proofs.state.outputs_in.Goals as goal
 
 pub loop-place-preserved : goal.loop-place-preserved

@@ -1,7 +1,7 @@
 use Rattle.std.proofs.Common.{◌≡◌, ℕ, ◌+◌, ◌-◌, List, [], ◌∷◌, ◌++◌, map, Vec, Global, ap, sym, subst, ◌∙◌, arith}
 use Rattle.std.proofs.lemmas.List.{map-append}
-use Rattle.codec_defs.specs.Shape.{encoded}
-use Rattle.codec_defs.specs.Schema as schema
+use Rattle.chain_defs.specs.Shape.{encoded}
+use Rattle.chain_defs.specs.Schema as schema
 use Rattle.gen_defs.specs.Chain.{blocks_made}
 use Rattle.chain_gen.specs.Walk.{IsAt}
 use Rattle.chain_gen.proofs.Contents.{no_blocks, one_block_more}

@@ -1,6 +1,6 @@
 use Rattle.std.proofs.Common.{◌≡◌, map}
-use Rattle.codec_defs.specs.Shape.{encoded}
-use Rattle.codec_defs.specs.Schema as schema
+use Rattle.chain_defs.specs.Shape.{encoded}
+use Rattle.chain_defs.specs.Schema as schema
 use Rattle.gen_defs.specs.Chain as chain
 use Rattle.chain_gen.specs.Walk as walks
 use Rattle.chain_gen.proofs.growth.blocks_after.Given as goal

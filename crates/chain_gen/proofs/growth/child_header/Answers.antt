@@ -1,7 +1,7 @@
 use Rattle.std.proofs.Common.{ℕ, ◌+◌, ap, ◌∙◌}
-use Rattle.time_defs.specs.Specification.{Specification}
-use Rattle.time_defs.specs.Epochs.{epoch_field}
-use Rattle.time_defs.specs.Dao.{field_bytes}
+use Rattle.chain_defs.specs.Specification.{Specification}
+use Rattle.chain_defs.specs.Epochs.{epoch_field}
+use Rattle.chain_defs.specs.Dao.{field_bytes}
 use Rattle.gen_defs.specs.Start.{specification}
 use Rattle.chain_gen.specs.declared.heights.After.{After}
 use Rattle.chain_gen.proofs.Children.{epoch_is, child_header_is}

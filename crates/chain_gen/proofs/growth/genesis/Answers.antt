@@ -1,5 +1,5 @@
 use Rattle.std.proofs.Common.{List, ℕ, [], ◌∷◌, ap, ◌∙◌}
-use Rattle.codec_defs.specs.Molecule as molecule
+use Rattle.chain_defs.specs.Molecule as molecule
 use Rattle.gen_defs.specs.Start as start
 use Rattle.chain_gen.proofs.Contents.{genesis_parts_are}
 use Rattle.chain_gen.proofs.growth.genesis.Goals as goal

@@ -1,7 +1,7 @@
 use Rattle.std.proofs.Common.{refl, ap, ◌∙◌}
 use Rattle.std.specs.Int.{w32, w128, to_le_bytes}
-use Rattle.codec_defs.specs.Schema.{header}
-use Rattle.time_defs.specs.Specification.{Specification}
+use Rattle.chain_defs.specs.Schema.{header}
+use Rattle.chain_defs.specs.Specification.{Specification}
 use Rattle.chain_gen.proofs.Headers.{no_fields, one_more, no_uncles}
 use Rattle.chain_gen.proofs.growth.header_row.Goals as goal
 

@@ -1,5 +1,5 @@
 use Rattle.std.proofs.Common.{◌≡◌, ℕ, List, [], ◌∷◌, ◌++◌, false, ap, sym, subst, ◌∙◌}
-use Rattle.time_defs.specs.Dao.{DaoField}
+use Rattle.chain_defs.specs.Dao.{DaoField}
 use Rattle.chain_gen.specs.declared.heights.After.{After}
 use Rattle.chain_gen.specs.declared.growth.Head.{Head}
 use Rattle.chain_gen.specs.Content.{after_height}

@@ -1,6 +1,6 @@
 use Rattle.std.proofs.Common.{◌≡◌, ◌≤◌, ℕ, suc, ◌-◌, map, ap, sym, subst, ◌∙◌, arith}
-use Rattle.codec_defs.specs.Shape.{encoded}
-use Rattle.codec_defs.specs.Schema as schema
+use Rattle.chain_defs.specs.Shape.{encoded}
+use Rattle.chain_defs.specs.Schema as schema
 use Rattle.chain_defs.specs.Hashes.{transaction_hash, witness_hash, proposals_hash}
 use Rattle.gen_defs.specs.Start.{coin_capacity}
 use Rattle.gen_defs.specs.Heights.{Coin, commits, transfer}

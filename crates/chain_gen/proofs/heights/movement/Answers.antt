@@ -1,6 +1,6 @@
 use Rattle.std.proofs.Common.{ap, ◌∙◌}
-use Rattle.time_defs.specs.Specification.{Specification}
-use Rattle.reward_defs.specs.Shares.{primary_at, secondary_at}
+use Rattle.chain_defs.specs.Specification.{Specification}
+use Rattle.rule_defs.specs.Shares.{primary_at, secondary_at}
 use Rattle.gen_defs.specs.Heights.{count_if}
 use Rattle.chain_gen.proofs.Numbers.{counted, movement_is}
 use Rattle.chain_gen.proofs.heights.movement.Goals as goal

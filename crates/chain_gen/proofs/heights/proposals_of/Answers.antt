@@ -1,5 +1,5 @@
 use Rattle.std.proofs.Common.{ℕ, List, Option, ap, sym, ◌∙◌}
-use Rattle.codec_defs.specs.Molecule as molecule
+use Rattle.chain_defs.specs.Molecule as molecule
 use Rattle.chain_gen.specs.Content.{listed}
 use Rattle.chain_gen.proofs.Parts.{no_items}
 use Rattle.chain_gen.proofs.heights.proposals_of.Goals as goal

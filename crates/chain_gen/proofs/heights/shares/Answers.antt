@@ -1,7 +1,7 @@
 use Rattle.std.proofs.Common.{◌<◌, ◌+◌, ◌^◌, ap, ◌∙◌, arith}
-use Rattle.time_defs.specs.Specification.{Specification}
-use Rattle.time_defs.specs.Dao.{miner_part}
-use Rattle.reward_defs.specs.Shares.{primary_at, secondary_at}
+use Rattle.chain_defs.specs.Specification.{Specification}
+use Rattle.chain_defs.specs.Dao.{miner_part}
+use Rattle.rule_defs.specs.Shares.{primary_at, secondary_at}
 use Rattle.chain_gen.proofs.Rewards.{issued_below}
 use Rattle.chain_gen.proofs.heights.shares.Goals as goal
 

@@ -1,7 +1,7 @@
 use Rattle.std.proofs.Common.{◌≡◌, ℕ, List, [], ◌∷◌, IfOk, ap, subst, ◌∙◌}
-use Rattle.codec_defs.specs.Shape.{encoded}
-use Rattle.codec_defs.specs.Schema as schema
-use Rattle.time_defs.specs.Dao.{field_bytes}
+use Rattle.chain_defs.specs.Shape.{encoded}
+use Rattle.chain_defs.specs.Schema as schema
+use Rattle.chain_defs.specs.Dao.{field_bytes}
 use Rattle.gen_defs.specs.Start as start
 use Rattle.chain_gen.proofs.Headers.{root_of_both, genesis_header_is}
 use Rattle.chain_gen.proofs.start.genesis_header.Goals as goal

@@ -1,6 +1,6 @@
 use Rattle.std.proofs.Common.{ap, ◌∙◌}
-use Rattle.codec_defs.specs.Molecule as molecule
-use Rattle.codec_defs.specs.Shape.{encoded, bytes}
+use Rattle.chain_defs.specs.Molecule as molecule
+use Rattle.chain_defs.specs.Shape.{encoded, bytes}
 use Rattle.gen_defs.specs.Start as start
 use Rattle.chain_gen.proofs.Parts.{no_items, one_of, null_row}
 use Rattle.chain_gen.proofs.Beginning.{two_of, genesis_lists, genesis_version, genesis_parts}

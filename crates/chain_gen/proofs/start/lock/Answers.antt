@@ -1,6 +1,6 @@
 use Rattle.std.proofs.Common.{◌≡◌, List, [], ℕ, IfOk, ap, subst, ◌∙◌}
-use Rattle.codec_defs.specs.Shape.{encoded}
-use Rattle.codec_defs.specs.Schema as schema
+use Rattle.chain_defs.specs.Shape.{encoded}
+use Rattle.chain_defs.specs.Schema as schema
 use Rattle.chain_gen.proofs.Beginning.{lock_is}
 use Rattle.chain_gen.proofs.start.lock.Goals as goal
 

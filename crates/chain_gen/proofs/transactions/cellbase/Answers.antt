@@ -1,7 +1,7 @@
 use Rattle.std.proofs.Common.{ℕ, List, [], map, ap, ◌∙◌}
-use Rattle.codec_defs.specs.Molecule as molecule
-use Rattle.codec_defs.specs.Shape.{encoded, bytes, dynvec}
-use Rattle.codec_defs.specs.Schema as schema
+use Rattle.chain_defs.specs.Molecule as molecule
+use Rattle.chain_defs.specs.Shape.{encoded, bytes, dynvec}
+use Rattle.chain_defs.specs.Schema as schema
 use Rattle.gen_defs.specs.Start as start
 use Rattle.gen_defs.specs.Heights as heights
 use Rattle.chain_gen.proofs.Parts.{one_of, null_row, cellbase_lists, cellbase_version, cellbase_parts}

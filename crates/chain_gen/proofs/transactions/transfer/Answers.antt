@@ -1,7 +1,7 @@
 use Rattle.std.proofs.Common.{ℕ, List, ap, ◌∙◌}
-use Rattle.codec_defs.specs.Molecule as molecule
-use Rattle.codec_defs.specs.Shape.{encoded}
-use Rattle.codec_defs.specs.Schema as schema
+use Rattle.chain_defs.specs.Molecule as molecule
+use Rattle.chain_defs.specs.Shape.{encoded}
+use Rattle.chain_defs.specs.Schema as schema
 use Rattle.gen_defs.specs.Start as start
 use Rattle.gen_defs.specs.Heights as heights
 use Rattle.chain_gen.proofs.Parts.{one_of, transfer_lists, transfer_parts, transfer_version}

@@ -1,5 +1,5 @@
 use Rattle.std.proofs.Common.{◌∙◌, ap, arith}
-use Rattle.hash_defs.specs.CkbHash.{ckbhash}
+use Rattle.chain_defs.specs.CkbHash.{ckbhash}
 use Rattle.chain_gen.proofs.Parts.{tx_by_parts}
 use Rattle.chain_gen.proofs.transactions.tx_of.Goals as goal
 

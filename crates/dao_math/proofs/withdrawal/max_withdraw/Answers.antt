@@ -1,6 +1,6 @@
 use Rattle.std.proofs.Common.{arith, rules}
 use Rattle.std.proofs.lemmas.Grind.{common_steps}
-use Rattle.time_defs.proofs.Withdrawals.{counted-capacity-kept}
+use Rattle.chain_defs.proofs.Withdrawals.{counted-capacity-kept}
 use Rattle.dao_math.proofs.withdrawal.max_withdraw.Goals as goal
 
 pub returns-clause-kept : goal.returns-clause-kept

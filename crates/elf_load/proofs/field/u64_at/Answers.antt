@@ -1,6 +1,6 @@
 use Rattle.std.proofs.Common.{◌∙◌}
-use Rattle.vm_defs.specs.Elf.{field}
-use Rattle.vm_defs.proofs.Numbers.{number-8}
+use Rattle.machine_defs.specs.Elf.{field}
+use Rattle.machine_defs.proofs.Numbers.{number-8}
 use Rattle.elf_load.proofs.field.u64_at.Goals as goal
 
 pub returns : goal.returns

@@ -1,5 +1,5 @@
-use Rattle.vm_defs.specs.Elf.{field}
-use Rattle.vm_defs.proofs.Numbers.{number-1}
+use Rattle.machine_defs.specs.Elf.{field}
+use Rattle.machine_defs.proofs.Numbers.{number-1}
 use Rattle.elf_load.proofs.field.u8_at.Goals as goal
 
 pub returns : goal.returns

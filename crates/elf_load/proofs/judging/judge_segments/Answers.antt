@@ -1,6 +1,6 @@
 use Rattle.std.proofs.Common.{◌≡◌, ◌+◌, ◌-◌, ◌*◌, ◌<◌, ℕ, List, sym, ◌∙◌, ap, subst, arith}
 use Rattle.std.proofs.lemmas.Result.{err_from_is_err_and}
-use Rattle.vm_defs.specs.Elf.{e_phnum, e_phoff, has_table, program_header_size}
+use Rattle.machine_defs.specs.Elf.{e_phnum, e_phoff, has_table, program_header_size}
 use Rattle.elf_load.specs.Judging.{loaded_at}
 use Rattle.elf_load.proofs.Segments.{Judging, judging-all, judging-more, judging-none, judging-refused, rest-all, rest-at, rest-step, size-bound, sound-header}
 use Rattle.elf_load.proofs.judging.judge_segments.Goals as goal

@@ -1,5 +1,5 @@
 use Rattle.std.proofs.Common.{◌+◌, ◌-◌, ◌*◌, ◌≤◌}
-use Rattle.vm_defs.specs.Elf.{e_phnum, e_phoff, program_header_size, segments_from}
+use Rattle.machine_defs.specs.Elf.{e_phnum, e_phoff, program_header_size, segments_from}
 use Rattle.elf_load.proofs.Segments.{Judging}
 use Rattle.elf_load.proofs.judging.judge_segments.Given as goal
 

@@ -1,5 +1,5 @@
 use Rattle.std.proofs.Common.{◌*◌, ◌∙◌, sym, refl}
-use Rattle.vm_defs.specs.Memory.{page_size}
+use Rattle.machine_defs.specs.Memory.{page_size}
 use Rattle.elf_load.proofs.InMemory.{done-ok, set_code-ok, unrefused}
 use Rattle.elf_load.proofs.placing.make_code.Goals as goal
 

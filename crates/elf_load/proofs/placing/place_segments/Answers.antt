@@ -1,6 +1,6 @@
 use Rattle.std.proofs.Common.{◌≡◌, ◌+◌, ◌-◌, ◌*◌, ◌<◌, ℕ, List, ◌∷◌, None, sym, ◌∙◌, ap, subst, arith}
 use Rattle.elf_load.proofs.placing.place_segments.Goals.{in-Some+in-Ok, in_default}
-use Rattle.vm_defs.specs.Elf.{Segment, broken_segment, e_phnum, e_phoff, has_table, program_header_size, segments_from}
+use Rattle.machine_defs.specs.Elf.{Segment, broken_segment, e_phnum, e_phoff, has_table, program_header_size, segments_from}
 use Rattle.elf_load.specs.Judging.{loaded_at}
 use Rattle.elf_load.proofs.Segments.{Placing, no_code-at, placing-more, placing-none, placing-some, placing-sound, rest-all, rest-at, rest-step, sound-header, sound-of_none, sound-parts}
 use Rattle.elf_load.proofs.Allocating.{Allocating, allocating-all, allocating-more}

@@ -1,5 +1,5 @@
 use Rattle.std.proofs.Common.{◌+◌, ◌-◌, ◌*◌}
-use Rattle.vm_defs.specs.Elf.{e_phnum, e_phoff, program_header_size, segments_from}
+use Rattle.machine_defs.specs.Elf.{e_phnum, e_phoff, program_header_size, segments_from}
 use Rattle.elf_load.specs.Loads.{AllAllocated}
 use Rattle.elf_load.proofs.Segments.{Placing}
 use Rattle.elf_load.proofs.Allocating.{Allocating}

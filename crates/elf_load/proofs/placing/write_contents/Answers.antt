@@ -1,5 +1,5 @@
 use Rattle.std.proofs.Common.{◌-◌, ◌∙◌, ℕ, length, Err, ap}
-use Rattle.vm_defs.specs.Memory.{store}
+use Rattle.machine_defs.specs.Memory.{store}
 use Rattle.elf_load.proofs.Allocating.{allocates-one}
 use Rattle.elf_load.proofs.InMemory.{length-inside, bytes-made, bytes-stored, contents-stored, done-ok, stored-unrefused, unrefused}
 use Rattle.elf_load.proofs.placing.write_contents.Goals as goal

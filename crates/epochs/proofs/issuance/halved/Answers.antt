@@ -1,4 +1,4 @@
-use Rattle.time_defs.proofs.Numbers.{halved-away}
+use Rattle.chain_defs.proofs.TimeNumbers.{halved-away}
 use Rattle.std.proofs.Common.{sym}
 use Rattle.epochs.proofs.issuance.halved.Goals as goal
 

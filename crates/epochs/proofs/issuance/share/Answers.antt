@@ -1,6 +1,6 @@
 use Rattle.std.proofs.Common.{rules}
-use Rattle.time_defs.proofs.EpochLength.{keeps_s2-some}
-use Rattle.time_defs.proofs.Shares.{shares-sum}
+use Rattle.chain_defs.proofs.EpochLength.{keeps_s2-some}
+use Rattle.chain_defs.proofs.Shares.{shares-sum}
 use Rattle.epochs.proofs.issuance.share.Goals as goal
 
 pub returns-then-number-blocks-clause-whole : goal.returns-then-number-blocks-clause-whole

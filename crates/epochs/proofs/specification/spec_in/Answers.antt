@@ -1,5 +1,5 @@
 use Rattle.std.proofs.Common.{rules}
-use Rattle.time_defs.specs.Specification.{specification_of}
+use Rattle.chain_defs.specs.Specification.{specification_of}
 use Rattle.epochs.proofs.specification.spec_in.Goals as goal
 
 pub returns : goal.returns

@@ -1,5 +1,5 @@
 use Rattle.std.proofs.Common.{◌∙◌, ◌^◌, ap}
-use Rattle.codec_defs.specs.Schema.{Header}
+use Rattle.chain_defs.specs.Schema.{Header}
 use Rattle.chain_defs.specs.Kept.{block_at}
 use Rattle.header_rules.proofs.HeaderLemmas.{follows-there, number-there}
 use Rattle.header_rules.proofs.rules.follows.Goals as goal

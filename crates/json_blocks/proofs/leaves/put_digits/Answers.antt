@@ -8,4 +8,4 @@ digits-preserved c =
     c.digits-test.true c.digits.invariant refl refl c.in_ok-push.ensures.items c.in_ok-push-2.ensures.items
 
 pub returns : goal.returns
-returns c = record { is = digits_end c.digits.out.items _ c.args.bytes.now c.digits.byte-index (omega (arith, c.digits-test.false)) c.digits.invariant }
+returns c = digits_end c.digits.out.items _ c.args.bytes.now c.digits.byte-index (omega (arith, c.digits-test.false)) c.digits.invariant

@@ -1,7 +1,7 @@
 use Rattle.std.proofs.Common.{◌≡◌, None, Some, refl, rules}
-use Rattle.codec_defs.specs.Shape.{decoded}
-use Rattle.codec_defs.specs.Schema as shapes
-use Rattle.genesis_defs.specs.Genesis.{broken_genesis_rule}
+use Rattle.chain_defs.specs.Shape.{decoded}
+use Rattle.chain_defs.specs.Schema as shapes
+use Rattle.rule_defs.specs.Genesis.{broken_genesis_rule}
 use Rattle.log_file.proofs.Judging.{not_genesis, genesis_first}
 use Rattle.log_file.proofs.Exits.{no_memory_is_no_fault, wrong_is_no_fault}
 use Rattle.log_file.proofs.blocks.genesis.Goals as goal

@@ -4,7 +4,7 @@ use Rattle.std.specs.Str.{bytes_eq}
 use Rattle.std.specs.HashSet.{contains}
 use Rattle.std.proofs.lemmas.Bool.{not-true, not-false, and_right}
 use Rattle.std.proofs.lemmas.Option.{slice_get-map}
-use Rattle.codec_defs.specs.Schema.{Transaction}
+use Rattle.chain_defs.specs.Schema.{Transaction}
 use Rattle.chain_defs.specs.Hashes.{transaction_hash, are_distinct}
 use Rattle.chain_defs.proofs.DistinctLemmas.{has_more, distinct_more, distinct_twice}
 use Rattle.log_file.proofs.genesis.has_transactions.Goals as goal

@@ -2,7 +2,7 @@ use Rattle.std.proofs.Common.{◌≡◌, ◌+◌, ◌-◌, ◌*◌, ◌≤◌, �
 use Rattle.std.specs.Prelude.{IfSome}
 use Rattle.outside.specs.Disk.{IsAsBefore}
 use Rattle.chain_defs.specs.Kept.{kept_limit}
-use Rattle.time_defs.specs.Specification.{Specification}
+use Rattle.chain_defs.specs.Specification.{Specification}
 use Rattle.log_file.specs.Grammar.{AreBlocks, blocks_with}
 use Rattle.log_file.specs.Opening.{HasRead}
 use Rattle.log_file.proofs.records.read_blocks.Given as goal

@@ -1,5 +1,5 @@
 use Rattle.std.proofs.Common.{ℕ, ◌+◌, length, refl, ap, ◌∙◌, subst, arith}
-use Rattle.log_defs.specs.Log.{is_genesis}
+use Rattle.disk_defs.specs.Log.{is_genesis}
 use Rattle.log_file.specs.Grammar.{record_of, blocks_with, IsGenesisOf}
 use Rattle.log_file.proofs.Pieces.{told_passed, told_other, told_missing, still_reading}
 use Rattle.log_file.proofs.Exits.{on_each, same_stop, stop_counts, answer_counts, answer_still, no_fault_behind, wrong_not_fault, no_damage, at_place}

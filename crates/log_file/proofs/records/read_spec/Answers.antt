@@ -1,5 +1,5 @@
 use Rattle.std.proofs.Common.{◌≡◌, false, length, refl, ap, ◌∙◌, arith, rules}
-use Rattle.log_defs.specs.Log.{is_specification}
+use Rattle.disk_defs.specs.Log.{is_specification}
 use Rattle.log_file.specs.Grammar.{record_of}
 use Rattle.log_file.proofs.Exits.{on_each, stop_counts, answer_counts, answer_still, no_fault_behind, wrong_not_fault, no_damage}
 use Rattle.log_file.proofs.Pieces.{told_passed, told_other, told_missing, still_reading}

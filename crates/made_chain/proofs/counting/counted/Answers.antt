@@ -2,7 +2,7 @@ use Rattle.std.proofs.Common.{◌≡◌, ℕ, length, ap, sym, ◌∙◌, subst,
 use Rattle.report_defs.specs.Simulation.{height_of}
 use Rattle.chain_defs.specs.Tip.{tip}
 use Rattle.cell_state.specs.State.{StateValue, rows}
-use Rattle.node_core.specs.Node.{AreOfTip}
+use Rattle.node_store.specs.Kept.{AreOfTip}
 use Rattle.made_chain.proofs.ImportLemmas.{cells-are, height-is}
 use Rattle.made_chain.proofs.counting.counted.Goals as goal
 

@@ -1,5 +1,5 @@
 use Rattle.std.proofs.Common.{◌≡◌, ◌≤◌, take}
-use Rattle.node_core.specs.Node.{IsItsOwn, IsSoundOn}
+use Rattle.node_store.specs.Node.{IsItsOwn, IsSoundOn}
 use Rattle.verdict_defs.specs.Chain.{verdicts_over, chain_over}
 use Rattle.made_chain.proofs.ImportLemmas.{bytes_of, count_joined}
 use Rattle.made_chain.proofs.counting.import_all.Given as goal

@@ -1,5 +1,5 @@
 use Rattle.std.proofs.Common.{length}
-use Rattle.node_core.specs.Snapshot.{snapshot_at}
+use Rattle.node_store.specs.Snapshot.{snapshot_at}
 use Rattle.made_chain.proofs.ImportLemmas.{tells_still}
 use Rattle.made_chain.proofs.counting.import_item.Goals as goal
 

@@ -1,4 +1,4 @@
-use Rattle.node_core.specs.Node.{IsOn}
+use Rattle.node_store.specs.Node.{IsOn}
 use Rattle.made_chain.proofs.ImportLemmas.{is-new, opened-chain, new-is-sound, of-told, sound_on}
 use Rattle.made_chain.proofs.counting.open_new.Goals as goal
 

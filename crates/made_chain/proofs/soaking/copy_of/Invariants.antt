@@ -1,5 +1,5 @@
 use Rattle.std.proofs.Common.{◌≡◌, take}
-use Rattle.sessions.specs.Sessions.{items_in, AreShort}
+use Rattle.made_chain.specs.Sessions.{items_in, AreShort}
 use Rattle.made_chain.proofs.soaking.copy_of.Given as goal
 
 -- the items so far are copied

@@ -4,8 +4,8 @@ use Rattle.std.specs.List.{range_with_len}
 use Rattle.std.proofs.lemmas.List.{map-append}
 use Rattle.std.proofs.lemmas.List.Elements.{All-push}
 use Rattle.std.proofs.lemmas.List.FromFn.{map-range_with_len_more}
-use Rattle.sessions.specs.declared.plan.Session.{Session}
-use Rattle.sessions.specs.Sessions.{items_in, items_of, IsShort}
+use Rattle.made_chain.specs.declared.plan.Session.{Session}
+use Rattle.made_chain.specs.Sessions.{items_in, items_of, IsShort}
 use Rattle.made_chain.specs.Soak.{Stop, stop_of, stop_at}
 use Rattle.made_chain.proofs.SoakLemmas.{replicate-push}
 use Rattle.made_chain.proofs.soaking.sessions_over.Goals as goal

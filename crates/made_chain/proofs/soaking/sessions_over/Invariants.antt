@@ -1,7 +1,7 @@
 use Rattle.std.proofs.Common.{◌≡◌, map, replicate}
 use Rattle.std.specs.Prelude.{All}
 use Rattle.std.specs.List.{range_with_len}
-use Rattle.sessions.specs.Sessions.{items_in, items_of, IsShort}
+use Rattle.made_chain.specs.Sessions.{items_in, items_of, IsShort}
 use Rattle.made_chain.specs.Soak.{stop_of, stop_at}
 use Rattle.made_chain.proofs.soaking.sessions_over.Given as goal
 

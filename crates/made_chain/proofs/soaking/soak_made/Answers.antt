@@ -1,5 +1,5 @@
 use Rattle.std.proofs.Common.{arith}
-use Rattle.sessions.specs.Sessions.{items_in}
+use Rattle.made_chain.specs.Sessions.{items_in}
 use Rattle.made_chain.proofs.SoakLemmas.{counts-generated, as-many-generated}
 use Rattle.made_chain.proofs.soaking.soak_made.Goals as goal
 

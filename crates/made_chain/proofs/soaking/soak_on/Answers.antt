@@ -1,6 +1,6 @@
 use Rattle.std.proofs.Common.{◌≡◌, ℕ, ◌+◌, ◌*◌, ◌-◌, List, Vec, Global, length, map, replicate, ap, subst, ◌∙◌, arith}
 use Rattle.verdict_defs.specs.Chain.{chain_of_genesis}
-use Rattle.sessions.specs.Sessions.{items_in, items_of}
+use Rattle.made_chain.specs.Sessions.{items_in, items_of}
 use Rattle.made_chain.proofs.SoakLemmas.{counts-played}
 use Rattle.made_chain.proofs.soaking.soak_on.Goals as goal
 

@@ -1,4 +1,4 @@
-use Rattle.codec_defs.proofs.Checks.{checked-items}
+use Rattle.chain_defs.proofs.Checks.{checked-items}
 use Rattle.mol_schema.proofs.check.are_items.Goals as goal
 
 pub returns : goal.returns

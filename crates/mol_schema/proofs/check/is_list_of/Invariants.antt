@@ -1,5 +1,5 @@
 use Rattle.std.proofs.Common.{◌<◌, ℕ}
-use Rattle.codec_defs.specs.Shape.{table_field}
+use Rattle.chain_defs.specs.Shape.{table_field}
 use Rattle.mol_schema.proofs.check.is_list_of.Given as goal
 
 -- the items so far were checked

@@ -1,7 +1,7 @@
 use Rattle.std.proofs.Common.{◌-◌, length, length-take, drop, ap, arith}
-use Rattle.codec_defs.specs.Molecule.{items_of_fixvec}
-use Rattle.codec_defs.proofs.MoleculeLaws.{length-fixvec}
-use Rattle.codec_defs.proofs.Checks.{length-content}
+use Rattle.chain_defs.specs.Molecule.{items_of_fixvec}
+use Rattle.chain_defs.proofs.MoleculeLaws.{length-fixvec}
+use Rattle.chain_defs.proofs.Checks.{length-content}
 use Rattle.mol_schema.proofs.parts.content.Goals as goal
 
 pub slice_bounds-result-count : goal.slice_bounds-result-count

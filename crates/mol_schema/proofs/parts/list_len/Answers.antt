@@ -1,5 +1,5 @@
 use Rattle.std.proofs.Common.{arith}
-use Rattle.codec_defs.proofs.Checks.{length-items}
+use Rattle.chain_defs.proofs.Checks.{length-items}
 use Rattle.mol_schema.proofs.parts.list_len.Goals as goal
 
 pub returns-clause-fits : goal.returns-clause-fits

@@ -4,9 +4,10 @@ use Rattle.chain_tree.specs.Entries.{TreeValue}
 use Rattle.chain_tree.specs.Told.{blocks_of}
 use Rattle.block_judge.specs.Stops.{read_stop_of}
 use Rattle.chain_tree.proofs.ReadLemmas.{finds_after}
-use Rattle.block_store.specs.Held.{CacheValue}
-use Rattle.node_core.specs.Node.{KeptValue, HasOnlyRead}
-use Rattle.node_core.proofs.SourceLemmas.{kept-on, counts-blocks, tells-joined, has-looked}
+use Rattle.node_store.specs.Held.{CacheValue}
+use Rattle.node_store.specs.Kept.{KeptValue}
+use Rattle.node_store.specs.Node.{HasOnlyRead}
+use Rattle.node_store.proofs.SourceLemmas.{kept-on, counts-blocks, tells-joined, has-looked}
 use Rattle.node_core.proofs.over_disk.check.Goals as goal
 
 pub new-store-requires : goal.new-store-requires

@@ -1,6 +1,6 @@
 use Rattle.std.proofs.Common.{◌≡◌, ℕ, List, [], ◌∷◌, ◌++◌, ap, ◌∙◌}
-use Rattle.codec_defs.specs.Shape.{dynvec, fixvec}
-use Rattle.codec_defs.specs.Schema.{transaction, proposal_short_id}
+use Rattle.chain_defs.specs.Shape.{dynvec, fixvec}
+use Rattle.chain_defs.specs.Schema.{transaction, proposal_short_id}
 use Rattle.pool_rows.proofs.Fits.{of-value, seen-as}
 use Rattle.pool_rows.proofs.BlockLemmas.{table-is, block-is}
 use Rattle.pool_rows.proofs.block.block_row.Goals as goal

@@ -1,6 +1,6 @@
 use Rattle.std.proofs.Common.{[]}
-use Rattle.codec_defs.specs.Shape.{bytes}
-use Rattle.codec_defs.specs.Schema.{cell_output}
+use Rattle.chain_defs.specs.Shape.{bytes}
+use Rattle.chain_defs.specs.Schema.{cell_output}
 use Rattle.pool_rows.proofs.Fits.{none-is}
 use Rattle.pool_rows.proofs.cellbase.cellbase_alone.Goals as goal
 

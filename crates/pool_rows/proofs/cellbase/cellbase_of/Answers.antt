@@ -1,7 +1,7 @@
 use Rattle.std.proofs.Common.{ℕ, ◌<◌, ◌^◌, ◌∷◌, [], List, length, refl, ap, ◌∙◌, arith}
-use Rattle.codec_defs.specs.Molecule as molecule
-use Rattle.codec_defs.specs.Shape.{encoded, bytes}
-use Rattle.codec_defs.specs.Schema.{cellbase_witness}
+use Rattle.chain_defs.specs.Molecule as molecule
+use Rattle.chain_defs.specs.Shape.{encoded, bytes}
+use Rattle.chain_defs.specs.Schema.{cellbase_witness}
 use Rattle.pool_defs.specs.Start.{cellbase_with}
 use Rattle.pool_rows.proofs.Parts.{one_of, null_row, cellbase_lists, cellbase_parts}
 use Rattle.pool_rows.proofs.Fits.{vector-of-one, content-is, cellbase-is, both-of}

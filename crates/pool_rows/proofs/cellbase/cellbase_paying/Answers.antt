@@ -1,7 +1,7 @@
 use Rattle.std.proofs.Common.{ℕ, List, [], ◌∷◌, None, ap, ◌∙◌, arith}
-use Rattle.codec_defs.specs.Molecule as molecule
-use Rattle.codec_defs.specs.Shape.{bytes, dynvec}
-use Rattle.codec_defs.specs.Schema.{CellOutput, cell_output}
+use Rattle.chain_defs.specs.Molecule as molecule
+use Rattle.chain_defs.specs.Shape.{bytes, dynvec}
+use Rattle.chain_defs.specs.Schema.{CellOutput, cell_output}
 use Rattle.pool_rows.proofs.Fits.{vector-of-one, nothing-is, output-is, seen-as}
 use Rattle.pool_rows.proofs.cellbase.cellbase_paying.Goals as goal
 

@@ -1,5 +1,5 @@
 use Rattle.std.proofs.Common.{refl}
-use Rattle.codec_defs.specs.Schema.{header}
+use Rattle.chain_defs.specs.Schema.{header}
 use Rattle.pool_rows.proofs.Rows.{no_fields, one_more}
 use Rattle.pool_rows.proofs.Fits.{header-fits}
 use Rattle.pool_rows.proofs.header.header_row.Goals as goal

@@ -1,8 +1,8 @@
 use Rattle.std.proofs.Common.{refl, ap, ◌∙◌, rules}
 use Rattle.std.specs.Prelude.{Err}
-use Rattle.vm_defs.specs.Elf.{load_elf, segments}
-use Rattle.vm_defs.specs.Program.{Answer, execution}
-use Rattle.sys_defs.specs.World.{nothing}
+use Rattle.machine_defs.specs.Elf.{load_elf, segments}
+use Rattle.machine_defs.specs.Program.{Answer, execution}
+use Rattle.machine_defs.specs.World.{nothing}
 use Rattle.program_run.proofs.ProgramLemmas.{is-alone, program-wants-alone, stopped-alone}
 use Rattle.program_run.proofs.program.execute.Goals as goal
 

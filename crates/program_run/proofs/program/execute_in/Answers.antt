@@ -1,7 +1,7 @@
 use Rattle.std.proofs.Common.{refl, subst}
 use Rattle.outside.specs.declared.disk.ReadStop.TheVariants.{DiskFault, Damaged, NoMemory}
-use Rattle.vm_defs.specs.Elf.{load_elf, segments}
-use Rattle.sys_defs.specs.Answer.{syscall}
+use Rattle.machine_defs.specs.Elf.{load_elf, segments}
+use Rattle.machine_defs.specs.Answer.{syscall}
 use Rattle.vm_sys.proofs.Exits.{finds-none}
 use Rattle.program_run.specs.Program.{IsStarted}
 use Rattle.program_run.specs.declared.program.Started.TheVariants as started

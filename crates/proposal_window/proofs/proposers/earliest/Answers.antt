@@ -1,8 +1,8 @@
 use Rattle.std.proofs.Common.{◌≡◌, ◌-◌, true, false, sym, ◌∙◌, refl, arith}
 use Rattle.chain_defs.specs.Branch.{branch}
 use Rattle.chain_tree.specs.Told.{blocks_of}
-use Rattle.window_defs.specs.Window.{proposes_at}
-use Rattle.window_defs.proofs.WindowLaws.{first-found, none-found, earliest-range}
+use Rattle.rule_defs.specs.Window.{proposes_at}
+use Rattle.rule_defs.proofs.WindowLaws.{first-found, none-found, earliest-range}
 use Rattle.outside.proofs.Endings.{handed, no_answer}
 use Rattle.chain_tree.proofs.ReadLemmas.{unread, read_on}
 use Rattle.proposal_window.proofs.ProposingLemmas.{one-more}

@@ -3,7 +3,7 @@ use Rattle.chain_defs.specs.Branch.{branch}
 use Rattle.chain_tree.specs.Blocks.{IndexesBlocks}
 use Rattle.chain_tree.specs.Told.{Stored, blocks_of}
 use Rattle.chain_tree.specs.Reading.{HasRead}
-use Rattle.window_defs.specs.Window.{proposes_at}
+use Rattle.rule_defs.specs.Window.{proposes_at}
 use Rattle.proposal_window.proofs.proposers.earliest.Given as goal
 
 -- the branch proposes the id at no height of the window so far; the source of blocks was read to a good end

@@ -2,7 +2,7 @@ use Rattle.std.proofs.Common.{sym, ap, ◌∙◌, refl, arith}
 use Rattle.std.specs.List.{list_any}
 use Rattle.std.specs.Str.{bytes_eq}
 use Rattle.std.proofs.lemmas.List.{take_all}
-use Rattle.codec_defs.specs.Schema.{UncleBlock}
+use Rattle.chain_defs.specs.Schema.{UncleBlock}
 use Rattle.proposal_window.proofs.ProposingLemmas.{any-next, any-here}
 use Rattle.proposal_window.proofs.proposing.is_of_uncles.Goals as goal
 

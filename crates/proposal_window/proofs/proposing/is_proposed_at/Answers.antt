@@ -1,5 +1,5 @@
 use Rattle.std.proofs.Common.{sym, ap, ◌∙◌, arith}
-use Rattle.window_defs.specs.Window.{proposes}
+use Rattle.rule_defs.specs.Window.{proposes}
 use Rattle.outside.proofs.Endings.{handed, no_answer, is_told}
 use Rattle.proposal_window.proofs.KeptLemmas.{kept-block}
 use Rattle.proposal_window.proofs.proposing.is_proposed_at.Goals as goal

@@ -1,7 +1,7 @@
 use Rattle.std.proofs.Common.{◌≡◌, pos, List, take}
 use Rattle.std.specs.List.{sum_by}
-use Rattle.time_defs.specs.Dao.{as_u64}
-use Rattle.reward_defs.specs.Fees.{Paid, committer_share}
+use Rattle.chain_defs.specs.Dao.{as_u64}
+use Rattle.rule_defs.specs.Fees.{Paid, committer_share}
 use Rattle.rewards.specs.Paid.{ArePaid}
 use Rattle.rewards.proofs.fees.committed.Given as goal
 

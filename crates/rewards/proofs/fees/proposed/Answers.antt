@@ -3,8 +3,8 @@ use Rattle.std.proofs.lemmas.Option.{slice_get-get_or}
 use Rattle.std.specs.List.{sum_by, filter}
 use Rattle.std.specs.Str.{bytes_eq}
 use Rattle.std.specs.HashMap.{get}
-use Rattle.time_defs.specs.Dao.{as_u64}
-use Rattle.reward_defs.specs.Fees.{Paid, proposer_share}
+use Rattle.chain_defs.specs.Dao.{as_u64}
+use Rattle.rule_defs.specs.Fees.{Paid, proposer_share}
 use Rattle.rewards.specs.Starts.{is_started}
 use Rattle.rewards.proofs.SumLemmas.{proposed-more, proposed-same, all-paid}
 use Rattle.rewards.proofs.fees.proposed.Goals as goal

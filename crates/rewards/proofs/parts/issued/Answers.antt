@@ -1,11 +1,11 @@
 use Rattle.std.proofs.Common.{◌≡◌, ◌+◌, ◌-◌, ◌<◌, ◌≤◌, pos, ap, subst, sym, ◌∙◌, arith}
 use Rattle.std.proofs.lemmas.Grind.{common_steps}
-use Rattle.time_defs.specs.Dao.{DaoField, as_u64, miner_part}
-use Rattle.time_defs.proofs.RatedLemmas.{rated-parts}
+use Rattle.chain_defs.specs.Dao.{DaoField, as_u64, miner_part}
+use Rattle.chain_defs.proofs.RatedLemmas.{rated-parts}
 use Rattle.chain_defs.specs.Branch.{branch}
 use Rattle.chain_tree.proofs.EntryLemmas.{there-within}
-use Rattle.reward_defs.specs.Reward.{field_at}
-use Rattle.reward_defs.specs.Shares.{secondary_at}
+use Rattle.rule_defs.specs.Reward.{field_at}
+use Rattle.rule_defs.specs.Shares.{secondary_at}
 use Rattle.rewards.proofs.SumLemmas.{small}
 use Rattle.rewards.proofs.BranchLemmas.{field-there}
 use Rattle.rewards.proofs.parts.issued.Goals as goal

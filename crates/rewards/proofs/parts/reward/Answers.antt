@@ -1,6 +1,6 @@
 use Rattle.std.proofs.Common.{◌∙◌}
 use Rattle.chain_tree.specs.Told.{blocks_of}
-use Rattle.reward_defs.specs.Reward.{part}
+use Rattle.rule_defs.specs.Reward.{part}
 use Rattle.outside.proofs.Endings.{no_answer}
 use Rattle.chain_tree.proofs.ReadLemmas.{read_on}
 use Rattle.rewards.proofs.ReadLemmas.{not_damaged}

@@ -2,10 +2,10 @@ use Rattle.std.proofs.Common.{◌≡◌, ℕ, ◌+◌, ◌-◌, ◌≤◌, pos, 
 use Rattle.std.specs.List.{sum_by, range_with_len}
 use Rattle.std.specs.Str.{bytes_eq}
 use Rattle.std.specs.HashMap.{get}
-use Rattle.time_defs.specs.Dao.{as_u64}
+use Rattle.chain_defs.specs.Dao.{as_u64}
 use Rattle.chain_defs.specs.Branch.{branch}
 use Rattle.chain_tree.specs.Told.{blocks_of}
-use Rattle.reward_defs.specs.Reward.{proposer_part}
+use Rattle.rule_defs.specs.Reward.{proposer_part}
 use Rattle.outside.proofs.Endings.{no_answer}
 use Rattle.chain_tree.proofs.ReadLemmas.{unread, read_on}
 use Rattle.rewards.proofs.ReadLemmas.{tells_still}

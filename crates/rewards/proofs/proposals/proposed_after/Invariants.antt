@@ -2,11 +2,11 @@ use Rattle.std.proofs.Common.{◌≡◌, ◌-◌, pos, List, None}
 use Rattle.std.specs.List.{sum_by, range_with_len}
 use Rattle.std.specs.Str.{bytes_eq}
 use Rattle.std.specs.HashMap.{get}
-use Rattle.time_defs.specs.Dao.{as_u64}
+use Rattle.chain_defs.specs.Dao.{as_u64}
 use Rattle.chain_defs.specs.Branch.{branch}
 use Rattle.chain_tree.specs.Told.{Stored, blocks_of}
 use Rattle.chain_tree.specs.Reading.{HasRead}
-use Rattle.reward_defs.specs.Reward.{proposer_part}
+use Rattle.rule_defs.specs.Reward.{proposer_part}
 use Rattle.rewards.specs.Starts.{AreStarts}
 use Rattle.rewards.specs.Reading.{AreKnownBlocks}
 use Rattle.rewards.proofs.proposals.proposed_after.Given as goal

@@ -1,7 +1,7 @@
 use Rattle.std.proofs.Common.{ℕ, List, Some, pos, sym, ap, ◌∙◌, arith}
 use Rattle.std.proofs.lemmas.Grind.{common_steps}
 use Rattle.std.proofs.lemmas.List.{nil_from_length}
-use Rattle.time_defs.specs.Dao.{as_u64}
+use Rattle.chain_defs.specs.Dao.{as_u64}
 use Rattle.chain_defs.specs.Branch.{branch}
 use Rattle.chain_tree.specs.Told.{blocks_of}
 use Rattle.chain_tree.proofs.EntryLemmas.{there-within}

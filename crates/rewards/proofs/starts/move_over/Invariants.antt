@@ -5,7 +5,7 @@ use Rattle.chain_defs.specs.Branch.{branch}
 use Rattle.chain_tree.specs.Blocks.{IndexesBlocks}
 use Rattle.chain_tree.specs.Told.{Stored, blocks_of}
 use Rattle.chain_tree.specs.Reading.{HasRead}
-use Rattle.window_defs.specs.Window.{proposes_at}
+use Rattle.rule_defs.specs.Window.{proposes_at}
 use Rattle.rewards.proofs.StartLemmas.{AreMoved}
 use Rattle.rewards.proofs.starts.move_over.Given as goal
 

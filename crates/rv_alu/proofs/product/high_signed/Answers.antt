@@ -1,6 +1,6 @@
 use Rattle.std.proofs.Common.{◌≡◌, ◌*ℤ◌, ap, ◌∙◌, w64, to_z, FitsSigned, rules}
 use Rattle.std.proofs.lemmas.Int.{to_z-of_z}
-use Rattle.isa_defs.specs.Alu.{high}
+use Rattle.machine_defs.specs.Alu.{high}
 use Rattle.rv_alu.proofs.Products.{wide-product}
 use Rattle.rv_alu.proofs.product.high_signed.Goals as goal
 

@@ -1,7 +1,7 @@
 use Rattle.std.proofs.Common.{refl, sym, ◌∙◌, ◌∷◌, [], arith}
 use Rattle.std.proofs.lemmas.Bool.Decides.{nat_tests}
-use Rattle.isa_defs.specs.Compressed.{compressed_forms}
-use Rattle.isa_defs.proofs.RowLaws.{narrowed, none_of}
+use Rattle.machine_defs.specs.Compressed.{compressed_forms}
+use Rattle.machine_defs.proofs.RowLaws.{narrowed, none_of}
 use Rattle.rv_decode.proofs.compressed.instruction.Goals as goal
 
 pub returns-in-0 : goal.returns-in-0

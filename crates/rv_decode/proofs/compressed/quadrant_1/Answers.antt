@@ -1,7 +1,7 @@
 use Rattle.std.proofs.Common.{refl, sym, ◌∙◌, ◌∷◌, [], ◌++◌, arith}
 use Rattle.std.proofs.lemmas.Bool.Decides.{nat_tests}
-use Rattle.isa_defs.specs.Compressed.{quadrant_1_forms, c_immediate_and_jump_forms, c_upper_forms, c_arithmetic_forms, c_register_arithmetic_forms}
-use Rattle.isa_defs.proofs.RowLaws.{narrowed, none_of, encoded_in-before}
+use Rattle.machine_defs.specs.Compressed.{quadrant_1_forms, c_immediate_and_jump_forms, c_upper_forms, c_arithmetic_forms, c_register_arithmetic_forms}
+use Rattle.machine_defs.proofs.RowLaws.{narrowed, none_of, encoded_in-before}
 use Rattle.rv_decode.proofs.compressed.quadrant_1.Goals as goal
 
 pub returns-in-24577 : goal.returns-in-24577

@@ -1,7 +1,7 @@
 use Rattle.std.proofs.Common.{refl, sym, ◌∙◌, ◌∷◌, [], arith}
 use Rattle.std.proofs.lemmas.Bool.Decides.{nat_tests}
-use Rattle.isa_defs.specs.Compressed.{quadrant_2_forms, c_shift_and_stack_forms, c_register_forms}
-use Rattle.isa_defs.proofs.RowLaws.{narrowed, none_of, encoded_in-before}
+use Rattle.machine_defs.specs.Compressed.{quadrant_2_forms, c_shift_and_stack_forms, c_register_forms}
+use Rattle.machine_defs.proofs.RowLaws.{narrowed, none_of, encoded_in-before}
 use Rattle.rv_decode.proofs.compressed.quadrant_2.Goals as goal
 
 pub returns-in-32770 : goal.returns-in-32770

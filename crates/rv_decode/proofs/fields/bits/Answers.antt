@@ -1,6 +1,6 @@
 use Rattle.std.proofs.Common.{◌+◌, ◌-◌, ◌<◌, arith}
 use Rattle.std.proofs.lemmas.Nat.{one_shl}
-use Rattle.isa_defs.specs.Instruction.{bits}
+use Rattle.machine_defs.specs.Instruction.{bits}
 use Rattle.rv_decode.proofs.fields.bits.Goals as goal
 
 pub returns-clause-field : goal.returns-clause-field

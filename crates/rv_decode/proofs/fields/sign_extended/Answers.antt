@@ -3,7 +3,7 @@ use Rattle.std.proofs.lemmas.Nat.{one_shl}
 use Rattle.std.proofs.lemmas.Int.{ints}
 use Rattle.std.proofs.lemmas.Bool.Decides.{nat_tests}
 use Rattle.std.proofs.Math.Nat.{pow-suc, pow-le-pow_right}
-use Rattle.isa_defs.specs.Instruction.{sign_extended}
+use Rattle.machine_defs.specs.Instruction.{sign_extended}
 use Rattle.rv_decode.proofs.fields.sign_extended.Goals as goal
 
 two_pos : 0 < 2

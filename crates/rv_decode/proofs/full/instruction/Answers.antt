@@ -1,7 +1,7 @@
 use Rattle.std.proofs.Common.{refl, sym, ap, Some, arith, ◌∙◌, ◌∷◌, []}
-use Rattle.isa_defs.specs.Table.{full_forms, u_row, j_row}
-use Rattle.isa_defs.proofs.RowLaws.{narrowed, none_of, hit}
-use Rattle.isa_defs.specs.declared.ins.Ins.TheVariants.{Lui, Auipc, Jal}
+use Rattle.machine_defs.specs.Table.{full_forms, u_row, j_row}
+use Rattle.machine_defs.proofs.RowLaws.{narrowed, none_of, hit}
+use Rattle.machine_defs.specs.declared.ins.Ins.TheVariants.{Lui, Auipc, Jal}
 use Rattle.std.proofs.lemmas.Bool.Decides.{nat_tests}
 use Rattle.rv_decode.proofs.full.instruction.Goals as goal
 

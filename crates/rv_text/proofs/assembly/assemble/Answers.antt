@@ -1,7 +1,7 @@
 use Rattle.std.proofs.Common.{◌≡◌, ℕ, List, ◌+◌, ◌-◌, ◌≤◌, drop, take, length, length-drop, ap, subst, ◌∙◌, arith}
 use Rattle.std.proofs.lemmas.List.{take_rest}
 use Rattle.rv_text.specs.Reading.{line_end}
-use Rattle.text_defs.specs.Assembly.{IsLineOf}
+use Rattle.machine_defs.specs.Assembly.{IsLineOf}
 use Rattle.rv_text.proofs.Lines.{stopped, step, all-done}
 use Rattle.rv_text.proofs.assembly.assemble.Goals as goal
 

@@ -1,7 +1,7 @@
 use Rattle.std.proofs.Common.{◌+◌, ◌%◌, ap, subst}
-use Rattle.text_defs.specs.Text.{Form, form_of}
+use Rattle.machine_defs.specs.Text.{Form, form_of}
 use Rattle.rv_text.specs.Words.{HasBits}
-use Rattle.text_defs.specs.declared.operands.Operands.{Operands}
+use Rattle.machine_defs.specs.declared.operands.Operands.{Operands}
 use Rattle.rv_text.proofs.WordLaws.{word-is}
 use Rattle.rv_text.proofs.encode.word.Goals as goal
 

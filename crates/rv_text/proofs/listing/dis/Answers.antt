@@ -1,6 +1,6 @@
 use Rattle.std.proofs.Common.{◌≡◌, ℕ, List, ◌++◌, drop, length, ap, sym, subst, ◌∙◌, ◌≤◌, length-drop, arith}
 use Rattle.std.proofs.lemmas.List.{take_rest}
-use Rattle.text_defs.specs.Listing.{first_part, line, lines_from}
+use Rattle.machine_defs.specs.Listing.{first_part, line, lines_from}
 use Rattle.rv_text.proofs.ListingLaws.{begun, gone-on, ended}
 use Rattle.rv_text.proofs.listing.dis.Goals as goal
 

@@ -1,5 +1,5 @@
 use Rattle.std.proofs.Common.{◌≡◌, ℕ, ◌+◌, ◌-◌, ◌≤◌, ◌++◌, length, drop}
-use Rattle.text_defs.specs.Listing.{dis, lines_from}
+use Rattle.machine_defs.specs.Listing.{dis, lines_from}
 use Rattle.rv_text.proofs.listing.dis.Given as goal
 
 abbrev pub invariant-loop-at : goal.invariant-loop-at

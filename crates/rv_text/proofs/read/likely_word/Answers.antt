@@ -1,5 +1,5 @@
 use Rattle.std.proofs.Common.{◌+◌, ◌%◌, sym, ap, ◌∙◌, subst}
-use Rattle.text_defs.specs.declared.operands.Operands.{Operands}
+use Rattle.machine_defs.specs.declared.operands.Operands.{Operands}
 use Rattle.rv_text.specs.Reading.{filled}
 use Rattle.rv_text.specs.Words.{FitsOperands, HasBits}
 use Rattle.rv_text.proofs.WordLaws.{fits-is, word-is}

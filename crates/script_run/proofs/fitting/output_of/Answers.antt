@@ -1,7 +1,7 @@
 use Rattle.std.proofs.Common.{◌≡◌, ℕ, List, Some, ap, sym, subst, ◌∙◌}
-use Rattle.codec_defs.specs.Shape.{IsA}
-use Rattle.codec_defs.specs.Schema.{cell_output}
-use Rattle.codec_defs.proofs.ShapeLaws.{IsA-decoded}
+use Rattle.chain_defs.specs.Shape.{IsA}
+use Rattle.chain_defs.specs.Schema.{cell_output}
+use Rattle.chain_defs.proofs.ShapeLaws.{IsA-decoded}
 use Rattle.cell_model.specs.Copies.{ResolvedValue}
 use Rattle.script_run.proofs.FitLemmas.{output-of}
 use Rattle.script_run.proofs.fitting.output_of.Goals as goal

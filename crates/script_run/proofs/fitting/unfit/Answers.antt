@@ -1,5 +1,5 @@
 use Rattle.std.proofs.Common.{◌≡◌, length, ap, sym, ◌∙◌, arith}
-use Rattle.codec_defs.specs.Schema.{RawTransaction}
+use Rattle.chain_defs.specs.Schema.{RawTransaction}
 use Rattle.cell_model.specs.Copies.{ResolvedTxValue}
 use Rattle.script_run.specs.Fitting.{unkept, untyped}
 use Rattle.script_run.proofs.FitLemmas.{unfit-uncopied, unfit-inputs, unfit-deps, unfit-headers}

@@ -1,6 +1,6 @@
 use Rattle.std.proofs.Common.{◌≡◌, List, [], Some, map, take}
 use Rattle.std.specs.List.{AllZip}
-use Rattle.script_defs.specs.Scene.{ShownCell}
+use Rattle.verdict_defs.specs.Scene.{ShownCell}
 use Rattle.script_run.specs.Grouping.{FindsEach, grouped}
 use Rattle.script_run.specs.Shown.{IsShownAs}
 use Rattle.script_run.proofs.groups.lock_groups.Given as goal

@@ -1,8 +1,8 @@
 use Rattle.std.proofs.Common.{◌≡◌, ◌<◌, List, [], Option, length, map, take, ap, sym, ◌∙◌, arith}
 use Rattle.std.proofs.lemmas.List.{take_all}
 use Rattle.std.proofs.lemmas.Option.{slice_get_within}
-use Rattle.codec_defs.specs.Schema.{Script}
-use Rattle.script_defs.specs.Scene.{ShownCell}
+use Rattle.chain_defs.specs.Schema.{Script}
+use Rattle.verdict_defs.specs.Scene.{ShownCell}
 use Rattle.script_run.specs.Grouping.{grouped}
 use Rattle.script_run.specs.Shown.{IsShownAs}
 use Rattle.script_run.proofs.GroupLemmas.{grouped-none}

@@ -1,8 +1,8 @@
 use Rattle.std.proofs.Common.{Option, ap, subst, sym, ◌∙◌}
 use Rattle.std.specs.Option.{option_map}
 use Rattle.cell_model.specs.Copies.{ResolvedTxValue}
-use Rattle.sys_defs.specs.World.{Call}
-use Rattle.script_defs.specs.Items.{cell_at, listed}
+use Rattle.machine_defs.specs.World.{Call}
+use Rattle.verdict_defs.specs.Items.{cell_at, listed}
 use Rattle.script_run.specs.declared.bytes.CellPart.{CellPart}
 use Rattle.script_run.specs.Lookups.{cell_part}
 use Rattle.script_run.specs.Shown.{Shows, ShownTxValue}

@@ -1,7 +1,7 @@
 use Rattle.std.proofs.Common.{Option, Some, ap, ◌∙◌}
 use Rattle.std.specs.Option.{option_map}
-use Rattle.sys_defs.specs.World.{Call}
-use Rattle.script_defs.specs.Items.{header_at, listed}
+use Rattle.machine_defs.specs.World.{Call}
+use Rattle.verdict_defs.specs.Items.{header_at, listed}
 use Rattle.script_run.specs.declared.bytes.HeaderPart.{HeaderPart}
 use Rattle.script_run.specs.Lookups.{header_part}
 use Rattle.script_run.proofs.LookLemmas.{found, listed-to}

@@ -1,6 +1,6 @@
 use Rattle.std.proofs.Common.{◌≡◌, rules, ap, sym, ◌∙◌}
-use Rattle.sys_defs.specs.World.{Call}
-use Rattle.script_defs.specs.Items.{cell_at, cell_fields, field, header_at, header_fields, input_at, input_fields, listed}
+use Rattle.machine_defs.specs.World.{Call}
+use Rattle.verdict_defs.specs.Items.{cell_at, cell_fields, field, header_at, header_fields, input_at, input_fields, listed}
 use Rattle.script_run.proofs.SyscallLemmas.{at-2051, at-2052, at-2061, at-2062, at-2071, at-2072, at-2073, at-2074, at-2081, at-2082, at-2083, at-2091, at-2092, no-load}
 use Rattle.script_run.proofs.items.load_of.Goals as goal
 

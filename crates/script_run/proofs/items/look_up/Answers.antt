@@ -1,11 +1,11 @@
 use Rattle.std.proofs.Common.{◌≡◌, ℕ, Some, subst, ap, sym, ◌∙◌}
 use Rattle.std.specs.Option.{option_map}
-use Rattle.codec_defs.specs.Shape.{encoded}
-use Rattle.codec_defs.specs.Schema.{script, transaction}
+use Rattle.chain_defs.specs.Shape.{encoded}
+use Rattle.chain_defs.specs.Schema.{script, transaction}
 use Rattle.chain_defs.specs.Hashes.{transaction_hash}
 use Rattle.cell_model.specs.Copies.{ResolvedTxValue}
-use Rattle.sys_defs.specs.World.{Here}
-use Rattle.script_defs.specs.Items.{header_at, listed}
+use Rattle.machine_defs.specs.World.{Here}
+use Rattle.verdict_defs.specs.Items.{header_at, listed}
 use Rattle.script_run.specs.Lookups.{IsOfKept, ShowsHeaders, header_part}
 use Rattle.script_run.specs.Shown.{GroupValue, Shows, ShownTxValue}
 use Rattle.script_run.proofs.LookLemmas.{found}

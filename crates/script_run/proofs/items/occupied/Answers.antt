@@ -1,6 +1,6 @@
 use Rattle.std.proofs.Common.{◌*◌, ap, sym, ◌∙◌}
 use Rattle.std.specs.Int.{w64, to_le_bytes}
-use Rattle.sys_defs.specs.World.{Here}
+use Rattle.machine_defs.specs.World.{Here}
 use Rattle.script_run.proofs.LookLemmas.{low-bytes}
 use Rattle.script_run.proofs.items.occupied.Goals as goal
 

@@ -1,9 +1,9 @@
 use Rattle.std.proofs.Common.{◌≡◌, Some, ap, sym, ◌∙◌, rules}
 use Rattle.std.specs.Option.{option_map}
-use Rattle.codec_defs.specs.Shape.{encoded}
-use Rattle.codec_defs.specs.Schema.{CellOutput, cell_output, script}
+use Rattle.chain_defs.specs.Shape.{encoded}
+use Rattle.chain_defs.specs.Schema.{CellOutput, cell_output, script}
 use Rattle.cell_defs.specs.Cell.{occupied_by}
-use Rattle.script_defs.specs.Items.{u64_bytes}
+use Rattle.verdict_defs.specs.Items.{u64_bytes}
 use Rattle.script_run.specs.declared.bytes.CellPart.TheVariants.{Output, Data, Capacity, Lock, TypeScript, Occupied}
 use Rattle.script_run.proofs.LookLemmas.{part-here}
 use Rattle.script_run.proofs.items.part_of.Goals as goal

@@ -2,7 +2,7 @@ use Rattle.std.proofs.Common.{◌≡◌, Some, refl, arith, ap, sym, ◌∙◌, 
 use Rattle.std.specs.Prelude.{slice_get, IsTrue}
 use Rattle.std.proofs.lemmas.Option.{slice_get_past, slice_get_read}
 use Rattle.cell_model.specs.Copies.{ResolvedValue}
-use Rattle.script_defs.specs.Items.{output_of}
+use Rattle.verdict_defs.specs.Items.{output_of}
 use Rattle.script_run.specs.Fitting.{is_typed}
 use Rattle.script_run.proofs.LookLemmas.{none-there, shown-copy, row-has-hashes, same-output}
 use Rattle.script_run.proofs.items.part_of_copy.Goals as goal

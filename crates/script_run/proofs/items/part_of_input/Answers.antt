@@ -1,8 +1,8 @@
 use Rattle.std.proofs.Common.{◌≡◌, Some, ap, sym, ◌∙◌}
 use Rattle.std.specs.Prelude.{slice_get}
-use Rattle.codec_defs.specs.Schema.{out_point}
-use Rattle.codec_defs.specs.Shape.{encoded}
-use Rattle.script_defs.specs.Items.{u64_bytes}
+use Rattle.chain_defs.specs.Schema.{out_point}
+use Rattle.chain_defs.specs.Shape.{encoded}
+use Rattle.verdict_defs.specs.Items.{u64_bytes}
 use Rattle.script_run.specs.Lookups.{input_part}
 use Rattle.script_run.proofs.LookLemmas.{one-there, input-here}
 use Rattle.script_run.specs.declared.bytes.InputPart.TheVariants.{Whole, OutPoint, Since}

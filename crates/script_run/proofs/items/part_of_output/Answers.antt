@@ -3,7 +3,7 @@ use Rattle.std.specs.Option.{option_map}
 use Rattle.std.proofs.lemmas.Option.{slice_get_past}
 use Rattle.cell_defs.specs.Cell.{data_of}
 use Rattle.cell_defs.specs.Row.{Row}
-use Rattle.script_defs.specs.Items.{answer}
+use Rattle.verdict_defs.specs.Items.{answer}
 use Rattle.script_run.specs.Lookups.{cell_part}
 use Rattle.script_run.specs.Shown.{output_rows}
 use Rattle.script_run.proofs.LookLemmas.{as-many-rows, its-row, row-hashes, one-there}

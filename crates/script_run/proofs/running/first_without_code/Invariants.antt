@@ -1,7 +1,7 @@
 use Rattle.std.proofs.Common.{◌≡◌, map, drop}
 use Rattle.std.specs.List.{AllZip}
-use Rattle.script_defs.specs.Scene.{Scene}
-use Rattle.script_defs.specs.Outcome.{first_without_code}
+use Rattle.verdict_defs.specs.Scene.{Scene}
+use Rattle.verdict_defs.specs.Outcome.{first_without_code}
 use Rattle.script_run.specs.Shown.{IsShownAs, GroupValue}
 use Rattle.script_run.proofs.running.first_without_code.Given as goal
 

@@ -1,5 +1,5 @@
 use Rattle.std.proofs.Common.{ap, sym, ◌∙◌}
-use Rattle.script_defs.specs.Codes.{NoCode}
+use Rattle.verdict_defs.specs.Codes.{NoCode}
 use Rattle.script_run.specs.Shown.{GroupValue}
 use Rattle.script_run.proofs.RunningLemmas.{lacks-code}
 use Rattle.script_run.proofs.running.lacks_code.Goals as goal

@@ -2,8 +2,8 @@ use Rattle.std.proofs.Common.{◌≡◌, ◌-◌, ◌≤◌, List, map, drop, So
 use Rattle.std.specs.List.{All}
 use Rattle.chain_tree.specs.Told.{Stored}
 use Rattle.chain_tree.specs.Reading.{HasRead}
-use Rattle.script_defs.specs.Scene.{Scene}
-use Rattle.script_defs.specs.Outcome.{run_from, with_cycles}
+use Rattle.verdict_defs.specs.Scene.{Scene}
+use Rattle.verdict_defs.specs.Outcome.{run_from, with_cycles}
 use Rattle.script_run.specs.Showing.{scene_shown}
 use Rattle.script_run.specs.Shown.{HasItsHash, GroupValue}
 use Rattle.script_run.proofs.running.run_each.Given as goal

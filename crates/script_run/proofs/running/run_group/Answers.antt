@@ -1,6 +1,6 @@
 use Rattle.std.proofs.Common.{◌≡◌, Err, refl, sym, ap, ◌∙◌}
 use Rattle.cell_model.specs.Copies.{ResolvedTxValue}
-use Rattle.script_defs.specs.Codes.{NoCode, ManyCodes, code_of, is_type_id}
+use Rattle.verdict_defs.specs.Codes.{NoCode, ManyCodes, code_of, is_type_id}
 use Rattle.script_run.specs.Shown.{GroupValue, ShownTxValue}
 use Rattle.script_run.proofs.ShowingLemmas.{shown-over}
 use Rattle.chain_tree.proofs.ReadLemmas.{unread, read_so}

@@ -1,8 +1,8 @@
 use Rattle.std.proofs.Common.{◌≡◌, ℕ, List, Option, Some, length, refl, ap, sym, subst, ◌∙◌}
 use Rattle.std.specs.Prelude.{IfSome, IsSome}
 use Rattle.chain_tree.specs.Told.{Stored}
-use Rattle.time_defs.specs.Specification.{Specification}
-use Rattle.script_defs.specs.Scene.{Scene}
+use Rattle.chain_defs.specs.Specification.{Specification}
+use Rattle.verdict_defs.specs.Scene.{Scene}
 use Rattle.script_run.specs.Showing.{scene_shown}
 use Rattle.chain_tree.proofs.ReadLemmas.{unread, read_short}
 use Rattle.script_run.proofs.FitLemmas.{shown-fits}

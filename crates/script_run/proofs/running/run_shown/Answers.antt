@@ -1,6 +1,6 @@
 use Rattle.std.proofs.Common.{List, refl, sym, ap, subst, ◌∙◌}
 use Rattle.std.specs.List.{All}
-use Rattle.script_defs.specs.Outcome.{first_without_code, run_from}
+use Rattle.verdict_defs.specs.Outcome.{first_without_code, run_from}
 use Rattle.script_run.specs.Running.{IsOutcome, read_stop_of}
 use Rattle.script_run.specs.Shown.{GroupValue, HasItsHash}
 use Rattle.script_run.proofs.ShowingLemmas.{shown-over}

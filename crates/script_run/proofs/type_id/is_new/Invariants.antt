@@ -1,8 +1,8 @@
 use Rattle.std.proofs.Common.{◌≡◌, drop}
 use Rattle.std.specs.List.{list_all}
 use Rattle.std.specs.Str.{bytes_eq}
-use Rattle.script_defs.specs.Scene.{Scene}
-use Rattle.script_defs.specs.TypeId.{is_new, new_type_id}
+use Rattle.verdict_defs.specs.Scene.{Scene}
+use Rattle.verdict_defs.specs.TypeId.{is_new, new_type_id}
 use Rattle.script_run.proofs.type_id.is_new.Given as goal
 
 abbrev pub invariant-outputs : goal.invariant-outputs

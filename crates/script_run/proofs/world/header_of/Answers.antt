@@ -1,5 +1,5 @@
 use Rattle.std.proofs.Common.{sym}
-use Rattle.codec_defs.proofs.RowLaws.{header-check}
+use Rattle.chain_defs.proofs.RowLaws.{header-check}
 use Rattle.script_run.proofs.world.header_of.Goals as goal
 
 pub copy_from_slice-requires : goal.copy_from_slice-requires

@@ -1,7 +1,7 @@
 use Rattle.std.proofs.Common.{◌≡◌, ℕ, ◌<◌, length, rules}
 use Rattle.std.specs.Prelude.{slice_index}
-use Rattle.codec_defs.specs.Schema.{header}
-use Rattle.codec_defs.proofs.RowLaws.{header-check}
+use Rattle.chain_defs.specs.Schema.{header}
+use Rattle.chain_defs.proofs.RowLaws.{header-check}
 use Rattle.script_run.proofs.world.number_in.Goals as goal
 
 pub from_encoding-requires : goal.from_encoding-requires

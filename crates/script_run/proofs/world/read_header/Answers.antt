@@ -1,6 +1,6 @@
 use Rattle.std.proofs.Common.{◌≡◌, ap, ◌∙◌, subst}
 use Rattle.std.specs.Prelude.{Err}
-use Rattle.codec_defs.specs.Schema.{Block}
+use Rattle.chain_defs.specs.Schema.{Block}
 use Rattle.chain_tree.specs.Reading.{stop_of}
 use Rattle.cell_model.proofs.CopyLemmas.{in-hand}
 use Rattle.script_run.specs.Lookups.{bytes_of, header_part}

@@ -4,9 +4,9 @@ use Rattle.outside.specs.declared.disk.ReadStop.{ReadStop}
 use Rattle.outside.specs.declared.disk.ReadStop.TheVariants.{Damaged, NoMemory}
 use Rattle.chain_tree.proofs.ReadLemmas.{no_stop, no_memory_damage}
 use Rattle.program_run.specs.declared.program.Stopped.TheVariants.{Loading, Running}
-use Rattle.vm_defs.specs.Program.{execution}
-use Rattle.sys_defs.specs.Answer.{syscall}
-use Rattle.sys_defs.specs.World.{Items}
+use Rattle.machine_defs.specs.Program.{execution}
+use Rattle.machine_defs.specs.Answer.{syscall}
+use Rattle.machine_defs.specs.World.{Items}
 use Rattle.script_run.proofs.ReadLemmas.{found-through, loading-unread, no-error, running-stop, some-stop}
 use Rattle.script_run.proofs.ShowingLemmas.{told-is}
 use Rattle.script_run.proofs.SyscallLemmas.{same-items}

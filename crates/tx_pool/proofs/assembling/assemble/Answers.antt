@@ -1,11 +1,11 @@
 use Rattle.std.proofs.Common.{ℕ, cond, Vec, Global, Some, map, ap, ◌∙◌}
 use Rattle.std.specs.Prelude.{is_some}
-use Rattle.codec_defs.specs.Schema as schema
-use Rattle.codec_defs.specs.Schema.{Block}
+use Rattle.chain_defs.specs.Schema as schema
+use Rattle.chain_defs.specs.Schema.{Block}
 use Rattle.chain_defs.specs.Branch.{branch}
 use Rattle.chain_defs.specs.Kept.{block_hash, place_of}
 use Rattle.chain_tree.specs.Told.{blocks_of}
-use Rattle.block_defs.specs.Rules.{first_broken}
+use Rattle.verdict_defs.specs.Rules.{first_broken}
 use Rattle.tx_pool.specs.declared.assembling.Assembled.{Assembled}
 use Rattle.tx_pool.proofs.AssemblingLemmas.{answer-breaks, answer-is, answer-joins, answer-on, bytes-as, founded}
 use Rattle.tx_pool.proofs.assembling.assemble.Goals as goal

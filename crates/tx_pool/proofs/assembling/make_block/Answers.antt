@@ -1,8 +1,8 @@
 use Rattle.std.proofs.Common.{ℕ, Vec, Global, map, ◌∙◌, length, rules}
 use Rattle.std.specs.Int.{w128}
 use Rattle.std.proofs.lemmas.Int.{to_z-of_z}
-use Rattle.codec_defs.specs.Shape.{encoded}
-use Rattle.codec_defs.specs.Schema as schema
+use Rattle.chain_defs.specs.Shape.{encoded}
+use Rattle.chain_defs.specs.Schema as schema
 use Rattle.chain_tree.specs.Told.{blocks_of}
 use Rattle.chain_tree.proofs.ReadLemmas.{read_on, read_short}
 use Rattle.block_judge.proofs.Exits.{as_step}

@@ -1,9 +1,9 @@
 use Rattle.std.proofs.Common.{◌≡◌, ◌<◌, length, Option, Some, sym, ◌∙◌, subst, arith}
-use Rattle.codec_defs.specs.Shape.{IsA}
-use Rattle.codec_defs.specs.Schema.{Block, transaction}
+use Rattle.chain_defs.specs.Shape.{IsA}
+use Rattle.chain_defs.specs.Schema.{Block, transaction}
 use Rattle.chain_defs.specs.Kept.{block_at}
 use Rattle.chain_tree.specs.Told.{blocks_of}
-use Rattle.reward_defs.specs.Payment.{owed_to, lock_of}
+use Rattle.rule_defs.specs.Payment.{owed_to, lock_of}
 use Rattle.pool_defs.specs.Start.{owed_outputs, cellbase_with}
 use Rattle.tx_pool.proofs.CellbaseLemmas.{told-length, block-brought}
 use Rattle.tx_pool.proofs.cellbase.cellbase_at.Goals as goal

@@ -1,11 +1,11 @@
 use Rattle.std.proofs.Common.{◌+◌, ◌<◌, sym, ap, ◌∙◌, subst}
 use Rattle.std.specs.Int.{w128}
 use Rattle.std.proofs.lemmas.Int.{to_z-of_z}
-use Rattle.time_defs.specs.Specification.{Specification}
-use Rattle.time_defs.specs.Dao.{DaoField}
-use Rattle.time_defs.proofs.RatedLemmas.{rated-parts}
+use Rattle.chain_defs.specs.Specification.{Specification}
+use Rattle.chain_defs.specs.Dao.{DaoField}
+use Rattle.chain_defs.proofs.RatedLemmas.{rated-parts}
 use Rattle.chain_defs.specs.Branch.{branch}
-use Rattle.reward_defs.specs.Shares.{primary_at, secondary_at}
+use Rattle.rule_defs.specs.Shares.{primary_at, secondary_at}
 use Rattle.tx_rules.proofs.BranchLemmas.{branch-long}
 use Rattle.block_judge.proofs.EndingLemmas.{movement-same, field-before}
 use Rattle.tx_pool.proofs.SealingLemmas.{next-same}

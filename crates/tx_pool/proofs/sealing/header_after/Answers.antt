@@ -1,7 +1,7 @@
 use Rattle.std.proofs.Common.{◌+◌, ap, ◌∙◌, subst}
-use Rattle.codec_defs.specs.Shape.{IsA}
-use Rattle.codec_defs.specs.Schema.{Header, header}
-use Rattle.time_defs.specs.Specification.{Specification}
+use Rattle.chain_defs.specs.Shape.{IsA}
+use Rattle.chain_defs.specs.Schema.{Header, header}
+use Rattle.chain_defs.specs.Specification.{Specification}
 use Rattle.chain_defs.specs.Branch.{branch}
 use Rattle.pool_defs.specs.Start.{next_timestamp}
 use Rattle.tx_rules.proofs.BranchLemmas.{branch-long}

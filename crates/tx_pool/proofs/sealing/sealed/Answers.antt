@@ -1,8 +1,8 @@
 use Rattle.std.proofs.Common.{◌≡◌, List, ℕ, replicate, refl, ◌∙◌, subst}
 use Rattle.std.specs.Int.{w128}
 use Rattle.std.proofs.lemmas.Int.{to_z-of_z}
-use Rattle.codec_defs.specs.Shape.{IsA}
-use Rattle.codec_defs.specs.Schema.{Block, header, block}
+use Rattle.chain_defs.specs.Shape.{IsA}
+use Rattle.chain_defs.specs.Schema.{Block, header, block}
 use Rattle.chain_defs.specs.Branch.{branch}
 use Rattle.pool_rows.specs.declared.header.Commitments.{Commitments}
 use Rattle.pool_rows.proofs.Fits.{of-value, seen-as}

@@ -1,8 +1,8 @@
 use Rattle.std.proofs.Common.{refl, sym, ◌∙◌, arith}
 use Rattle.chain_tree.specs.Told.{blocks_of}
-use Rattle.tx_defs.specs.Age.{is_mature}
+use Rattle.rule_defs.specs.Age.{is_mature}
 use Rattle.outside.proofs.Endings.{handed}
-use Rattle.fold_defs.proofs.WalkLemmas.{every-fails, every-goes-on, every-passed}
+use Rattle.chain_defs.proofs.WalkLemmas.{every-fails, every-goes-on, every-passed}
 use Rattle.tx_rules.proofs.AgeLemmas.{row-there, rows-long}
 use Rattle.tx_rules.proofs.age.are_mature.Goals as goal
 

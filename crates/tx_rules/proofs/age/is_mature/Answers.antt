@@ -1,8 +1,8 @@
 use Rattle.std.proofs.Common.{ℕ, refl, sym, ap, ◌∙◌, eqb}
-use Rattle.time_defs.specs.Specification.{Specification}
-use Rattle.time_defs.specs.Epochs.{is_span_over}
+use Rattle.chain_defs.specs.Specification.{Specification}
+use Rattle.chain_defs.specs.Epochs.{is_span_over}
 use Rattle.cell_defs.specs.Row.{Row}
-use Rattle.tx_defs.specs.Site.{height_at}
+use Rattle.rule_defs.specs.Site.{height_at}
 use Rattle.tx_rules.specs.At.{AtValue}
 use Rattle.outside.proofs.Endings.{handed}
 use Rattle.tx_rules.proofs.AgeLemmas.{mature-genesis, mature-later}

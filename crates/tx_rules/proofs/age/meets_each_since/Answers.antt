@@ -1,16 +1,16 @@
 use Rattle.std.proofs.Common.{◌≡◌, ℕ, ◌≤◌, ◌&&◌, length, Some, refl, sym, ap, ◌∙◌, subst, arith}
 use Rattle.std.specs.Prelude.{slice_get}
 use Rattle.std.specs.List.{zip}
-use Rattle.codec_defs.specs.Schema.{RawTransaction}
-use Rattle.time_defs.specs.Since.{is_valid, is_met}
+use Rattle.chain_defs.specs.Schema.{RawTransaction}
+use Rattle.chain_defs.specs.Since.{is_valid, is_met}
 use Rattle.chain_defs.specs.Branch.{branch}
 use Rattle.chain_defs.specs.Median.{median_time}
 use Rattle.chain_tree.specs.Blocks.{IndexesBlocks}
 use Rattle.chain_tree.specs.Told.{blocks_of}
-use Rattle.tx_defs.specs.Age.{meets_since, spending}
+use Rattle.rule_defs.specs.Age.{meets_since, spending}
 use Rattle.tx_rules.specs.At.{AtValue}
 use Rattle.outside.proofs.Endings.{handed}
-use Rattle.fold_defs.proofs.WalkLemmas.{every-fails, every-goes-on, every-passed, zip-there, zip-long}
+use Rattle.chain_defs.proofs.WalkLemmas.{every-fails, every-goes-on, every-passed, zip-there, zip-long}
 use Rattle.tx_rules.proofs.AgeLemmas.{row-there, rows-long}
 use Rattle.tx_rules.proofs.age.meets_each_since.Goals as goal
 

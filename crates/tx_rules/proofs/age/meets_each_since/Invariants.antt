@@ -1,10 +1,10 @@
 use Rattle.std.proofs.Common.{◌≡◌, List, Option, map, drop}
 use Rattle.std.specs.List.{list_all, zip}
-use Rattle.codec_defs.specs.Schema.{OutPoint}
+use Rattle.chain_defs.specs.Schema.{OutPoint}
 use Rattle.cell_defs.specs.Row.{Row}
 use Rattle.chain_tree.specs.Told.{Stored, blocks_of}
-use Rattle.tx_defs.specs.Site.{Site, Found}
-use Rattle.tx_defs.specs.Age.{meets_since}
+use Rattle.rule_defs.specs.Site.{Site, Found}
+use Rattle.rule_defs.specs.Age.{meets_since}
 use Rattle.tx_rules.specs.At.{IsSiteOf, AreSeen, found_row}
 use Rattle.tx_rules.proofs.age.meets_each_since.Given as goal
 

@@ -1,6 +1,6 @@
 use Rattle.std.proofs.Common.{refl, sym, ap, ◌∙◌}
-use Rattle.time_defs.specs.Specification.{Specification}
-use Rattle.time_defs.specs.Since.{Spending, is_valid, is_met}
+use Rattle.chain_defs.specs.Specification.{Specification}
+use Rattle.chain_defs.specs.Since.{Spending, is_valid, is_met}
 use Rattle.std.specs.Prelude.{◌&&◌}
 use Rattle.tx_rules.specs.At.{AtValue}
 use Rattle.outside.proofs.Endings.{handed}

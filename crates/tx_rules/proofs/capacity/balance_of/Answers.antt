@@ -1,8 +1,8 @@
 use Rattle.std.proofs.Common.{ℕ, ◌-◌, ◌^◌, rules, refl, sym, ap, ◌∙◌, arith}
 use Rattle.std.specs.Prelude.{pos, ◌-ℤ◌}
 use Rattle.chain_tree.specs.Told.{blocks_of}
-use Rattle.tx_defs.specs.Resolving.{inputs}
-use Rattle.tx_defs.specs.Capacity.{counted_in, held_out}
+use Rattle.rule_defs.specs.Resolving.{inputs}
+use Rattle.rule_defs.specs.Capacity.{counted_in, held_out}
 use mir.Syntax.{w128}
 use mir.Val.{SFits}
 use Rattle.std.proofs.lemmas.Int.{to_z-of_z}

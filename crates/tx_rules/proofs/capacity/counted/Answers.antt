@@ -1,14 +1,14 @@
 use Rattle.std.proofs.Common.{◌≡◌, ℕ, Some, None, refl, sym, ap, ◌∙◌, subst, arith}
 use Rattle.std.specs.Prelude.{slice_index, pos, IfOk}
 use Rattle.std.proofs.lemmas.Bool.{and_parts}
-use Rattle.time_defs.specs.Dao.{as_u64}
+use Rattle.chain_defs.specs.Dao.{as_u64}
 use Rattle.chain_defs.specs.Branch.{branch_places}
 use Rattle.chain_tree.specs.Told.{blocks_of}
 use Rattle.cell_defs.specs.Row.{Row}
 use Rattle.cell_model.specs.Copies.{ResolvedValue}
-use Rattle.tx_defs.specs.Resolving.{heights}
-use Rattle.tx_defs.specs.Withdrawals.{is_dao_script, has_withdrawing_data, is_withdrawing, deposit_height}
-use Rattle.tx_defs.specs.Capacity.{counted}
+use Rattle.rule_defs.specs.Resolving.{heights}
+use Rattle.rule_defs.specs.Withdrawals.{is_dao_script, has_withdrawing_data, is_withdrawing, deposit_height}
+use Rattle.rule_defs.specs.Capacity.{counted}
 use Rattle.tx_rules.specs.Seen.{IsRowOf}
 use Rattle.outside.proofs.Endings.{handed}
 use Rattle.tx_rules.proofs.DepositLemmas.{made-some}

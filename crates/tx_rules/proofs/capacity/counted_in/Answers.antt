@@ -2,11 +2,11 @@ use Rattle.std.proofs.Common.{◌+◌, ◌^◌, drop, Some, refl, sym, ap, ◌�
 use Rattle.std.specs.List.{enumerate_from}
 use Rattle.std.proofs.lemmas.List.{drop_all}
 use Rattle.chain_tree.specs.Told.{blocks_of}
-use Rattle.tx_defs.specs.Resolving.{inputs}
-use Rattle.tx_defs.specs.Capacity.{counted, counted_in}
+use Rattle.rule_defs.specs.Resolving.{inputs}
+use Rattle.rule_defs.specs.Capacity.{counted, counted_in}
 use Rattle.tx_rules.specs.Outcome.{Copies}
 use Rattle.outside.proofs.Endings.{handed}
-use Rattle.fold_defs.proofs.WalkLemmas.{enumerated-there}
+use Rattle.chain_defs.proofs.WalkLemmas.{enumerated-there}
 use Rattle.tx_rules.proofs.DepositLemmas.{copy-at, zip-lengths}
 use Rattle.tx_rules.proofs.MoneyLemmas.{fits-u64, past-u64, some-u64, none-u64, not-below, sum-more, sum-past, sum-end, counted-init, well-at}
 use Rattle.tx_rules.proofs.capacity.counted_in.Goals as goal

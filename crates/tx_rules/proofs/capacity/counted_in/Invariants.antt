@@ -1,14 +1,14 @@
 use Rattle.std.proofs.Common.{◌≡◌, ◌+◌, ◌^◌, ◌<◌, List, Option, map, drop}
 use Rattle.std.specs.Prelude.{slice_index, sum_by, IsTrue}
 use Rattle.std.specs.List.{AllZip, enumerate_from}
-use Rattle.codec_defs.specs.Schema.{OutPoint}
+use Rattle.chain_defs.specs.Schema.{OutPoint}
 use Rattle.cell_defs.specs.Row.{Row}
 use Rattle.chain_defs.specs.Branch.{branch_places}
 use Rattle.chain_tree.specs.Told.{Stored, blocks_of}
-use Rattle.tx_defs.specs.Site.{Site}
-use Rattle.tx_defs.specs.Resolving.{inputs, heights}
-use Rattle.tx_defs.specs.Withdrawals.{names_deposits}
-use Rattle.tx_defs.specs.Capacity.{counted, counted_in}
+use Rattle.rule_defs.specs.Site.{Site}
+use Rattle.rule_defs.specs.Resolving.{inputs, heights}
+use Rattle.rule_defs.specs.Withdrawals.{names_deposits}
+use Rattle.rule_defs.specs.Capacity.{counted, counted_in}
 use Rattle.tx_rules.specs.At.{IsSiteOf}
 use Rattle.tx_rules.specs.Outcome.{Copies}
 use Rattle.tx_rules.proofs.capacity.counted_in.Given as goal

@@ -1,9 +1,9 @@
 use Rattle.std.proofs.Common.{◌≡◌, ◌+◌, ◌^◌, drop, length, Some, sym, ap, ◌∙◌, arith}
 use Rattle.std.specs.Prelude.{slice_get}
 use Rattle.std.proofs.lemmas.List.{drop_all}
-use Rattle.codec_defs.specs.Schema.{RawTransaction, CellOutput}
-use Rattle.tx_defs.specs.Capacity.{held_out}
-use Rattle.fold_defs.proofs.WalkLemmas.{drop-there}
+use Rattle.chain_defs.specs.Schema.{RawTransaction, CellOutput}
+use Rattle.rule_defs.specs.Capacity.{held_out}
+use Rattle.chain_defs.proofs.WalkLemmas.{drop-there}
 use Rattle.tx_rules.proofs.MoneyLemmas.{fits-u64, past-u64, not-below, sum-more, sum-past, sum-end}
 use Rattle.tx_rules.proofs.capacity.held_out.Goals as goal
 

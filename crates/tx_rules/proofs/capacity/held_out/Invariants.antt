@@ -1,6 +1,6 @@
 use Rattle.std.proofs.Common.{◌≡◌, ◌+◌, ◌^◌, ◌<◌, drop}
 use Rattle.std.specs.Prelude.{sum_by}
-use Rattle.tx_defs.specs.Capacity.{held_out}
+use Rattle.rule_defs.specs.Capacity.{held_out}
 use Rattle.tx_rules.proofs.capacity.held_out.Given as goal
 
 abbrev pub invariant-outputs : goal.invariant-outputs

@@ -1,6 +1,6 @@
 use Rattle.std.proofs.Common.{sym, ap, ◌∙◌, subst, arith}
-use Rattle.time_defs.specs.Dao.{DaoField}
-use Rattle.time_defs.proofs.RatedLemmas.{rated-parts}
+use Rattle.chain_defs.specs.Dao.{DaoField}
+use Rattle.chain_defs.proofs.RatedLemmas.{rated-parts}
 use Rattle.tx_rules.specs.At.{AtValue, IsPlaced}
 use Rattle.tx_rules.proofs.capacity.rate_at.Goals as goal
 

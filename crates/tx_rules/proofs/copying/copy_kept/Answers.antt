@@ -1,5 +1,5 @@
 use Rattle.std.proofs.Common.{◌≡◌, Some, Err, ap, ◌∙◌, subst, rules}
-use Rattle.codec_defs.specs.Schema.{Block}
+use Rattle.chain_defs.specs.Schema.{Block}
 use Rattle.cell_model.specs.Copies.{CopiesOutput, output_in}
 use Rattle.cell_model.proofs.CopyLemmas.{named_output, in-hand}
 use Rattle.outside.proofs.Endings.{is_told, handed, no_answer}

@@ -2,11 +2,11 @@ use Rattle.std.proofs.Common.{◌≡◌, Bool, List, [], ◌∷◌, ◌++◌, Op
 use Rattle.std.specs.Prelude.{if◌then◌else◌}
 use Rattle.std.specs.Option.{option_map}
 use Rattle.std.proofs.lemmas.Bool.{ne_eqb}
-use Rattle.codec_defs.specs.Schema.{OutPoint}
+use Rattle.chain_defs.specs.Schema.{OutPoint}
 use Rattle.chain_tree.specs.Told.{blocks_of}
 use Rattle.cell_defs.specs.Row.{Row}
-use Rattle.tx_defs.specs.Site.{Found}
-use Rattle.tx_defs.specs.Resolving.{cells_of_dep}
+use Rattle.rule_defs.specs.Site.{Found}
+use Rattle.rule_defs.specs.Resolving.{cells_of_dep}
 use Rattle.tx_rules.specs.At.{found_row, find_row}
 use Rattle.tx_rules.proofs.DepLemmas.{SeenRow, seen-row, unseen, dep-none, dep-other, dep-code, dep-group, ok-same}
 use Rattle.outside.proofs.Endings.{no_answer, memory_undamaged}

@@ -1,5 +1,5 @@
 use Rattle.std.proofs.Common.{◌≡◌, Option, Some, Err, length, ap, ◌∙◌, arith}
-use Rattle.codec_defs.specs.Schema.{OutPoint}
+use Rattle.chain_defs.specs.Schema.{OutPoint}
 use Rattle.cell_defs.specs.Row.{Row}
 use Rattle.cell_model.specs.Copies.{NamesOutput, output_in}
 use Rattle.tx_rules.specs.At.{AtValue}

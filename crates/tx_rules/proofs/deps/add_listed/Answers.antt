@@ -1,9 +1,9 @@
 use Rattle.std.proofs.Common.{◌++◌, Some, List, ap, sym, ◌∙◌, map, append-nil, arith}
 use Rattle.std.specs.Option.{option_map}
 use Rattle.std.proofs.lemmas.List.{take_all}
-use Rattle.codec_defs.specs.Schema.{OutPoint}
+use Rattle.chain_defs.specs.Schema.{OutPoint}
 use Rattle.cell_defs.specs.Row.{Row}
-use Rattle.tx_defs.specs.Site.{all_there}
+use Rattle.rule_defs.specs.Site.{all_there}
 use Rattle.tx_rules.specs.At.{find_row}
 use Rattle.tx_rules.proofs.AllThere.{there-more-behind, there-none}
 use Rattle.tx_rules.proofs.deps.add_listed.Goals as goal

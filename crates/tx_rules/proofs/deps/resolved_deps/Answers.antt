@@ -1,11 +1,11 @@
 use Rattle.std.proofs.Common.{List, Some, map, ap, ◌∙◌, arith}
 use Rattle.std.specs.Option.{option_map}
 use Rattle.std.proofs.lemmas.List.{take_all}
-use Rattle.codec_defs.specs.Schema.{OutPoint, CellDep, RawTransaction}
+use Rattle.chain_defs.specs.Schema.{OutPoint, CellDep, RawTransaction}
 use Rattle.chain_tree.specs.Told.{blocks_of}
 use Rattle.cell_defs.specs.Row.{Row}
-use Rattle.tx_defs.specs.Site.{all_there}
-use Rattle.tx_defs.specs.Resolving.{cells_of_dep, dep_cells}
+use Rattle.rule_defs.specs.Site.{all_there}
+use Rattle.rule_defs.specs.Resolving.{cells_of_dep, dep_cells}
 use Rattle.tx_rules.specs.At.{found_row}
 use Rattle.tx_rules.proofs.DepLemmas.{cells_of_deps, deps-added, deps-none, all-added, none-added}
 use Rattle.outside.proofs.Endings.{no_answer, handed}

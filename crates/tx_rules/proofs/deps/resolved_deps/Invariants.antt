@@ -1,7 +1,7 @@
 use Rattle.std.proofs.Common.{◌≡◌, Some, List, map, take, None}
 use Rattle.std.specs.Option.{option_map}
 use Rattle.chain_tree.specs.Told.{Stored, blocks_of}
-use Rattle.tx_defs.specs.Site.{Site}
+use Rattle.rule_defs.specs.Site.{Site}
 use Rattle.tx_rules.specs.At.{IsSiteOf, found_row}
 use Rattle.chain_tree.specs.Reading.{HasRead}
 use Rattle.tx_rules.proofs.DepLemmas.{cells_of_deps}

@@ -1,8 +1,8 @@
 use Rattle.std.proofs.Common.{ap, sym, ◌∙◌, arith}
 use Rattle.std.specs.Prelude.{slice_get}
-use Rattle.codec_defs.specs.Shape.{encoded}
-use Rattle.codec_defs.specs.Schema.{cell_dep, RawTransaction}
-use Rattle.codec_defs.proofs.RowLaws.{cell_dep-check}
+use Rattle.chain_defs.specs.Shape.{encoded}
+use Rattle.chain_defs.specs.Schema.{cell_dep, RawTransaction}
+use Rattle.chain_defs.proofs.RowLaws.{cell_dep-check}
 use Rattle.tx_rules.proofs.AllThere.{slice_get-image}
 use Rattle.tx_rules.proofs.form.dep_at.Goals as goal
 

@@ -3,12 +3,12 @@ use Rattle.std.specs.Prelude.{slice_index}
 use Rattle.std.specs.Option.{option_map}
 use Rattle.std.specs.List.{AllZip}
 use Rattle.std.proofs.lemmas.List.{take_all}
-use Rattle.codec_defs.specs.Schema.{RawTransaction}
+use Rattle.chain_defs.specs.Schema.{RawTransaction}
 use Rattle.chain_defs.specs.Branch.{branch_places}
 use Rattle.chain_tree.specs.Entries.{place_of_hash}
 use Rattle.chain_tree.specs.Told.{blocks_of}
-use Rattle.tx_defs.specs.Site.{all_there}
-use Rattle.tx_defs.specs.Resolving.{mature_ancestor, header_heights}
+use Rattle.rule_defs.specs.Site.{all_there}
+use Rattle.rule_defs.specs.Resolving.{mature_ancestor, header_heights}
 use Rattle.tx_rules.proofs.AllThere.{take-push, all_there-map, there-more, there-none, there-all}
 use Rattle.tx_rules.proofs.HeaderLemmas.{zip-push}
 use Rattle.tx_rules.proofs.headers.header_places.Goals as goal

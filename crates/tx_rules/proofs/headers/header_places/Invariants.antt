@@ -2,13 +2,13 @@ use Rattle.std.proofs.Common.{◌≡◌, Option, Some, List, map, take}
 use Rattle.std.specs.Prelude.{slice_index}
 use Rattle.std.specs.Option.{option_map}
 use Rattle.std.specs.List.{AllZip}
-use Rattle.codec_defs.specs.Schema.{OutPoint}
+use Rattle.chain_defs.specs.Schema.{OutPoint}
 use Rattle.cell_defs.specs.Row.{Row}
 use Rattle.chain_defs.specs.Branch.{branch_places}
 use Rattle.chain_tree.specs.Entries.{place_of_hash}
 use Rattle.chain_tree.specs.Told.{Stored, blocks_of}
-use Rattle.tx_defs.specs.Site.{Site, all_there}
-use Rattle.tx_defs.specs.Resolving.{mature_ancestor}
+use Rattle.rule_defs.specs.Site.{Site, all_there}
+use Rattle.rule_defs.specs.Resolving.{mature_ancestor}
 use Rattle.tx_rules.specs.At.{IsSiteOf}
 use Rattle.tx_rules.proofs.headers.header_places.Given as goal
 

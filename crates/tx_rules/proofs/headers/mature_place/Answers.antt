@@ -1,9 +1,9 @@
 use Rattle.std.proofs.Common.{◌≡◌, Some, ℕ, true, false, ap, sym, ◌∙◌}
 use Rattle.std.specs.Prelude.{slice_index}
 use Rattle.std.specs.Option.{option_map}
-use Rattle.time_defs.specs.Specification.{Specification}
-use Rattle.time_defs.specs.Epochs.{is_span_over}
-use Rattle.tx_defs.specs.Site.{height_at}
+use Rattle.chain_defs.specs.Specification.{Specification}
+use Rattle.chain_defs.specs.Epochs.{is_span_over}
+use Rattle.rule_defs.specs.Site.{height_at}
 use Rattle.chain_defs.specs.Branch.{branch_places}
 use Rattle.chain_tree.specs.Told.{blocks_of}
 use Rattle.tx_rules.specs.At.{AtValue}

@@ -1,8 +1,8 @@
 use Rattle.std.proofs.Common.{◌≡◌, ℕ, ◌≤◌, true, List, length, map, drop}
 use Rattle.std.specs.Str.{bytes_eq}
 use Rattle.std.specs.HashSet.{contains}
-use Rattle.codec_defs.specs.Shape.{encoded}
-use Rattle.codec_defs.specs.Schema.{out_point, CellInput}
+use Rattle.chain_defs.specs.Shape.{encoded}
+use Rattle.chain_defs.specs.Schema.{out_point, CellInput}
 use Rattle.chain_defs.specs.Hashes.{are_distinct}
 use Rattle.chain_defs.proofs.DistinctLemmas.{has}
 use Rattle.tx_rules.proofs.inputs.are_inputs_distinct.Given as goal

@@ -1,5 +1,5 @@
 use Rattle.std.proofs.Common.{◌≡◌, Some, map, take}
-use Rattle.tx_defs.specs.Site.{all_there}
+use Rattle.rule_defs.specs.Site.{all_there}
 use Rattle.tx_rules.specs.At.{find_row}
 use Rattle.tx_rules.proofs.inputs.live_inputs.Given as goal
 

@@ -6,7 +6,7 @@ use Rattle.std.proofs.lemmas.List.Elements.{All-append}
 use Rattle.cell_model.specs.Copies.{ResolvedValue}
 use Rattle.chain_defs.specs.Branch.{branch_places}
 use Rattle.chain_tree.specs.Told.{Stored, blocks_of}
-use Rattle.tx_defs.specs.Resolving.{inputs, deps, heights}
+use Rattle.rule_defs.specs.Resolving.{inputs, deps, heights}
 use Rattle.tx_rules.specs.At.{found_row}
 use Rattle.tx_rules.specs.Copying.{row_in, CopiesItsRow, HoldsOutput}
 use Rattle.tx_rules.specs.Outcome.{Copies}

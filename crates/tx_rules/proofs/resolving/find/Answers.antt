@@ -1,7 +1,7 @@
 use Rattle.std.proofs.Common.{◌≡◌, ◌++◌, length, map, ap, ◌∙◌}
-use Rattle.codec_defs.specs.Schema.{CellInput}
+use Rattle.chain_defs.specs.Schema.{CellInput}
 use Rattle.chain_tree.specs.Told.{blocks_of}
-use Rattle.tx_defs.specs.Resolving.{inputs, deps}
+use Rattle.rule_defs.specs.Resolving.{inputs, deps}
 use Rattle.tx_rules.specs.At.{find_row, found_row}
 use Rattle.tx_rules.specs.Steps.{spending_rules, naming_rules, using_rules}
 use Rattle.tx_rules.proofs.AllThere.{all_there-long}

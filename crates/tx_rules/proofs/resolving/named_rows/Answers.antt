@@ -3,7 +3,7 @@ use Rattle.std.specs.Prelude.{slice_index}
 use Rattle.std.specs.Option.{option_map}
 use Rattle.chain_defs.specs.Branch.{branch_places}
 use Rattle.chain_tree.specs.Told.{blocks_of}
-use Rattle.tx_defs.specs.Resolving.{dep_cells, header_heights}
+use Rattle.rule_defs.specs.Resolving.{dep_cells, header_heights}
 use Rattle.tx_rules.specs.At.{found_row}
 use Rattle.tx_rules.specs.Steps.{naming_rules}
 use Rattle.chain_tree.proofs.ReadLemmas.{read_short}

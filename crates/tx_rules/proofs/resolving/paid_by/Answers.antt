@@ -1,6 +1,6 @@
 use Rattle.std.proofs.Common.{◌≡◌, true, Err, refl, ap, sym, ◌∙◌}
 use Rattle.outside.specs.declared.disk.ReadStop.TheVariants.{DiskFault}
-use Rattle.tx_defs.specs.Withdrawals.{names_deposits}
+use Rattle.rule_defs.specs.Withdrawals.{names_deposits}
 use Rattle.tx_rules.specs.Steps.{paying_rules}
 use Rattle.outside.proofs.Endings.{no_answer}
 use Rattle.tx_rules.proofs.Endings.{broken_unread, damage_unread, fault_read}

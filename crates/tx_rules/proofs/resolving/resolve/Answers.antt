@@ -2,8 +2,8 @@ use Rattle.std.proofs.Common.{◌≡◌, ◌<◌, ◌^◌, ℤ, nat_abs, ◌++�
 use Rattle.std.specs.Int.{w128}
 use Rattle.std.specs.List.{All}
 use Rattle.std.proofs.lemmas.Int.{to_z-of_z}
-use Rattle.codec_defs.specs.Schema.{CellInput}
-use Rattle.tx_defs.specs.Capacity.{interest}
+use Rattle.chain_defs.specs.Schema.{CellInput}
+use Rattle.rule_defs.specs.Capacity.{interest}
 use Rattle.chain_tree.specs.Told.{Stored}
 use Rattle.tx_rules.specs.At.{find_row}
 use Rattle.tx_rules.specs.Copying.{CopiesItsRow}

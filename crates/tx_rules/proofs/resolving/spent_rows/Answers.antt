@@ -1,8 +1,8 @@
 use Rattle.std.proofs.Common.{◌≡◌, true, false, Some, None, sym, ap, ◌∙◌}
 use Rattle.std.specs.Prelude.{is_some}
 use Rattle.outside.specs.declared.disk.ReadStop.TheVariants.{DiskFault, Damaged}
-use Rattle.tx_defs.specs.Rules.{has_form}
-use Rattle.tx_defs.specs.Resolving.{spends_each_once}
+use Rattle.rule_defs.specs.TransactionRules.{has_form}
+use Rattle.rule_defs.specs.Resolving.{spends_each_once}
 use Rattle.tx_rules.specs.At.{spends_rows, input_rows}
 use Rattle.outside.proofs.Endings.{no_answer}
 use Rattle.tx_rules.proofs.Endings.{broken_unread, memory_unread, memory_no_damage}

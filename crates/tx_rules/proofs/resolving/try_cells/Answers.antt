@@ -1,8 +1,8 @@
 use Rattle.std.proofs.Common.{◌≡◌, true, false, refl, sym, ◌∙◌}
 use Rattle.std.specs.List.{list_all}
 use Rattle.outside.specs.declared.disk.ReadStop.TheVariants.{DiskFault}
-use Rattle.tx_defs.specs.Resolving.{inputs, deps}
-use Rattle.tx_defs.specs.Age.{is_mature, meets_each_since}
+use Rattle.rule_defs.specs.Resolving.{inputs, deps}
+use Rattle.rule_defs.specs.Age.{is_mature, meets_each_since}
 use Rattle.outside.proofs.Endings.{no_answer}
 use Rattle.tx_rules.proofs.Endings.{broken_unread, damage_unread}
 use Rattle.tx_rules.proofs.SiteLemmas.{inputs-seen, deps-seen}

@@ -1,10 +1,10 @@
 use Rattle.std.proofs.Common.{refl, sym, ◌∙◌, arith}
 use Rattle.chain_tree.specs.Told.{blocks_of}
-use Rattle.tx_defs.specs.Resolving.{inputs}
-use Rattle.tx_defs.specs.Withdrawals.{withdraws_well}
+use Rattle.rule_defs.specs.Resolving.{inputs}
+use Rattle.rule_defs.specs.Withdrawals.{withdraws_well}
 use Rattle.tx_rules.specs.Outcome.{Copies}
 use Rattle.outside.proofs.Endings.{handed}
-use Rattle.fold_defs.proofs.WalkLemmas.{all-fails, all-goes-on, all-passed}
+use Rattle.chain_defs.proofs.WalkLemmas.{all-fails, all-goes-on, all-passed}
 use Rattle.tx_rules.proofs.DepositLemmas.{copy-at, zip-lengths}
 use Rattle.tx_rules.proofs.withdrawals.all_withdraw_well.Goals as goal
 

@@ -5,7 +5,7 @@ use Rattle.chain_defs.specs.Branch.{branch_places}
 use Rattle.chain_tree.specs.declared.entry.Entry.{Entry}
 use Rattle.chain_tree.specs.Entries.{entry_at}
 use Rattle.chain_tree.specs.Told.{blocks_of}
-use Rattle.tx_defs.specs.Resolving.{heights}
+use Rattle.rule_defs.specs.Resolving.{heights}
 use Rattle.tx_rules.specs.At.{AtValue}
 use Rattle.tx_rules.proofs.DepositLemmas.{deposit-none, deposit-entry, deposit-kept, deposit-later}
 use Rattle.tx_rules.proofs.withdrawals.deposit_place.Goals as goal

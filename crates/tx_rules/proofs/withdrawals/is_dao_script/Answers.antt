@@ -1,9 +1,9 @@
 use Rattle.std.proofs.Common.{◌≡◌, ℕ, List, Option, Some, sym, ap, ◌∙◌}
 use Rattle.std.specs.Prelude.{◌==◌, ◌&&◌}
 use Rattle.std.specs.Str.{bytes_eq}
-use Rattle.codec_defs.specs.Schema.{Script}
-use Rattle.time_defs.specs.Specification.{Specification}
-use Rattle.tx_defs.specs.Withdrawals.{is_dao_script}
+use Rattle.chain_defs.specs.Schema.{Script}
+use Rattle.chain_defs.specs.Specification.{Specification}
+use Rattle.rule_defs.specs.Withdrawals.{is_dao_script}
 use Rattle.tx_rules.proofs.withdrawals.is_dao_script.Goals as goal
 
 of-parts : (spec : Specification) (found : Option Script) (s : Script) (hash dao : List ℕ) → found ≡ Some s → hash ≡ s.code_hash → dao ≡ spec.dao_code_hash

@@ -1,12 +1,12 @@
 use Rattle.std.proofs.Common.{◌≡◌, true, refl, sym, ap, ◌∙◌, subst}
 use Rattle.std.proofs.lemmas.Option.{same_Some}
-use Rattle.codec_defs.specs.Shape.{decoded}
-use Rattle.codec_defs.specs.Schema.{cell_output, CellOutput}
+use Rattle.chain_defs.specs.Shape.{decoded}
+use Rattle.chain_defs.specs.Schema.{cell_output, CellOutput}
 use Rattle.chain_tree.specs.Told.{blocks_of}
 use Rattle.cell_model.specs.Copies.{ResolvedValue}
-use Rattle.tx_defs.specs.Withdrawals.{is_dao_script, has_withdrawing_data}
+use Rattle.rule_defs.specs.Withdrawals.{is_dao_script, has_withdrawing_data}
 use Rattle.tx_rules.specs.At.{AtValue}
-use Rattle.time_defs.specs.Specification.{Specification}
+use Rattle.chain_defs.specs.Specification.{Specification}
 use Rattle.tx_rules.specs.Seen.{IsRowOf}
 use Rattle.outside.proofs.Endings.{handed}
 use Rattle.tx_rules.proofs.DepositLemmas.{withdrawing-some}

@@ -6,8 +6,8 @@ use Rattle.cell_defs.specs.Row.{Row}
 use Rattle.cell_model.specs.Copies.{ResolvedValue}
 use Rattle.chain_defs.specs.Branch.{branch_places}
 use Rattle.chain_tree.specs.Told.{blocks_of}
-use Rattle.tx_defs.specs.Resolving.{heights}
-use Rattle.tx_defs.specs.Withdrawals.{is_withdrawing, deposit_height}
+use Rattle.rule_defs.specs.Resolving.{heights}
+use Rattle.rule_defs.specs.Withdrawals.{is_withdrawing, deposit_height}
 use Rattle.outside.proofs.Endings.{handed}
 use Rattle.tx_rules.proofs.DepositLemmas.{heights-below, named-same, made-some, made-none, named-well, unnamed-well, is_some-mapped}
 use Rattle.tx_rules.proofs.withdrawals.withdraws_well.Goals as goal

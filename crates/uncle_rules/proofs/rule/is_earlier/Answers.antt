@@ -1,7 +1,7 @@
 use Rattle.std.proofs.Common.{◌≡◌, ℕ, take, sym, ap, ◌∙◌, arith}
 use Rattle.std.specs.List.{list_any}
 use Rattle.std.proofs.lemmas.Map.Keys.{any_passes_from_place}
-use Rattle.codec_defs.specs.Schema.{UncleBlock}
+use Rattle.chain_defs.specs.Schema.{UncleBlock}
 use Rattle.chain_defs.proofs.KeptLaws.{slice_get-take}
 use Rattle.uncle_rules.specs.Known as known
 use Rattle.uncle_rules.proofs.ListLemmas.{any-next}

@@ -1,8 +1,8 @@
 use Rattle.std.proofs.Common.{◌-◌, List, ℕ, Some, take, ap, ◌∙◌, arith}
 use Rattle.std.specs.List.{list_any}
-use Rattle.codec_defs.specs.Schema.{Header}
+use Rattle.chain_defs.specs.Schema.{Header}
 use Rattle.chain_defs.specs.Branch.{branch}
-use Rattle.family_defs.specs.Uncles.{known_headers}
+use Rattle.rule_defs.specs.Uncles.{known_headers}
 use Rattle.uncle_rules.specs.Known.{is_named}
 use Rattle.uncle_rules.proofs.RuleLemmas.{stands-nowhere, stands-same}
 use Rattle.uncle_rules.proofs.rule.stands_on.Goals as goal

@@ -1,6 +1,6 @@
 use Rattle.std.proofs.Common.{List, take, sym, ap, ◌∙◌, refl, arith}
 use Rattle.chain_defs.specs.Branch.{branch}
-use Rattle.codec_defs.specs.Schema.{Block}
+use Rattle.chain_defs.specs.Schema.{Block}
 use Rattle.uncle_rules.proofs.RuleLemmas.{is_placed, unplaced, ill-proposing, one-more, all-are}
 use Rattle.uncle_rules.proofs.rule.uncles_ok.Goals as goal
 

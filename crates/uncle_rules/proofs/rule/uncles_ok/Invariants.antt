@@ -1,6 +1,6 @@
 use Rattle.std.proofs.Common.{◌≡◌, true, List, take}
 use Rattle.std.specs.List.{list_all, enumerate_from}
-use Rattle.codec_defs.specs.Schema.{Block}
+use Rattle.chain_defs.specs.Schema.{Block}
 use Rattle.chain_defs.specs.Branch.{branch}
 use Rattle.chain_tree.specs.Blocks.{IndexesBlocks}
 use Rattle.uncle_rules.specs.Embedded.{IndexesUncles}

@@ -1,5 +1,5 @@
 use Rattle.std.proofs.Common.{◌∙◌}
-use Rattle.vm_defs.proofs.Numbers.{number-2}
+use Rattle.machine_defs.proofs.Numbers.{number-2}
 use Rattle.vm_mem.proofs.buffer.read_u16.Goals as goal
 
 pub returns : goal.returns

@@ -1,5 +1,5 @@
 use Rattle.std.proofs.Common.{◌+◌, ◌∙◌, ◌<◌, get_or, arith, rules}
-use Rattle.vm_defs.proofs.Numbers.{number-2, number-4}
+use Rattle.machine_defs.proofs.Numbers.{number-2, number-4}
 use Rattle.vm_mem.proofs.buffer.read_u32.Goals as goal
 
 pub returns-clause-number : goal.returns-clause-number

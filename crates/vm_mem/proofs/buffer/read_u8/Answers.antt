@@ -1,4 +1,4 @@
-use Rattle.vm_defs.proofs.Numbers.{number-1}
+use Rattle.machine_defs.proofs.Numbers.{number-1}
 use Rattle.vm_mem.proofs.buffer.read_u8.Goals as goal
 
 pub returns : goal.returns

@@ -1,4 +1,4 @@
-use Rattle.vm_defs.proofs.CodeLaws.{set_code-keeps-code, store-keeps-code}
+use Rattle.machine_defs.proofs.CodeLaws.{set_code-keeps-code, store-keeps-code}
 use Rattle.vm_mem.proofs.laws.code_laws.Goals as goal
 
 pub returns-clause-after_store : goal.returns-clause-after_store

@@ -1,4 +1,4 @@
-use Rattle.vm_defs.proofs.ProgramLaws.{answer_ecall-keeps, goes-on-within-budget, has-steps-enough, runs-step-by-step, runs-stop-by-stop, step-has-memory, step-keeps-account, stops-step-by-step}
+use Rattle.machine_defs.proofs.ProgramLaws.{answer_ecall-keeps, goes-on-within-budget, has-steps-enough, runs-step-by-step, runs-stop-by-stop, step-has-memory, step-keeps-account, stops-step-by-step}
 use Rattle.vm_step.proofs.laws.run_laws.Goals as goal
 
 pub returns-clause-account : goal.returns-clause-account

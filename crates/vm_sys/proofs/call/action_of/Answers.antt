@@ -1,5 +1,5 @@
 use Rattle.std.proofs.Common.{refl}
-use Rattle.sys_defs.specs.Table.{action_of, syscalls}
+use Rattle.machine_defs.specs.SyscallTable.{action_of, syscalls}
 use Rattle.vm_sys.proofs.call.action_of.Goals as goal
 
 pub returns-in-2072 : goal.returns-in-2072

@@ -1,5 +1,5 @@
 use Rattle.std.proofs.Common.{ℕ, ap, length, refl, sym, ◌∙◌}
-use Rattle.vm_defs.specs.Memory.{load}
+use Rattle.machine_defs.specs.Memory.{load}
 use Rattle.vm_mem.specs.declared.stop.MemStop.TheVariants.{Fault}
 use Rattle.vm_sys.proofs.Exits.{ended-held, length-refused, no-word-held, none-held, part-paid, part-refused, stopped-held, word-held, word-refused}
 use Rattle.vm_sys.proofs.loading.load_part.Goals as goal

@@ -1,5 +1,5 @@
 use Rattle.std.proofs.Common.{◌/◌, ap, arith, inl, refl, sym}
-use Rattle.vm_defs.specs.Memory.{page_size}
+use Rattle.machine_defs.specs.Memory.{page_size}
 use Rattle.vm_sys.proofs.Exits.{all-held, first-held, placed-first, placed-out, placed-rest, placed-written, rest-held}
 use Rattle.vm_sys.proofs.loading.place_code.Goals.{then-size-gt-MEMORY_SIZE-via-then-size-gt-MEMORY_SIZE, then-size-gt-MEMORY_SIZE-via-else-size-gt-MEMORY_SIZE+then-at-size}
 use Rattle.vm_sys.proofs.loading.place_code.Goals as goal

@@ -1,8 +1,8 @@
 use Rattle.std.proofs.Common.{inl, refl, sym, ap, ◌∙◌, arith, rules}
 use Rattle.outside.specs.declared.disk.ReadStop.TheVariants.{Damaged}
-use Rattle.vm_defs.specs.declared.step.Step.TheVariants.{Ecall, Fault, NoMemory, Spent}
-use Rattle.sys_defs.specs.World.{Unknown}
-use Rattle.sys_defs.specs.Answer.{syscall}
+use Rattle.machine_defs.specs.declared.step.Step.TheVariants.{Ecall, Fault, NoMemory, Spent}
+use Rattle.machine_defs.specs.World.{Unknown}
+use Rattle.machine_defs.specs.Answer.{syscall}
 use Rattle.vm_sys.specs.Running.{outcome_of}
 use Rattle.vm_sys.proofs.Exits.{counts-none, finds-as, finds-none, outcome-stop}
 use Rattle.vm_sys.proofs.RunLemmas.{fault-advances, handled-later, no-error, spent-advances, stops-later}

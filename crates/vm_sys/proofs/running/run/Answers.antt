@@ -1,9 +1,9 @@
 use Rattle.std.proofs.Common.{◌≡◌, refl, ap, ◌∙◌, arith}
 use Rattle.std.specs.Prelude.{Err}
 use Rattle.outside.specs.declared.disk.ReadStop.TheVariants.{NoMemory}
-use Rattle.sys_defs.specs.Answer.{syscall}
+use Rattle.machine_defs.specs.Answer.{syscall}
 use Rattle.outside.proofs.Endings.{handed}
-use Rattle.sys_laws.proofs.AccountLaws.{syscalls-keep-account}
+use Rattle.machine_defs.proofs.AccountLaws.{syscalls-keep-account}
 use Rattle.vm_sys.proofs.RunLemmas.{accounts-more, accounts-none, cycles-left, ends-within, no-error, run-ends, run-wants, runs-more, runs-none}
 use Rattle.vm_sys.proofs.Exits.{finds-after, finds-as}
 use Rattle.vm_sys.proofs.running.run.Goals as goal

@@ -1,6 +1,6 @@
 use Rattle.std.proofs.Common.{◌≡◌, ◌-◌, true, Some}
-use Rattle.sys_defs.specs.World.{Items}
-use Rattle.sys_defs.specs.Answer.{syscall}
+use Rattle.machine_defs.specs.World.{Items}
+use Rattle.machine_defs.specs.Answer.{syscall}
 use Rattle.vm_sys.proofs.RunLemmas.{Accounts, Runs}
 use Rattle.vm_sys.proofs.running.run.Given as goal
 

@@ -1,5 +1,5 @@
 use Rattle.std.proofs.Common.{rules}
-use Rattle.sys_defs.specs.Answer.{syscall}
+use Rattle.machine_defs.specs.Answer.{syscall}
 use Rattle.vm_sys.proofs.syscall.handle.Goals as goal
 
 pub returns-in-None-clause-some : goal.returns-in-None-clause-some

@@ -1,7 +1,7 @@
 use Rattle.std.proofs.Common.{inl, refl, sym, subst}
 use Rattle.outside.specs.declared.disk.ReadStop.TheVariants.{DiskFault, Damaged, NoMemory}
-use Rattle.sys_defs.specs.World.{Here, Item, Unknown}
-use Rattle.sys_defs.specs.Answer.{asks, with_item}
+use Rattle.machine_defs.specs.World.{Here, Item, Unknown}
+use Rattle.machine_defs.specs.Answer.{asks, with_item}
 use Rattle.vm_sys.specs.declared.syscall.Sys.TheVariants.{Fault}
 use Rattle.vm_sys.specs.Answering.{IsAnswer}
 use Rattle.vm_sys.specs.Actions.{form_meaning}

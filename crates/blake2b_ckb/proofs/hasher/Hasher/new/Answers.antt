@@ -1,5 +1,5 @@
 use Rattle.std.proofs.Common.{refl}
-use Rattle.hash_defs.specs.CkbHash.{initial_state, word_at}
+use Rattle.chain_defs.specs.CkbHash.{initial_state, word_at}
 use Rattle.blake2b_ckb.specs.Hasher.{Holds, state_after}
 use Rattle.blake2b_ckb.proofs.hasher.Hasher.new.Goals as goal
 

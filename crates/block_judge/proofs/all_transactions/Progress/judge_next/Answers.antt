@@ -1,6 +1,6 @@
 use Rattle.std.proofs.Common.{ℕ, ◌+◌, ◌-◌, ℤ, ◌+ℤ◌, [], ◌∷◌, ◌++◌, Some, None, length, refl, ap, ◌∙◌, arith, rules}
 use Rattle.std.proofs.lemmas.List.{length_push}
-use Rattle.rule_names.specs.Number.{rule_number}
+use Rattle.rule_defs.specs.RuleNumber.{rule_number}
 use Rattle.chain_tree.proofs.ReadLemmas.{read_short}
 use Rattle.block_judge.proofs.Exits.{as_step, no_error, no_rule, no_damage}
 use Rattle.block_judge.proofs.MovedLemmas.{can-move-one}

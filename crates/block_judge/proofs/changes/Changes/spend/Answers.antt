@@ -1,5 +1,5 @@
 use Rattle.std.proofs.Common.{List, take, sym, ap, ◌∙◌, subst, arith}
-use Rattle.codec_defs.specs.Schema.{OutPoint}
+use Rattle.chain_defs.specs.Schema.{OutPoint}
 use Rattle.cell_defs.specs.Events.{Event, Spends}
 use Rattle.cell_defs.specs.Row.{row_after}
 use Rattle.block_judge.specs.Changes.{with_changes}

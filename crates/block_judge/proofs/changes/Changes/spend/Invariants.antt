@@ -1,5 +1,5 @@
 use Rattle.std.proofs.Common.{◌≡◌, ℕ, Option, take}
-use Rattle.codec_defs.specs.Schema.{OutPoint}
+use Rattle.chain_defs.specs.Schema.{OutPoint}
 use Rattle.cell_defs.specs.Row.{Row, row_after}
 use Rattle.block_judge.specs.Changes.{with_changes}
 use Rattle.block_judge.proofs.ChangeLemmas.{spends}

@@ -1,8 +1,8 @@
 use Rattle.std.proofs.Common.{◌≡◌, ◌++◌, ◌∷◌, [], List, Vec, Global, ℕ, length, ap, ◌∙◌, arith}
 use Rattle.std.proofs.lemmas.List.{length_push}
-use Rattle.codec_defs.specs.Shape.{decoded}
-use Rattle.codec_defs.specs.Schema.{block}
-use Rattle.codec_defs.proofs.ShapeLaws.{IsA-decoded}
+use Rattle.chain_defs.specs.Shape.{decoded}
+use Rattle.chain_defs.specs.Schema.{block}
+use Rattle.chain_defs.proofs.ShapeLaws.{IsA-decoded}
 use Rattle.cell_model.specs.ListBlocks.{ListBlocksValue, contents, stored_from, ids_of}
 use Rattle.cell_model.proofs.ListLemmas.{as_many, canonical-decoded, hand-more, seen-push, kept_more, ids_more}
 use Rattle.cell_model.proofs.list_blocks.ListBlocks.push.Goals as goal

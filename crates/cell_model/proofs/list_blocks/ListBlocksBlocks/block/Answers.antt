@@ -1,6 +1,6 @@
 use Rattle.std.proofs.Common.{◌≡◌, ◌<◌, ℕ, Some, length, ap, sym, ◌∙◌, arith, rules}
-use Rattle.codec_defs.specs.Schema.{block}
-use Rattle.codec_defs.proofs.ShapeLaws.{IsA-decoded}
+use Rattle.chain_defs.specs.Schema.{block}
+use Rattle.chain_defs.proofs.ShapeLaws.{IsA-decoded}
 use Rattle.chain_tree.specs.Told.{Stored}
 use Rattle.cell_model.specs.ListBlocks.{ListBlocksValue}
 use Rattle.cell_model.proofs.ListLemmas.{as_many, read_at, entry_at, by_hand, canonical_at}

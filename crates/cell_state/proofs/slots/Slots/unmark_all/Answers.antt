@@ -1,5 +1,5 @@
 use Rattle.std.proofs.Common.{List, if◌then◌else◌, ap, ◌∙◌, subst}
-use Rattle.codec_defs.specs.Schema.{OutPoint}
+use Rattle.chain_defs.specs.Schema.{OutPoint}
 use Rattle.cell_defs.specs.Events.{Event, same_out_point}
 use Rattle.cell_state.specs.Slots.{at}
 use Rattle.cell_state.specs.Walk.{value_of}

@@ -1,5 +1,5 @@
 use Rattle.std.proofs.Common.{◌+◌, List, drop, refl, sym, subst}
-use Rattle.codec_defs.specs.Schema.{OutPoint}
+use Rattle.chain_defs.specs.Schema.{OutPoint}
 use Rattle.cell_defs.specs.Row.{Row}
 use Rattle.cell_state.specs.Passes.{unmarked}
 use Rattle.cell_state.specs.Undo.{is_at}

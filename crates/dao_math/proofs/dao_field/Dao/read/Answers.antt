@@ -1,5 +1,5 @@
 use Rattle.std.proofs.Common.{◌≡◌, length, rules}
-use Rattle.time_defs.specs.Dao.{field_bytes}
+use Rattle.chain_defs.specs.Dao.{field_bytes}
 use Rattle.dao_math.proofs.FieldBytes.{four-parts}
 use Rattle.dao_math.proofs.dao_field.Dao.read.Goals as goal
 

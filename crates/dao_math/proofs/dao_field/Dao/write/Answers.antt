@@ -1,6 +1,6 @@
 use Rattle.std.proofs.Common.{◌∙◌, ap, refl, rules}
-use Rattle.time_defs.specs.Dao.{field_bytes, field_of_bytes}
-use Rattle.time_defs.proofs.FieldBytes.{field_of_bytes-field_bytes}
+use Rattle.chain_defs.specs.Dao.{field_bytes, field_of_bytes}
+use Rattle.chain_defs.proofs.FieldBytes.{field_of_bytes-field_bytes}
 use Rattle.dao_math.proofs.FieldBytes.{four-numbers}
 use Rattle.dao_math.proofs.dao_field.Dao.write.Goals as goal
 

@@ -1,4 +1,4 @@
-use Rattle.vm_defs.specs.Elf.{program_of}
+use Rattle.machine_defs.specs.Elf.{program_of}
 use Rattle.elf_load.proofs.judging.ValidElf.place.Goals as goal
 
 pub returns-clause-placed : goal.returns-clause-placed

@@ -1,7 +1,7 @@
 use Rattle.std.proofs.Common.{◌+◌, ◌≤◌, ◌≡◌, subst, ◌∙◌, slice_range}
 use Rattle.std.specs.List.{list_any}
-use Rattle.vm_defs.specs.Memory.{page_count}
-use Rattle.vm_defs.specs.Elf.{can_run, first_page, page_span}
+use Rattle.machine_defs.specs.Memory.{page_count}
+use Rattle.machine_defs.specs.Elf.{can_run, first_page, page_span}
 use Rattle.elf_load.specs.Judging.{is_closed}
 use Rattle.elf_load.proofs.Touching.{marked-clashes}
 use Rattle.elf_load.proofs.touched.Touched.clashes.Goals as goal

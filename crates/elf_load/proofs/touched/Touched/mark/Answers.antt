@@ -1,6 +1,6 @@
 use Rattle.std.proofs.Common.{◌+◌, ◌≤◌, subst}
-use Rattle.vm_defs.specs.Memory.{page_count}
-use Rattle.vm_defs.specs.Elf.{first_page}
+use Rattle.machine_defs.specs.Memory.{page_count}
+use Rattle.machine_defs.specs.Elf.{first_page}
 use Rattle.elf_load.proofs.Touching.{marks-more}
 use Rattle.elf_load.proofs.touched.Touched.mark.Goals as goal
 

@@ -1,5 +1,5 @@
 use Rattle.std.proofs.Common.{refl}
-use Rattle.vm_defs.specs.Memory.{page_count}
+use Rattle.machine_defs.specs.Memory.{page_count}
 use Rattle.elf_load.proofs.Touching.{marks-none}
 use Rattle.elf_load.proofs.touched.Touched.new.Goals as goal
 

@@ -1,5 +1,5 @@
 use Rattle.std.proofs.Common.{sym, ◌∙◌}
-use Rattle.fold_defs.proofs.FirstLemmas.{first_failing-fails, first_failing-holds, first_failing-none}
+use Rattle.chain_defs.proofs.FirstLemmas.{first_failing-fails, first_failing-holds, first_failing-none}
 use Rattle.epochs.proofs.specification.Spec.read.Goals as goal
 
 pub returns-then-not-keeps_s1-clause-broken : goal.returns-then-not-keeps_s1-clause-broken

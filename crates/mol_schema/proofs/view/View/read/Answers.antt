@@ -1,6 +1,6 @@
 use Rattle.std.proofs.Common.{Some, ap, ◌∙◌, arith}
 use Rattle.std.proofs.lemmas.Bool.{iff_false}
-use Rattle.codec_defs.proofs.ShapeLaws.{read-some, read-none}
+use Rattle.chain_defs.proofs.ShapeLaws.{read-some, read-none}
 use Rattle.mol_schema.proofs.view.View.read.Goals as goal
 
 pub returns-then-is_encoding-clause-value : goal.returns-then-is_encoding-clause-value

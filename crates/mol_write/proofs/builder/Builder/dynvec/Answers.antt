@@ -1,6 +1,6 @@
 use Rattle.std.proofs.Common.{◌≡◌, ℕ, ◌+◌, ◌*◌, List, ◌++◌, length, map, sym, ap, subst, ◌∙◌, arith}
 use Rattle.std.specs.Int.{w32, to_le_bytes}
-use Rattle.codec_defs.specs.Molecule.{offsets, IsDynvec}
+use Rattle.chain_defs.specs.Molecule.{offsets, IsDynvec}
 use Rattle.mol_write.specs.Builder.{fields_by_lengths}
 use Rattle.mol_write.proofs.Fields.{lengths-fields_by_lengths, is_dynvec}
 use Rattle.mol_write.proofs.builder.Builder.dynvec.Goals as goal

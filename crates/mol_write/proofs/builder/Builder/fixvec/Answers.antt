@@ -1,6 +1,6 @@
 use Rattle.std.proofs.Common.{◌≡◌, ℕ, List, ◌++◌, length, ap, subst, ◌∙◌, arith}
 use Rattle.std.specs.Int.{w32, to_le_bytes}
-use Rattle.codec_defs.specs.Molecule.{IsFixvec}
+use Rattle.chain_defs.specs.Molecule.{IsFixvec}
 use Rattle.mol_write.specs.Builder.{AllHaveSize}
 use Rattle.mol_write.proofs.Fields.{is_fixvec}
 use Rattle.mol_write.proofs.builder.Builder.fixvec.Goals as goal

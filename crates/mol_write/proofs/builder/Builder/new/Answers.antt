@@ -1,5 +1,5 @@
 use Rattle.std.proofs.Common.{rules, ◌≡◌, [], refl, ap, ◌∙◌}
-use Rattle.codec_defs.specs.Molecule.{full_size, header_size}
+use Rattle.chain_defs.specs.Molecule.{full_size, header_size}
 use Rattle.mol_write.specs.Builder.{fields_by_lengths}
 use Rattle.mol_write.proofs.builder.Builder.new.Goals as goal
 

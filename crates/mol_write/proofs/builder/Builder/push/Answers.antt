@@ -1,6 +1,6 @@
 use Rattle.std.proofs.Common.{◌≡◌, ℕ, ◌+◌, List, [], ◌∷◌, ◌++◌, length, ap, ◌∙◌, arith, length-append}
 use Rattle.std.specs.Prelude.{sum}
-use Rattle.codec_defs.specs.Molecule.{full_size}
+use Rattle.chain_defs.specs.Molecule.{full_size}
 use Rattle.mol_write.specs.Builder.{fields_by_lengths}
 use Rattle.mol_write.proofs.Fields.{sum-push, fields_by_lengths-push, full_size-push, full_size-fields_by_lengths}
 use Rattle.mol_write.proofs.builder.Builder.push.Goals as goal

@@ -1,5 +1,5 @@
 use Rattle.std.proofs.Common.{ap, arith}
-use Rattle.codec_defs.specs.Molecule.{full_size}
+use Rattle.chain_defs.specs.Molecule.{full_size}
 use Rattle.mol_write.proofs.Fields.{full_size-fields_by_lengths}
 use Rattle.mol_write.proofs.builder.Builder.size.Goals as goal
 

@@ -4,7 +4,7 @@ use Rattle.std.specs.Str.{bytes_eq}
 use Rattle.std.specs.HashSet.{contains}
 use Rattle.chain_defs.specs.Branch.{branch}
 use Rattle.chain_tree.specs.Told.{blocks_of}
-use Rattle.window_defs.specs.Window.{proposes_at}
+use Rattle.rule_defs.specs.Window.{proposes_at}
 use Rattle.outside.proofs.Endings.{handed, no_answer}
 use Rattle.chain_tree.proofs.ReadLemmas.{unread, read_on}
 use Rattle.proposal_window.proofs.ProposedLemmas.{window-more, window-proposes}

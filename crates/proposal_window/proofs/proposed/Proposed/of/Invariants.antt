@@ -6,7 +6,7 @@ use Rattle.chain_defs.specs.Branch.{branch}
 use Rattle.chain_tree.specs.Blocks.{IndexesBlocks}
 use Rattle.chain_tree.specs.Told.{Stored, blocks_of}
 use Rattle.chain_tree.specs.Reading.{HasRead}
-use Rattle.window_defs.specs.Window.{proposes_at}
+use Rattle.rule_defs.specs.Window.{proposes_at}
 use Rattle.proposal_window.proofs.proposed.Proposed.of.Given as goal
 
 -- the ids are those that the branch proposes at the heights of the window so far; the source of blocks was read to a good end

@@ -2,7 +2,7 @@ use Rattle.std.proofs.Common.{◌≡◌, ◌<◌, List, None, Some, length, ap, 
 use Rattle.std.specs.List.{AllZip}
 use Rattle.std.specs.Option.{option_copied}
 use Rattle.cell_model.specs.Copies.{ResolvedValue}
-use Rattle.script_defs.specs.Codes.{Is}
+use Rattle.verdict_defs.specs.Codes.{Is}
 use Rattle.script_run.specs.Locating.{first_with_data}
 use Rattle.script_run.specs.Shown.{IsShownAs}
 use Rattle.script_run.proofs.CodeLemmas.{data-found, data-missing, data-within}

@@ -1,6 +1,6 @@
 use Rattle.std.proofs.Common.{◌≡◌, ◌<◌, ◌++◌, ◌∷◌, [], ℕ, List, length, get_or, Some, arith, refl, ap, sym, ◌∙◌, subst}
 use Rattle.std.proofs.Math.ListN.{set}
-use Rattle.codec_defs.specs.Schema.{Script}
+use Rattle.chain_defs.specs.Schema.{Script}
 use Rattle.script_run.specs.Shown.{GroupValue}
 use Rattle.script_run.specs.Grouping.{FindsEach, with_input, changed, place_with}
 use Rattle.script_run.proofs.GroupLemmas.{place-within, changed-at, finds-changed}

@@ -1,5 +1,5 @@
 use Rattle.std.proofs.Common.{◌≡◌, ap, ◌∙◌}
-use Rattle.codec_defs.specs.Schema.{CellOutput}
+use Rattle.chain_defs.specs.Schema.{CellOutput}
 use Rattle.cell_defs.specs.Cell.{script_hash}
 use Rattle.cell_defs.specs.Row.{Row}
 use Rattle.cell_model.specs.Copies.{ResolvedValue}

@@ -1,6 +1,6 @@
 use Rattle.std.proofs.Common.{◌≡◌, List, Option, length, map, take, ap, ◌∙◌, arith}
 use Rattle.std.proofs.lemmas.List.{take_all}
-use Rattle.codec_defs.specs.Schema.{RawTransaction, CellOutput, Script}
+use Rattle.chain_defs.specs.Schema.{RawTransaction, CellOutput, Script}
 use Rattle.script_run.specs.Grouping.{grouped}
 use Rattle.script_run.proofs.WalkLemmas.{rows-long, row-typed, map-more, map-taken}
 use Rattle.script_run.proofs.groups.Grouping.join_outputs.Goals as goal

@@ -1,5 +1,5 @@
 use Rattle.std.proofs.Common.{◌≡◌, List, [], Option, map, take}
-use Rattle.codec_defs.specs.Schema.{CellOutput, Script}
+use Rattle.chain_defs.specs.Schema.{CellOutput, Script}
 use Rattle.script_run.specs.Grouping.{FindsEach, grouped}
 use Rattle.script_run.proofs.groups.Grouping.join_outputs.Given as goal
 

@@ -1,6 +1,6 @@
 use Rattle.std.proofs.Common.{◌≡◌, [], ◌∷◌, ◌++◌, Option, None, refl, ap, sym, ◌∙◌}
 use Rattle.std.specs.Option.{option_map}
-use Rattle.codec_defs.specs.Schema.{CellOutput, Script}
+use Rattle.chain_defs.specs.Schema.{CellOutput, Script}
 use Rattle.cell_defs.specs.Cell.{script_hash}
 use Rattle.cell_defs.specs.Row.{Row}
 use Rattle.cell_model.specs.Copies.{ResolvedValue}

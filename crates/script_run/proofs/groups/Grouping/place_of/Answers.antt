@@ -2,7 +2,7 @@ use Rattle.std.proofs.Common.{◌≡◌, ℕ, ◌++◌, ◌∷◌, [], Some, Non
 use Rattle.std.specs.Map.{lookup}
 use Rattle.std.specs.Option.{option_copied}
 use Rattle.std.specs.Str.{bytes_eq}
-use Rattle.codec_defs.specs.Schema.{Script}
+use Rattle.chain_defs.specs.Schema.{Script}
 use Rattle.script_run.specs.Shown.{GroupValue}
 use Rattle.script_run.specs.Grouping.{FindsEach, new_group, place_with}
 use Rattle.script_run.proofs.GroupLemmas.{with-found, with-new, finds-new, new-place}

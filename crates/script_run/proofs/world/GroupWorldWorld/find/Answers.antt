@@ -1,7 +1,7 @@
 use Rattle.std.proofs.Common.{◌≡◌, refl, sym, ap, ◌∙◌}
 use Rattle.std.specs.Prelude.{Err}
 use Rattle.outside.specs.declared.disk.ReadStop.TheVariants.{NoMemory}
-use Rattle.sys_defs.specs.World.{Here, NoIndex, Missing, Unknown}
+use Rattle.machine_defs.specs.World.{Here, NoIndex, Missing, Unknown}
 use Rattle.script_run.specs.declared.bytes.Answer.TheVariants as answer
 use Rattle.script_run.specs.declared.bytes.Lookup.TheVariants as look
 use Rattle.script_run.specs.Lookups.{bytes_of, header_part, known_items}

@@ -1,6 +1,6 @@
 use Rattle.std.proofs.Common.{◌≡◌, length, refl, ap, arith}
 use Rattle.std.proofs.lemmas.Int.{ints}
-use Rattle.time_defs.specs.Specification.{Specification}
+use Rattle.chain_defs.specs.Specification.{Specification}
 use Rattle.block_judge.specs.Standing.{seen}
 use Rattle.block_judge.proofs.MovedLemmas.{interest-sum, can-move-more}
 use Rattle.tx_pool.specs.Draft.{draft_of}

@@ -1,6 +1,6 @@
 use Rattle.std.proofs.Common.{sym, ap, ◌∙◌}
 use Rattle.std.specs.Prelude.{Err}
-use Rattle.rule_names.specs.Number.{rule_number}
+use Rattle.rule_defs.specs.RuleNumber.{rule_number}
 use Rattle.block_judge.specs.Standing.{seen}
 use Rattle.block_judge.specs.declared.stop.JudgeStop.TheVariants.{Read}
 use Rattle.block_judge.proofs.Exits.{same_stop}

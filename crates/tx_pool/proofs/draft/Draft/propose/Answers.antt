@@ -1,7 +1,7 @@
 use Rattle.std.proofs.Common.{◌≡◌, false, inl, inr, refl, sym, ap, ◌∙◌, arith}
 use Rattle.std.specs.Str.{bytes_eq}
 use Rattle.std.specs.HashSet.{contains}
-use Rattle.time_defs.specs.Specification.{Specification}
+use Rattle.chain_defs.specs.Specification.{Specification}
 use Rattle.block_judge.specs.Standing.{seen}
 use Rattle.tx_pool.specs.Draft.{draft_of}
 use Rattle.tx_pool.proofs.DraftLemmas.{fits-proposed, or-cond, propose-later, propose-fits, proposed-so-far, so-far-as}

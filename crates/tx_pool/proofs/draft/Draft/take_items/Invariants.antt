@@ -1,5 +1,5 @@
 use Rattle.std.proofs.Common.{◌≡◌, ◌≤◌, List, length, map, take, Some, None}
-use Rattle.fold_defs.specs.Fold.{keep}
+use Rattle.chain_defs.specs.Fold.{keep}
 use Rattle.chain_defs.specs.Branch.{branch}
 use Rattle.chain_tree.specs.Told.{Stored, blocks_of}
 use Rattle.chain_tree.specs.Reading.{HasRead}

@@ -1,6 +1,6 @@
 use Rattle.std.proofs.Common.{◌≡◌, List, ◌++◌, ◌∷◌, [], map, take, refl, ap, sym, ◌∙◌, arith, append_assoc}
 use Rattle.chain_defs.specs.Kept.{header_hash}
-use Rattle.codec_defs.specs.Schema.{Header}
+use Rattle.chain_defs.specs.Schema.{Header}
 use Rattle.uncle_rules.specs.Embedded.{Embedded, embedded_at}
 use Rattle.uncle_rules.proofs.ListLemmas.{map-push}
 use Rattle.uncle_rules.proofs.index.Uncles.add.Goals as goal

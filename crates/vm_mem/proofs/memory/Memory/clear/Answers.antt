@@ -1,5 +1,5 @@
 use Rattle.std.proofs.Common.{replicate}
-use Rattle.vm_defs.specs.Memory.{store}
+use Rattle.machine_defs.specs.Memory.{store}
 use Rattle.vm_mem.proofs.Slotted.{changed-holding, clear-holding}
 use Rattle.vm_mem.proofs.memory.Memory.clear.Goals as goal
 

@@ -1,4 +1,4 @@
-use Rattle.vm_defs.specs.Memory.{set_code}
+use Rattle.machine_defs.specs.Memory.{set_code}
 use Rattle.vm_mem.proofs.Slotted.{changed-holding, set_code-holding}
 use Rattle.vm_mem.proofs.memory.Memory.set_code.Goals as goal
 

@@ -1,4 +1,4 @@
-use Rattle.vm_defs.specs.Memory.{byte_count, bytes_of}
+use Rattle.machine_defs.specs.Memory.{byte_count, bytes_of}
 use Rattle.vm_mem.proofs.Slotted.{stores-holding}
 use Rattle.vm_mem.proofs.memory.Memory.store.Goals as goal
 

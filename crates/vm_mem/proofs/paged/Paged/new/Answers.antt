@@ -1,6 +1,6 @@
 use Rattle.std.proofs.Common.{◌≡◌, replicate, refl, ap, ◌∙◌, rules, length}
-use Rattle.vm_defs.specs.declared.memory.PageKind.TheVariants.{Data}
-use Rattle.vm_defs.specs.Memory.{new_memory, page_count}
+use Rattle.machine_defs.specs.declared.memory.PageKind.TheVariants.{Data}
+use Rattle.machine_defs.specs.Memory.{new_memory, page_count}
 use Rattle.vm_mem.proofs.Zeros.{count-is}
 use Rattle.vm_mem.proofs.paged.Paged.new.Goals as goal
 

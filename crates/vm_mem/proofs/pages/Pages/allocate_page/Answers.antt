@@ -1,5 +1,5 @@
 use Rattle.std.proofs.Common.{◌+◌, ◌∙◌, ap, rules}
-use Rattle.vm_defs.specs.Memory.{page_size}
+use Rattle.machine_defs.specs.Memory.{page_size}
 use Rattle.vm_mem.specs.Pages.{Pages}
 use Rattle.vm_mem.proofs.Starts.{grown-by, makes, makes-added, makes-allocated, makes-bytes, makes-kept, makes-placed, none-is-not, some-is-allocated}
 use Rattle.vm_mem.proofs.pages.Pages.allocate_page.Goals as goal

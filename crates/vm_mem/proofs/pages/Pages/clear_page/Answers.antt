@@ -1,7 +1,7 @@
 use Rattle.std.proofs.Common.{◌∙◌, ◌+◌, ◌/◌, ◌%◌, nat_lt, length, replicate, ap}
 use Rattle.std.specs.Vec.{with_items}
 use Rattle.std.proofs.lemmas.List.{with_items_is}
-use Rattle.vm_defs.specs.Memory.{overwritten, page_size}
+use Rattle.machine_defs.specs.Memory.{overwritten, page_size}
 use Rattle.vm_mem.proofs.Placed.{page-below}
 use Rattle.vm_mem.proofs.Starts.{clean-is, clean-placed, cleared-marked, edits-dirty, placed-edited, write-placed}
 use Rattle.vm_mem.proofs.pages.Pages.clear_page.Goals as goal

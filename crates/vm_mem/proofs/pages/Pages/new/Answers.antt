@@ -1,5 +1,5 @@
 use Rattle.std.proofs.Common.{◌≡◌, ◌∙◌, ℕ, Bool, false, ap, replicate, rules}
-use Rattle.vm_defs.specs.Memory.{page_count, page_size}
+use Rattle.machine_defs.specs.Memory.{page_count, page_size}
 use Rattle.vm_mem.proofs.Starts.{new-contents, new-placed}
 use Rattle.vm_mem.proofs.Zeros.{count-is, new-bytes, new-made}
 use Rattle.vm_mem.proofs.pages.Pages.new.Goals as goal

@@ -1,5 +1,5 @@
 use Rattle.std.proofs.Common.{rules}
-use Rattle.vm_defs.specs.Memory.{memory_size}
+use Rattle.machine_defs.specs.Memory.{memory_size}
 use Rattle.vm_mem.proofs.Starts.{number-at}
 use Rattle.vm_mem.proofs.pages.Pages.read_u16.Goals as goal
 

@@ -1,6 +1,6 @@
 use Rattle.std.proofs.Common.{◌≡◌, ◌+◌, arith, slice_range}
-use Rattle.vm_defs.specs.Memory.{number_of}
-use Rattle.vm_defs.proofs.Numbers.{halves-4}
+use Rattle.machine_defs.specs.Memory.{number_of}
+use Rattle.machine_defs.proofs.Numbers.{halves-4}
 use Rattle.vm_mem.proofs.pages.Pages.read_u32_over_pages.Goals as goal
 
 pub returns-clause-number : goal.returns-clause-number

@@ -1,7 +1,7 @@
 use Rattle.std.proofs.Common.{◌∙◌, ◌+◌, ◌/◌, ◌%◌, true, ap}
 use Rattle.std.specs.Vec.{with_items}
 use Rattle.std.proofs.lemmas.List.{with_items_is}
-use Rattle.vm_defs.specs.Memory.{overwritten, page_size}
+use Rattle.machine_defs.specs.Memory.{overwritten, page_size}
 use Rattle.vm_mem.proofs.Starts.{edited-marked, edits-allocated, placed-edited, write-placed}
 use Rattle.vm_mem.proofs.pages.Pages.write_page.Goals as goal
 

@@ -1,5 +1,5 @@
 use Rattle.std.proofs.Common.{refl}
-use Rattle.vm_defs.specs.Step.{after}
+use Rattle.machine_defs.specs.Step.{after}
 use Rattle.vm_step.specs.Running.{with_place}
 use Rattle.vm_step.proofs.Executing.{executes-went, went-stands}
 use Rattle.vm_step.proofs.machine.Machine.advance.Goals as goal

@@ -1,6 +1,6 @@
 use Rattle.std.proofs.Common.{ℕ, ap, refl, w32}
 use Rattle.std.proofs.lemmas.Int.{to_z-of_z}
-use Rattle.vm_defs.specs.Step.{after}
+use Rattle.machine_defs.specs.Step.{after}
 use Rattle.vm_step.specs.Running.{with_place}
 use Rattle.vm_step.proofs.Executing.{executes-went, went-stands}
 use Rattle.vm_step.proofs.machine.Machine.branch.Goals as goal

@@ -1,6 +1,6 @@
 use Rattle.std.proofs.Common.{ap, sym, ◌∙◌, ◌^◌}
 use Rattle.std.proofs.lemmas.Bool.{le-ltb, lt-ltb}
-use Rattle.vm_defs.specs.Step.{charged}
+use Rattle.machine_defs.specs.Step.{charged}
 use Rattle.vm_step.specs.Running.{RunningMachine}
 use Rattle.vm_step.specs.contracts.machine.Machine.{the_view}
 use Rattle.vm_step.proofs.Budget.{paid-is, paid-lasts, paid-within}

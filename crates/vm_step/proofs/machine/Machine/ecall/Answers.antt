@@ -1,5 +1,5 @@
 use Rattle.std.proofs.Common.{ap}
-use Rattle.vm_defs.specs.Step.{after}
+use Rattle.machine_defs.specs.Step.{after}
 use Rattle.vm_step.specs.Running.{RunningMachine, with_place}
 use Rattle.vm_step.proofs.Executing.{ended-stands, executes-ecall}
 use Rattle.vm_step.proofs.machine.Machine.ecall.Goals as goal

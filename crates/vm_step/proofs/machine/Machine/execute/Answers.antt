@@ -1,7 +1,7 @@
 -- Each arm leaves what the kind of its instruction ensures. An immediate is a number of 32 bits, and reads as itself.
 use Rattle.std.proofs.Common.{◌≡◌, rules, sym, w32}
 use mir.Val.{of_z, to_z}
-use Rattle.vm_defs.specs.Step.{effect, register}
+use Rattle.machine_defs.specs.Step.{effect, register}
 use Rattle.vm_step.proofs.machine.Machine.execute.Goals as goal
 
 pub returns-in-Lui : goal.returns-in-Lui

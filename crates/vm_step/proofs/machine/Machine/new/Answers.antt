@@ -1,5 +1,5 @@
 use Rattle.std.proofs.Common.{◌≡◌, ◌+◌, ◌-◌, ◌≤◌, ℕ, ap, arith, refl, subst, sym}
-use Rattle.vm_defs.specs.Program.{initial_registers, new_machine}
+use Rattle.machine_defs.specs.Program.{initial_registers, new_machine}
 use Rattle.vm_step.specs.Running.{cycles_of}
 use Rattle.vm_step.proofs.Budget.{cycles-at-first}
 use Rattle.vm_step.proofs.machine.Machine.new.Goals as goal

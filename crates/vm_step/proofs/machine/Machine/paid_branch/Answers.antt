@@ -1,7 +1,7 @@
 use Rattle.std.proofs.Common.{None, ap, refl, sym, ◌∙◌, w32}
 use Rattle.std.proofs.lemmas.Int.{to_z-of_z}
-use Rattle.vm_defs.specs.declared.step.Step.TheVariants.{Spent}
-use Rattle.vm_defs.specs.Step.{branch}
+use Rattle.machine_defs.specs.declared.step.Step.TheVariants.{Spent}
+use Rattle.machine_defs.specs.Step.{branch}
 use Rattle.vm_step.specs.Running.{RunningMachine, with_place}
 use Rattle.vm_step.proofs.Executing.{ended-stands}
 use Rattle.vm_step.proofs.Paying.{executes-paid, executes-spent}

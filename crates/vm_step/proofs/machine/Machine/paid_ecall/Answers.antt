@@ -1,6 +1,6 @@
 use Rattle.std.proofs.Common.{None, ap, refl, sym, ◌∙◌}
-use Rattle.vm_defs.specs.declared.step.Step.TheVariants.{Spent, Ecall}
-use Rattle.vm_defs.specs.Step.{past_instruction}
+use Rattle.machine_defs.specs.declared.step.Step.TheVariants.{Spent, Ecall}
+use Rattle.machine_defs.specs.Step.{past_instruction}
 use Rattle.vm_step.specs.Running.{RunningMachine, with_place}
 use Rattle.vm_step.proofs.Executing.{ended-stands}
 use Rattle.vm_step.proofs.Paying.{executes-paid, executes-spent}

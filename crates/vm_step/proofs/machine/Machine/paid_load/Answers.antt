@@ -1,8 +1,8 @@
 use Rattle.std.proofs.Common.{None, ap, refl, sym, ◌∙◌, w32}
 use Rattle.std.proofs.lemmas.Int.{to_z-of_z}
-use Rattle.vm_defs.specs.declared.step.Step.TheVariants.{Spent}
-use Rattle.vm_defs.specs.Memory.{byte_count}
-use Rattle.vm_defs.specs.Step.{load}
+use Rattle.machine_defs.specs.declared.step.Step.TheVariants.{Spent}
+use Rattle.machine_defs.specs.Memory.{byte_count}
+use Rattle.machine_defs.specs.Step.{load}
 use Rattle.vm_mem.specs.Kept.{target_of}
 use Rattle.vm_step.specs.Extension.{extended}
 use Rattle.vm_step.specs.Running.{RunningMachine, with_place}

@@ -1,8 +1,8 @@
 use Rattle.std.proofs.Common.{ap, refl, sym, ◌∙◌, w32}
 use Rattle.std.proofs.lemmas.Int.{to_z-of_z}
-use Rattle.vm_defs.specs.declared.step.Step.TheVariants.{Spent}
-use Rattle.vm_defs.specs.Memory.{byte_count}
-use Rattle.vm_defs.specs.Step.{register, store}
+use Rattle.machine_defs.specs.declared.step.Step.TheVariants.{Spent}
+use Rattle.machine_defs.specs.Memory.{byte_count}
+use Rattle.machine_defs.specs.Step.{register, store}
 use Rattle.vm_step.specs.Running.{RunningMachine, range_at, with_place}
 use Rattle.vm_step.proofs.Executing.{ended-stands}
 use Rattle.vm_step.proofs.Paying.{executes-paid, executes-spent}

@@ -1,6 +1,6 @@
 use Rattle.std.proofs.Common.{None, ap, refl, sym, ◌∙◌}
-use Rattle.vm_defs.specs.declared.step.Step.TheVariants.{Spent}
-use Rattle.vm_defs.specs.Step.{write}
+use Rattle.machine_defs.specs.declared.step.Step.TheVariants.{Spent}
+use Rattle.machine_defs.specs.Step.{write}
 use Rattle.vm_mem.specs.Kept.{target_of}
 use Rattle.vm_step.specs.Running.{RunningMachine, with_place}
 use Rattle.vm_step.proofs.Executing.{ended-stands}

@@ -1,5 +1,5 @@
 use Rattle.std.proofs.Common.{refl, ap, ◌∙◌}
-use Rattle.vm_defs.specs.Step.{register}
+use Rattle.machine_defs.specs.Step.{register}
 use Rattle.vm_step.specs.Running.{RunningMachine}
 use Rattle.vm_step.specs.contracts.machine.Machine.{the_view}
 use Rattle.vm_step.proofs.Registers.{register-read}

@@ -1,5 +1,5 @@
 use Rattle.std.proofs.Common.{ap, subst, sym, ◌∙◌}
-use Rattle.vm_defs.specs.declared.step.Step.{Step}
+use Rattle.machine_defs.specs.declared.step.Step.{Step}
 use Rattle.vm_mem.specs.Slots.{IsKept}
 use Rattle.vm_step.specs.Running.{RunningMachine, with_place}
 use Rattle.vm_step.specs.contracts.machine.Machine.{the_view}

@@ -1,6 +1,6 @@
 use Rattle.std.proofs.Common.{refl, subst, sym, ◌∙◌}
-use Rattle.vm_defs.specs.declared.step.Step.{Step}
-use Rattle.vm_defs.specs.declared.step.Step.TheVariants.{Went}
+use Rattle.machine_defs.specs.declared.step.Step.{Step}
+use Rattle.machine_defs.specs.declared.step.Step.TheVariants.{Went}
 use Rattle.vm_step.specs.Running.{RunningMachine, IsNext, IsOneStep, with_place}
 use Rattle.vm_step.specs.contracts.machine.Machine.{the_view}
 use Rattle.vm_step.proofs.Executing.{ended, went-on}

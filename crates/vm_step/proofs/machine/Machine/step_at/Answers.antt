@@ -1,6 +1,6 @@
 use Rattle.std.proofs.Common.{Err, None, Ok, Some, ap, false, refl, ◌∙◌}
-use Rattle.vm_defs.specs.declared.step.Step.{Step}
-use Rattle.vm_defs.specs.declared.step.Step.TheVariants.{Fault}
+use Rattle.machine_defs.specs.declared.step.Step.{Step}
+use Rattle.machine_defs.specs.declared.step.Step.TheVariants.{Fault}
 use Rattle.vm_step.specs.Lending.{with_memory}
 use Rattle.vm_step.specs.Running.{RunningMachine, IsOneStep, stands, with_place}
 use Rattle.vm_step.specs.contracts.machine.Machine.{the_view}

@@ -1,6 +1,6 @@
 use Rattle.std.proofs.Common.{ap, w32, ◌∙◌}
 use Rattle.std.proofs.lemmas.Int.{to_z-of_z}
-use Rattle.vm_defs.specs.Step.{after, register}
+use Rattle.machine_defs.specs.Step.{after, register}
 use Rattle.vm_step.specs.Running.{RunningMachine, with_place}
 use Rattle.vm_step.specs.contracts.machine.Machine.{the_view}
 use Rattle.vm_step.proofs.Executing.{executes-stored, went-stands}

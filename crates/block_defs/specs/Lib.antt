@@ -1,3 +1,0 @@
-pub mod Transactions
-pub mod Rules
-pub mod Ext

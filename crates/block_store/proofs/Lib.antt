@@ -1,4 +1,0 @@
-pub mod HeldLemmas
-pub mod StoredLemmas
-pub mod LogLemmas
-pub mod AgreeLemmas

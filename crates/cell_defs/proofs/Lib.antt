@@ -1,0 +1,15 @@
+pub mod EventLemmas
+pub mod FitLemmas
+pub mod CountingLaws
+pub mod OutputLaws
+pub mod EventLaws
+pub mod JoinLemmas
+pub mod RowLaws
+pub mod TellLaws
+pub mod HashLemmas
+pub mod ShapeLemmas
+pub mod CountLemmas
+pub mod PutLemmas
+pub mod NamingLemmas
+pub mod BackLaws
+pub mod SpentLaws

@@ -1,5 +1,0 @@
-use Rattle.chain_defs.proofs.KeptLaws.{hashes-differ}
-use Rattle.chain_defs.proofs.laws.kept_laws.Goals as goal
-
-pub returns : goal.returns
-returns c = record { hashes_differ = hashes-differ }

@@ -1,5 +1,0 @@
-use Rattle.chain_defs.proofs.MedianLaws.{medians-are-medians}
-use Rattle.chain_defs.proofs.laws.median_laws.Goals as goal
-
-pub returns : goal.returns
-returns c = record { are_medians = medians-are-medians }

@@ -1,5 +1,0 @@
-use Rattle.chain_defs.proofs.TipLaws.{tips-are-tips}
-use Rattle.chain_defs.proofs.laws.tip_laws.Goals as goal
-
-pub returns : goal.returns
-returns c = record { are_tips = tips-are-tips }

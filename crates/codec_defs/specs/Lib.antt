@@ -1,4 +1,0 @@
-pub mod Molecule
-pub mod Shape
-pub mod Schema
-pub mod Checked

@@ -1,3 +1,0 @@
-pub mod SpentLemmas
-pub mod ExtLaws
-pub mod KeptLaws

@@ -1,3 +1,0 @@
-pub mod Uncles
-pub mod Cellbase
-pub mod Rules

@@ -1,3 +1,0 @@
-pub mod HashLemmas
-pub mod ShapeLemmas
-pub mod CountLemmas

@@ -1,3 +1,0 @@
-pub mod FoldLemmas
-pub mod FirstLemmas
-pub mod WalkLemmas

@@ -1,4 +1,0 @@
-pub mod OwedLemmas
-pub mod NextLemmas
-pub mod SizeLemmas
-pub mod StartLemmas

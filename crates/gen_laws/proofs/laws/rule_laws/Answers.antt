@@ -1,6 +1,0 @@
-use Rattle.gen_laws.proofs.OwedLemmas.{pays-what-is-owed}
-use Rattle.gen_laws.proofs.NextLemmas.{has-its-field}
-use Rattle.gen_laws.proofs.laws.rule_laws.Goals as goal
-
-pub returns : goal.returns
-returns c = record { pays_what_is_owed = pays-what-is-owed; has_its_field = has-its-field }

@@ -1,2 +1,0 @@
-pub mod CkbHash
-pub mod Root

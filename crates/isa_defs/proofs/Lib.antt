@@ -1,3 +1,0 @@
-pub mod RowLaws
-pub mod DecodeLaws
-pub mod Formats

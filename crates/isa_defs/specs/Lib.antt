@@ -1,6 +1,0 @@
-pub mod Instruction
-pub mod Row
-pub mod Table
-pub mod Compressed
-pub mod Decode
-pub mod Alu

@@ -1,3 +1,0 @@
-pub mod Reading
-pub mod FurtherLemmas
-pub mod WholeLemmas

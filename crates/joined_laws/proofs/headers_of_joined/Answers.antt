@@ -1,8 +1,0 @@
-use Rattle.joined_laws.proofs.HeaderLaws.{blocks-are-rated, numbers-are-heights}
-use Rattle.joined_laws.proofs.headers_of_joined.Goals as goal
-
-pub returns : goal.returns
-returns c = record {
-  blocks_are_rated = blocks-are-rated;
-  numbers_are_heights = numbers-are-heights;
-}

@@ -1,0 +1,15 @@
+use Rattle.std.proofs.Common.{ap}
+use Rattle.json_defs.specs.Form.{byte_string}
+use Rattle.json_defs.specs.Blocks.{block}
+use Rattle.json_defs.specs.Blocks as form
+use Rattle.json_blocks.proofs.Rows.{first_row, next_row, no_row, same_row, listed}
+use Rattle.json_blocks.proofs.objects.BlockViewWritten.write.Goals as goal
+
+pub returns : goal.returns
+unfolding block
+returns c =
+    first_row (same_row (ap (form.header.tree) c.header.ensures) c.row.ensures)
+    (next_row (listed (byte_string.tree) c.args.self.now.proposals c.list_row.ensures)
+    (next_row (listed (form.transaction.tree) c.args.self.now.transactions c.list_row-2.ensures)
+    (next_row (listed (form.uncle.tree) c.args.self.now.uncles c.list_row-3.ensures)
+    (no_row c.put.ensures))))

@@ -1,0 +1,11 @@
+use Rattle.json_blocks.specs.Reading.{uncle_at}
+use Rattle.json_blocks.proofs.KeyLemmas.{begins}
+use Rattle.json_blocks.proofs.read_objects.UncleItem.read.Goals as goal
+
+pub returns : goal.returns
+unfolding uncle_at
+returns c =
+    c.table.ensures.whole _
+    (c.read-proposals.ensures.step _ _
+    (c.read-header.ensures.step _ _
+    (begins _ _ _ _ c.in_ok-rows.ensures.goes_on c.in_ok-rows.ensures.left)))

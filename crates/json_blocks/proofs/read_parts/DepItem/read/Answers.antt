@@ -1,0 +1,11 @@
+use Rattle.json_blocks.specs.Reading.{cell_dep_at}
+use Rattle.json_blocks.proofs.KeyLemmas.{begins}
+use Rattle.json_blocks.proofs.read_parts.DepItem.read.Goals as goal
+
+pub returns : goal.returns
+unfolding cell_dep_at
+returns c =
+    c.joined.ensures.whole _
+    (c.read-out_point.ensures.step _ _
+    (c.read-dep_type.ensures.step _ _
+    (begins _ _ _ _ c.in_ok-rows.ensures.goes_on c.in_ok-rows.ensures.left)))

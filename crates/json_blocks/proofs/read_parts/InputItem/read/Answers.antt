@@ -1,0 +1,11 @@
+use Rattle.json_blocks.specs.Reading.{cell_input_at}
+use Rattle.json_blocks.proofs.KeyLemmas.{begins}
+use Rattle.json_blocks.proofs.read_parts.InputItem.read.Goals as goal
+
+pub returns : goal.returns
+unfolding cell_input_at
+returns c =
+    c.joined.ensures.whole _
+    (c.read-since.ensures.step _ _
+    (c.read-previous_output.ensures.step _ _
+    (begins _ _ _ _ c.in_ok-rows.ensures.goes_on c.in_ok-rows.ensures.left)))

@@ -1,4 +1,0 @@
-pub mod Records
-pub mod Contents
-pub mod Resting
-pub mod Stopping

@@ -1,0 +1,11 @@
+pub mod RowLaws
+pub mod DecodeLaws
+pub mod Formats
+pub mod TableLaws
+pub mod Numbers
+pub mod Overwritten
+pub mod ProgramLaws
+pub mod CodeLaws
+pub mod ReachLaws
+pub mod AloneLaws
+pub mod AccountLaws

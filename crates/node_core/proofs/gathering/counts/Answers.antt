@@ -1,5 +1,0 @@
-use Rattle.node_core.proofs.GatherLemmas.{ext-long}
-use Rattle.node_core.proofs.gathering.counts.Goals as goal
-
-pub fees_in-requires : goal.fees_in-requires
-fees_in-requires c = ext-long c.args.ext.now c.requires

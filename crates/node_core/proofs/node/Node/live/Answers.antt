@@ -1,4 +1,0 @@
-use Rattle.node_core.proofs.node.Node.live.Goals as goal
-
-pub live-requires : goal.live-requires
-live-requires c = record { below = c.self.invariant.below }

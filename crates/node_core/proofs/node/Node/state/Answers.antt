@@ -1,7 +1,0 @@
-use Rattle.std.proofs.Common.{subst}
-use Rattle.cell_state.specs.State.{rows}
-use Rattle.node_core.specs.Node.{NodeValue, AreOfKept}
-use Rattle.node_core.proofs.node.Node.state.Goals as goal
-
-pub returns-clause-below : goal.returns-clause-below
-returns-clause-below c = subst (λ (v : NodeValue). AreOfKept v.chain.blocks (rows c.self.inside.state)) c.self.view_is c.self.invariant.below

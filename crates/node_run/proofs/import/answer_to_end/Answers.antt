@@ -1,5 +1,0 @@
-use Rattle.std.proofs.Common.{rules}
-use Rattle.node_run.proofs.import.answer_to_end.Goals as goal
-
-pub returns-clause-status : goal.returns-clause-status
-returns-clause-status c = search rules

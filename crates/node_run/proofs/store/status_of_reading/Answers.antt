@@ -1,5 +1,0 @@
-use Rattle.std.proofs.Common.{rules}
-use Rattle.node_run.proofs.store.status_of_reading.Goals as goal
-
-pub returns-in-Damaged-clause-fault : goal.returns-in-Damaged-clause-fault
-returns-in-Damaged-clause-fault c = search rules

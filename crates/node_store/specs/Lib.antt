@@ -1,0 +1,13 @@
+pub mod ReorgLaws
+pub mod Stored
+pub mod Held
+pub mod StoredLaws
+pub mod Kept
+pub mod Judging
+pub mod Steps
+pub mod Queries
+pub mod Node
+pub mod Gathering
+pub mod Opening
+pub mod Snapshot
+pub mod OpeningSteps

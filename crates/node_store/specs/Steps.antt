@@ -1,0 +1,40 @@
+-- How many steps the live cells take for an item: a step takes the events of a block, or takes a block back (docs/PROVED.md, "node_store").
+use Rattle.std.specs.Prelude.{ℕ, ◌+◌, ◌*◌, List, [], ◌∷◌, Option, Some, None, is_some, if◌then◌else◌}
+use Rattle.chain_defs.specs.Shape.{decoded}
+use Rattle.chain_defs.specs.Schema.{Block, block}
+use Rattle.chain_defs.specs.Kept.{block_hash, place_of}
+use Rattle.chain_defs.specs.Branch.{branch, distance}
+use Rattle.verdict_defs.specs.Rules.{broken_at_sight}
+use Rattle.chain_defs.specs.Tip.{tip_place}
+use Rattle.verdict_defs.specs.Chain.{Chain, chain_after}
+
+abbrev pub distance_from : List Block → Option ℕ → ℕ → ℕ
+distance_from kept None place = 0
+distance_from kept (Some from) place = distance kept from place
+
+-- from the tip's branch to that of a place, and back
+abbrev pub moves_at : List Block → ℕ → ℕ
+moves_at kept place = 2 * distance_from kept (tip_place kept) place
+
+-- For a block on what was found as its parent: the way there and back, and one for its own events; none where the parent is not kept, or where it
+-- breaks a rule at sight.
+abbrev pub moves_on : Chain → Block → Option ℕ → ℕ
+moves_on chain b None = 0
+moves_on chain b (Some parent) = if is_some (broken_at_sight chain.spec (branch chain.blocks parent) b) then 0 else moves_at chain.blocks parent + 1
+
+-- for a block: none where it is kept already
+abbrev pub moves_of_block : Chain → Block → ℕ
+moves_of_block chain b = if is_some (place_of chain.blocks (block_hash b)) then 0 else moves_on chain b (place_of chain.blocks b.header.parent_hash)
+
+abbrev pub moves_of : Chain → Option Block → ℕ
+moves_of chain None = 0
+moves_of chain (Some b) = moves_of_block chain b
+
+-- For an item after a chain: one that is no block is answered at sight too.
+abbrev pub moves_for : Chain → List ℕ → ℕ
+moves_for chain item = moves_of chain (decoded block item)
+
+-- For items one after the other, each over what is kept by then.
+abbrev pub steps_over : Chain → List (List ℕ) → ℕ
+steps_over chain [] = 0
+steps_over chain (item ∷ items) = moves_for chain item + steps_over (chain_after chain item) items

@@ -1,6 +1,0 @@
-pub mod NumberLemmas
-pub mod ByteLemmas
-pub mod ItemLemmas
-pub mod BlockLemmas
-pub mod CanonicalLaws
-pub mod InRange

@@ -1,5 +1,0 @@
-use Rattle.reorg_laws.proofs.HeldLaws.{cells-hold-their-own, rows-are-kept, snapshot-rows-are-kept}
-use Rattle.reorg_laws.proofs.rows_of_joined.Goals as goal
-
-pub returns : goal.returns
-returns c = record { cells_hold_their_own = cells-hold-their-own; rows_are_kept = rows-are-kept; snapshot_rows_are_kept = snapshot-rows-are-kept }

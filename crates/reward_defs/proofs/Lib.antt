@@ -1,3 +1,0 @@
-pub mod FeeLaws
-pub mod PartLaws
-pub mod DaoLaws

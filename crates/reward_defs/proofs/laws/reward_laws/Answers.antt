@@ -1,5 +1,0 @@
-use Rattle.reward_defs.proofs.PartLaws.{commits-in-its-window, part-stays}
-use Rattle.reward_defs.proofs.laws.reward_laws.Goals as goal
-
-pub returns : goal.returns
-returns c = record { commits_in_its_window = commits-in-its-window; part_stays = part-stays }

@@ -1,0 +1,6 @@
+pub mod NumberLemmas
+pub mod FirstBroken
+pub mod WindowLaws
+pub mod FeeLaws
+pub mod PartLaws
+pub mod DaoLaws

@@ -1,8 +1,0 @@
-use Rattle.std.proofs.Common.{◌≡◌, map, drop}
-use Rattle.fold_defs.specs.First.{first_failing}
-use Rattle.rule_names.specs.Number.{numbered_row}
-use Rattle.rule_names.proofs.first.first_broken.Given as goal
-
--- those so far are kept
-abbrev pub invariant-rows : goal.invariant-rows
-invariant-rows l = first_failing (map numbered_row l.rows) ≡ first_failing (map numbered_row (drop l.i l.rows))

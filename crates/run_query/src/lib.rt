@@ -1,0 +1,11 @@
+//! The queries: `tip`, `header`, `json`, `epoch`, `cell` and `dao`.
+//!
+//! [`query`] opens the store, prints the answer that `report_defs` defines over the chain that the disk keeps, and only
+//! reads a disk whose log is at rest. A query more is a function that finds its answer (`answer_to`).
+#![tactic(auto)]
+
+mod dao;
+mod lines;
+mod queries;
+
+pub use queries::query;

@@ -1,0 +1,4 @@
+pub mod AssemblingLemmas
+pub mod AssemblyLemmas
+pub mod QuestionLemmas
+pub mod Statuses

@@ -1,0 +1,12 @@
+pub mod Reading
+pub mod FurtherLemmas
+pub mod WholeLemmas
+pub mod Exits
+pub mod Faults
+pub mod Limits
+pub mod LineLemmas
+pub mod Statuses
+pub mod StoreLemmas
+pub mod Tables
+pub mod WholeReports
+pub mod WordLemmas

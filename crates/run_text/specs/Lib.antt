@@ -1,0 +1,5 @@
+pub mod Items
+pub mod Whole
+pub mod Output
+pub mod Store
+pub mod Words

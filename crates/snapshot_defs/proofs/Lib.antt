@@ -1,4 +1,0 @@
-pub mod Fields
-pub mod SnapshotLaws
-pub mod StayLaws
-pub mod AreaLaws

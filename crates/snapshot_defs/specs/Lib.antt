@@ -1,2 +1,0 @@
-pub mod Snapshot
-pub mod Laws

@@ -1,0 +1,11 @@
+pub mod LiveLaws
+pub mod Weights
+pub mod Events
+pub mod Blocks
+pub mod Fields
+pub mod Ranges
+pub mod Unpaid
+pub mod Burned
+pub mod Along
+pub mod Start
+pub mod Small

@@ -1,0 +1,4 @@
+pub mod LiveCells
+pub mod Sums
+pub mod Step
+pub mod Laws

@@ -1,2 +1,0 @@
-pub mod AloneLaws
-pub mod AccountLaws

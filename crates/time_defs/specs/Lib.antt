@@ -1,5 +1,0 @@
-pub mod Epochs
-pub mod Specification
-pub mod Since
-pub mod Dao
-pub mod Laws

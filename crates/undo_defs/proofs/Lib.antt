@@ -1,4 +1,0 @@
-pub mod PutLemmas
-pub mod NamingLemmas
-pub mod BackLaws
-pub mod SpentLaws

@@ -1,5 +1,0 @@
-use Rattle.window_defs.proofs.WindowLaws.{earliest-is-earliest, uncles-only-add, earliest-stays}
-use Rattle.window_defs.proofs.laws.window_laws.Goals as goal
-
-pub returns : goal.returns
-returns c = record { is_earliest = earliest-is-earliest; uncles_only_add = uncles-only-add; earliest_stays = earliest-stays }
