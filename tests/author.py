@@ -363,7 +363,8 @@ def main():
         say('not tried: gcc-riscv64-unknown-elf and picolibc-riscv64-unknown-elf are not there')
         return 0
     # said aloud, since it may take a while
-    subprocess.run([sys.executable, os.path.join(TOP, 'tools', 'build.py')], stdin=subprocess.DEVNULL, check=True)
+    for name in ('ckbdev', 'ckbtrace'):
+        subprocess.run([sys.executable, os.path.join(TOP, 'tools', 'build.py'), name], stdin=subprocess.DEVNULL, check=True)
     failed = 0
     with new_folder() as folder:
         machine = Machine(folder)

@@ -3,13 +3,15 @@
 import functools
 import os
 
-from harness import Ran, chaingen, must, must_answer, must_be, must_have_tip, new_folder, new_store, write
+from harness import Ran, chaingen, line_of, must, must_answer, must_be, must_have_tip, new_folder, new_store, started, write
 from store_model import Chain, Stops, over
 
 FILES = {'log': 'log.bin', 'snap_a': 'snap_a.bin', 'snap_b': 'snap_b.bin'}
 EVERY = 1000
 # the last block before the other branch begins, how far below the tip then it parts, and where it is the tip's for good
 PARTS, BELOW, OVER = 2950, 60, 3040
+# the most bytes that an import of a block may read, and fewer than a replay of a thousand reads
+MOST_READ, REPLAYED = 131072, 250000
 
 
 def shape(count):
@@ -96,6 +98,28 @@ def check_snapshots_of_a_chain(program):
                     must_answer_as_replayed(program, folder, chain, OVER, 'without a snapshot')
                     put(folder, found)
         must_be(areas(folder)['log'], chain.log(4 * EVERY) + b'\0', 'the log')
+
+
+def bytes_read(process):
+    """How many bytes the calls of a process have read so far, as the system counts them."""
+    with open('/proc/%d/io' % process.pid, encoding='ascii') as f:
+        return int(next(line for line in f if line.startswith('rchar:')).split()[1])
+
+
+def check_bytes_that_imports_read(program):
+    """A block far from a snapshot reads little more than itself: no replay is hidden in it. An opening, which reads the log, does."""
+    chain, first, last = chain_of(2 * EVERY), 2 * EVERY - 100, 2 * EVERY - 1
+    with new_store(program, chain.init, b'genesis 0x%s\n' % chain.hashes[0].hex().encode()) as folder:
+        must_import(program, folder, chain, 1, first - 1, 'import up to %d' % (first - 1))
+        with started([program, folder, 'import']) as process:
+            before = 0
+            for at in range(first, last + 1):
+                process.stdin.write(chain.blocks[at])
+                must_be(line_of(process), chain.line(b'joined', at), 'block %d' % at)
+                now = bytes_read(process)
+                must(now - before > REPLAYED if at == first else now - before <= MOST_READ,
+                     'block %d and what was before it read %d bytes' % (at, now - before))
+                before = now
 
 
 def check_stops_of_a_snapshot(program):

@@ -1,13 +1,14 @@
 #!/usr/bin/env python3
 """What no contract pins: the built program on real folders, files and pipes, the
-script that builds and runs it, what the README says that they print, whether the
+script that runs it, its build, runs without one, what the README says that they print, whether the
 documents name what is there, and whether the stored files that scripts make are what
 those make.
 
     sh tests/edge.sh [--program PROGRAM] [WORD ..]
 
 runs each check, or those whose names have one of the words, and says which fail.
-The program is the one that ./ckbdev runs, which is built where there is none.
+The program is the one that ./ckbdev --build makes, which is built where there is none.
+With --program nothing is built, and the checks of the script want a build of their own.
 The lines that must come are these scripts' own: the chains and their hashes are
 made by bench/chaingen.py, examples/make_first_blocks.py and
 examples/make_contract_chain.py.
@@ -25,10 +26,13 @@ import chain_snapshots  # noqa: E402
 import documents  # noqa: E402
 import folders  # noqa: E402
 import json_texts  # noqa: E402
+import layers  # noqa: E402
+import runs  # noqa: E402
 import script  # noqa: E402
 import stored  # noqa: E402
 import streams  # noqa: E402
 import tracing  # noqa: E402
+import unproved  # noqa: E402
 from harness import TOP, Wrong  # noqa: E402
 
 
@@ -41,7 +45,8 @@ def main():
     a.add_argument('--program')
     a.add_argument('words', nargs='*')
     a = a.parse_args()
-    modules = streams, assembling, json_texts, folders, allocations, chain_snapshots, script, documents, tracing, stored
+    modules = (runs, streams, assembling, json_texts, folders, allocations, chain_snapshots, script, unproved, layers,
+               documents, tracing, stored)
     checks = [it for module in modules for it in checks_of(module)]
     checks = [it for it in checks if not a.words or any(word in it[0] for word in a.words)]
     program = a.program and os.path.abspath(a.program)

@@ -1,5 +1,5 @@
 #!/usr/bin/env python3
-"""The runs of `import` and `tip` in crates/run_vectors/stdin, worked out again.
+"""The stored runs of `import` and `tip`, worked out again: those of tests/rows/runs.txt and of crates/run_vectors/stdin.
 
     python3 tests/import_lines.py
 
@@ -31,7 +31,8 @@ import os
 import sys
 
 HERE = os.path.dirname(os.path.abspath(__file__))
-ROWS = os.path.join(os.path.dirname(HERE), 'crates', 'run_vectors', 'stdin')
+ROWS = os.path.join(HERE, 'rows', 'runs.txt')
+LISTS = os.path.join(os.path.dirname(HERE), 'crates', 'run_vectors', 'stdin')
 ZERO_HASH = bytes(32)
 NULL_OUT_POINT = ZERO_HASH + b'\xff' * 4
 SHANNONS = 10 ** 8
@@ -519,9 +520,9 @@ class Trial:
         self.counts = {name: collections.Counter() for name in RUNS}
 
     def row(self, name, columns):
-        if name in ('folder', 'failing', 'list', 'faults'):
+        if name in ('folder', 'list', 'faults'):
             # (a run of `faults` has the row's text where its disk does not fail)
-            self.store, self.put, self.disk_fails = None, b'', name in ('failing', 'list')
+            self.store, self.put, self.disk_fails = None, b'', name == 'list' and columns != ['-']
         elif name == 'put':
             if columns[0] == 'log':
                 self.put = bytes_of(columns[1])
@@ -529,9 +530,14 @@ class Trial:
             elif is_open(bytes_of(columns[1])):
                 # what a snapshot is, is not read here
                 self.store = UNKNOWN
-        elif name == 'streams':
-            self.streams_fail = columns[1:] != ['-', '-']
-        elif name not in ('left', 'end') and not name.startswith('#'):
+        elif name not in ('left', 'byte', 'fronts'):
+            self.call(name, *columns)
+
+    def list(self, rows):
+        """The rows of a list of runs: the last says of which calls of the disk fail."""
+        self.row(*rows[-1])
+        for name, (*columns, reads, writes) in rows[:-1]:
+            self.streams_fail = (reads, writes) != ('-', '-')
             self.call(name, *columns)
 
     def call(self, name, words, status, given, text, log=None):
@@ -577,12 +583,23 @@ class Trial:
         return 'agree in part' if in_part else 'agree'
 
 
-def main():
-    trial = Trial()
-    with open(ROWS, encoding='ascii') as rows:
+def rows_of(file):
+    with open(file, encoding='ascii') as rows:
         for row in rows:
             name, *columns = row.rstrip('\n').split('\t')
-            trial.row(name, columns)
+            yield name, columns
+
+
+def main():
+    trial = Trial()
+    for name, columns in rows_of(ROWS):
+        trial.row(name, columns)
+    rows = []
+    for name, columns in rows_of(LISTS):
+        rows.append((name, columns))
+        if name in ('list', 'faults'):
+            trial.list(rows)
+            rows = []
     for command, counts in trial.counts.items():
         print('%s: %d runs agree, %d differ, %d are left out' % (
             command, counts['agree'], counts['differ'], counts['left out']))

@@ -19,20 +19,29 @@ import block_json
 ROWS = os.path.join(TOP, 'tests', 'rows')
 # rows that no script makes: from outside, or by hand
 OTHERS = None
-# the parts of the stdin of each crate, in order: the scripts of rows/ that make them
+# the parts of each file, in order: the scripts of rows/ that make them
 PARTS = {
-    'tx_vectors': ('cells', 'live_cells', 'transactions', 'script_groups'),
-    'rule_vectors': (OTHERS, 'rule_blocks', 'windows', 'uncles', 'rewards'),
-    'reorg_vectors': ('moves',),
-    'store_vectors': (OTHERS, 'kept_bodies', 'snapshots'),
-    'run_vectors': (OTHERS, 'stopped_logs', 'rule_runs', OTHERS, 'reward_runs', OTHERS, 'dao_amounts', 'branch_runs',
-                    'snapshot_runs', 'snapshot_stops', 'stream_faults', 'assembled_runs'),
-    'format_vectors': (OTHERS, 'sample_blocks', OTHERS),
+    'crates/tx_vectors/stdin': ('live_cells', 'transactions', 'script_groups'),
+    'crates/rule_vectors/stdin': (OTHERS, 'rule_blocks', 'windows', 'uncles', 'rewards'),
+    'crates/reorg_vectors/stdin': ('moves',),
+    'crates/store_vectors/stdin': (OTHERS, 'kept_bodies', 'snapshots'),
+    'crates/format_vectors/stdin': (OTHERS, 'sample_blocks', OTHERS),
+    'crates/run_vectors/stdin': (OTHERS, 'branch_runs', 'snapshot_stops', 'stream_faults'),
+    'tests/rows/runs.txt': (OTHERS, 'stopped_logs', 'rule_runs', OTHERS, 'reward_runs', OTHERS, 'dao_amounts', 'branch_runs',
+                            'snapshot_runs', 'stream_faults', 'assembled_runs'),
 }
+# of a script that makes both: the rows of lists of runs, and those of runs by themselves
+ROWS_OF = {'crates/run_vectors/stdin': lambda row: is_of_list(row), 'tests/rows/runs.txt': lambda row: not is_of_list(row)}
 # scripts that make no rows by themselves, or of a folder that is not stored here
 NO_PARTS = {'common', 'judge_runs'}
 # those that take longest begin first
 SLOWEST = ('script_groups', 'moves', 'live_cells')
+
+
+def is_of_list(row):
+    """Whether a row of a run, or one that makes runs, is of a list: it has the columns of its streams."""
+    columns = row.split(b'\t')
+    return columns[0] in (b'list', b'faults') or len(columns) == 7
 
 
 def stored(*names):
@@ -69,12 +78,12 @@ def must_have_part(file, rows, at, exact, name, part):
     return best + len(part)
 
 
-def must_have_parts(crate, parts, rows_of):
-    file = 'crates/%s/stdin' % crate
-    rows, at, exact = stored('crates', crate, 'stdin').splitlines(keepends=True), 0, True
+def must_have_parts(file, parts, rows_of):
+    rows, at, exact = stored(file).splitlines(keepends=True), 0, True
+    is_here = ROWS_OF.get(file, lambda row: True)
     for name in parts:
         if name is not OTHERS:
-            at = must_have_part(file, rows, at, exact, name, rows_of[name].result())
+            at = must_have_part(file, rows, at, exact, name, [it for it in rows_of[name].result() if is_here(it)])
         exact = name is not OTHERS
     must(at == len(rows) or not exact, '%s: from line %d on there is more than scripts make' % (file, at + 1))
 
@@ -88,8 +97,8 @@ def check_stored_rows(_):
     must_be(sorted(names), sorted(scripts - NO_PARTS), 'the scripts of tests/rows that a file is made by')
     with concurrent.futures.ThreadPoolExecutor(os.cpu_count()) as pool:
         rows_of = {name: pool.submit(made, name) for name in sorted(names, key=lambda it: it not in SLOWEST)}
-        for crate, parts in PARTS.items():
-            must_have_parts(crate, parts, rows_of)
+        for file, parts in PARTS.items():
+            must_have_parts(file, parts, rows_of)
 
 
 def check_import_lines(_):

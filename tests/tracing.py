@@ -7,6 +7,7 @@ import sys
 from unittest import mock
 
 from harness import PRIMES, SCRIPTS, TOP, Ran, must, must_answer, must_be, new_folder
+import runs
 import script_machine
 
 NAMES = ('zero ra sp gp tp t0 t1 t2 s0 s1 a0 a1 a2 a3 a4 a5 a6 a7 s2 s3 s4 s5 s6 s7 s8 s9 s10 s11 t3 t4 t5 t6').split()
@@ -167,27 +168,15 @@ def check_trace_stored(program):
         must_be(text.read(), page_of(program, given.read(), 1000), 'crates/ckbtrace/stdout')
 
 
-def bytes_of(column):
-    """The input in a row of run_vectors: bytes in hex, or - for none, and after a + how many zeros follow."""
-    content, _, zeros = column.partition('+')
-    return (b'' if content == '-' else bytes.fromhex(content)) + bytes(int(zeros or 0))
-
-
 def check_trace_lines(_):
     """The first line after the texts is that of `exec` on each stored row of a file that is judged."""
-    count, given = 0, None
-    with open(os.path.join(TOP, 'crates', 'run_vectors', 'stdin'), encoding='ascii') as f:
-        for row in f:
-            columns = row.rstrip('\n').split('\t')
-            if len(columns) < 5:
-                continue
-            name, words, status, file, text = columns[:5]
-            given = given if file == '=' else file
-            if words.startswith('exec ') and status == '0':
-                ran = Ran([tracer(), words.split(' ')[1]], bytes_of(given))
-                lines = [line for line in ran.out.splitlines(True) if not line.startswith(b'text ')]
-                must_be((ran.status, lines[0]), (0, bytes.fromhex(text)), name)
-                count += 1
+    count = 0
+    for name, words, status, file, text, *_ in filter(runs.is_run, runs.rows()):
+        if words.startswith('exec ') and status == '0':
+            ran = Ran([tracer(), words.split(' ')[1]], runs.bytes_of(file))
+            lines = [line for line in ran.out.splitlines(True) if not line.startswith(b'text ')]
+            must_be((ran.status, lines[0]), (0, bytes.fromhex(text)), name)
+            count += 1
     must(count > 900, 'only %d rows of exec' % count)
 
 
@@ -214,6 +203,8 @@ def check_trace_document(program):
     shown_lines = [line[4:] for line in lines if line.startswith('    ')][1:]
     must_be([line.split(' ')[0] for line in shown_lines[:2]], ['printf', 'ckbtrace'], 'what is shown')
     made, traced, *page = shown_lines
+    # the script has a build to run
+    tracer()
     with new_folder() as away:
         for name in ('ckbdev', 'ckbtrace'):
             os.symlink(os.path.join(TOP, name), os.path.join(away, name))

@@ -1,5 +1,5 @@
 #!/usr/bin/env python3
-"""Rows of crates/run_vectors/stdin over blocks that are assembled: `assemble`, and the
+"""Rows of tests/rows/runs.txt over blocks that are assembled: `assemble`, and the
 `import` of each block that was.
 
     python3 tests/rows/assembled_runs.py

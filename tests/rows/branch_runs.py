@@ -1,10 +1,10 @@
 #!/usr/bin/env python3
-"""Rows of crates/run_vectors/stdin over branches that spend a cell differently: `cell`
-after each import.
+"""Rows of tests/rows/runs.txt over branches that spend a cell differently, `cell` after
+each import, and of crates/run_vectors/stdin where a call of the disk fails.
 
     python3 tests/rows/branch_runs.py
 
-They stand there after those of dao_amounts.py. A cell of the genesis is spent on one
+A cell of the genesis is spent on one
 branch to one end, on another to another, and on a third not at all. After each block,
 one that is refused, one that joins beside the tip's branch and one that becomes the tip,
 `cell` is asked for each cell. What it says is a replay of the tip's branch from the
@@ -15,7 +15,7 @@ none may answer anything else, and nothing that was kept is lost. Nothing is tak
 the program.
 """
 
-from common import emit
+from common import emit, emit_listed
 
 import paying_chain
 from encoding import ckbhash
@@ -30,6 +30,8 @@ NAME = 'branches that spend a cell differently'
 # the calls of the disk that `init` makes, and fewer than the runs after it make: each of the blocks that join takes four
 INIT_CALLS = 8
 LEAST_CALLS = 100
+# the status of a call of the disk that failed
+DISK_FAULT = 5
 
 
 def spending(spent, *capacities):
@@ -119,21 +121,21 @@ def main():
     chain = branches()
     given = chain.spec.item() + chain.genesis.item()
 
-    def begins():
-        emit(NAME, 'init', 0, given, (genesis_line(chain.genesis) + '\n').encode())
+    def begins(put=emit):
+        put(NAME, 'init', 0, given, (genesis_line(chain.genesis) + '\n').encode())
 
     def starts(name):
         emit('folder', name)
         begins()
 
-    def imports(items):
+    def imports(items, put=emit):
         refused = any(line.startswith('refused') for _, line in items)
-        emit(NAME, 'import', int(refused), b''.join(item for item, _ in items), ''.join(line + '\n' for _, line in items).encode())
+        put(NAME, 'import', int(refused), b''.join(item for item, _ in items), ''.join(line + '\n' for _, line in items).encode())
 
-    def asks(tip):
+    def asks(tip, put=emit):
         cells = live_cells(tip)
         for output in ASKED:
-            emit(NAME, 'cell 0x%s %d' % (output[0].hash.hex(), output[1]), 0, b'', (line_of(cells, output) + '\n').encode())
+            put(NAME, 'cell 0x%s %d' % (output[0].hash.hex(), output[1]), 0, b'', (line_of(cells, output) + '\n').encode())
 
     starts(NAME + ', item by item')
     for item, best in zip(chain.items, chain.best[1:]):
@@ -142,17 +144,16 @@ def main():
     starts(NAME + ', in one run')
     imports(chain.items)
     asks(chain.best[-1])
-    emit('faults', 'disk', INIT_CALLS, LEAST_CALLS)
-    begins()
+    begins(emit_listed)
     # the last run is opened on one branch, and reads the blocks of the other from the disk where it judges on them
     for first, end in ((0, 7), (7, 12), (12, None)):
-        imports(chain.items[first:end])
+        imports(chain.items[first:end], emit_listed)
     # its input is spent on the tip's branch
-    emit(NAME, 'check', 1, LEFT.item, b'refused J20\n')
+    emit_listed(NAME, 'check', 1, LEFT.item, b'refused J20\n')
     root = next(it for it in ancestors(chain.best[-1]) if it.number == 1)
-    emit(NAME, 'header 1', 0, b'', ('header 1 0x%s 0x%s\n' % (root.hash().hex(), root.header().hex())).encode())
-    asks(chain.best[-1])
-    emit('end')
+    emit_listed(NAME, 'header 1', 0, b'', ('header 1 0x%s 0x%s\n' % (root.hash().hex(), root.header().hex())).encode())
+    asks(chain.best[-1], emit_listed)
+    emit('faults', DISK_FAULT, INIT_CALLS, LEAST_CALLS)
 
 
 if __name__ == '__main__':

@@ -1,5 +1,5 @@
 #!/usr/bin/env python3
-"""Rows of crates/run_vectors/stdin on a chain where what cells of the Nervos DAO count
+"""Rows of tests/rows/runs.txt on a chain where what cells of the Nervos DAO count
 reaches the greatest u64 and leaves it.
 
     python3 tests/rows/dao_amounts.py

@@ -1,5 +1,5 @@
 #!/usr/bin/env python3
-"""Rows of crates/run_vectors/stdin: whole runs over chains with blocks and transactions
+"""Rows of tests/rows/runs.txt: whole runs over chains with blocks and transactions
 of every form.
 
     python3 tests/rows/judge_runs.py FOLDER [CASE ..]

@@ -4,7 +4,7 @@ with the line that it must be answered with, and the rows that are then live.
 
     python3 tests/rows/live_cells.py
 
-They stand after those of cells.py there. A row is `state`, what is wanted, and bytes in
+They are the first of that file. A row is `state`, what is wanted, and bytes in
 hex, with a tab between two:
 
     genesis             a Block: live cells begin with its cells

@@ -1,5 +1,5 @@
 #!/usr/bin/env python3
-"""Rows of crates/run_vectors/stdin over chains whose cellbases pay rewards: J31 and J32
+"""Rows of tests/rows/runs.txt over chains whose cellbases pay rewards: J31 and J32
 as imports.
 
     python3 tests/rows/reward_runs.py

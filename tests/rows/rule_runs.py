@@ -1,5 +1,5 @@
 #!/usr/bin/env python3
-"""Rows of crates/run_vectors/stdin over blocks that break J4 to J14, J16, J17 or J32,
+"""Rows of tests/rows/runs.txt over blocks that break J4 to J14, J16, J17 or J32,
 and over two that break G4.
 
     python3 tests/rows/rule_runs.py

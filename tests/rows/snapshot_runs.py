@@ -1,5 +1,5 @@
 #!/usr/bin/env python3
-"""Rows of crates/run_vectors/stdin over stores that have snapshots: what `tip`, `cell` and
+"""Rows of tests/rows/runs.txt over stores that have snapshots: what `tip`, `cell` and
 `import` answer with bytes put into SNAP_A and SNAP_B.
 
     python3 tests/rows/snapshot_runs.py

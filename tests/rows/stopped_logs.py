@@ -1,5 +1,5 @@
 #!/usr/bin/env python3
-"""Rows of crates/run_vectors/stdin over logs that a stop may leave.
+"""Rows of tests/rows/runs.txt over logs that a stop may leave.
 
     python3 tests/rows/stopped_logs.py
 

@@ -1,25 +1,20 @@
 // The hash of a message, and the Merkle root of items.
-ghost use Rattle.std.specs.Prelude.{◌≡◌, ◌<◌};
-ghost use Rattle.hash_defs.specs.CkbHash.{ckbhash};
-
 use crate::bytes_of;
-use blake2b_ckb::{Hasher, ckbhash};
+use blake2b_ckb::ckbhash;
 use cbmt::root;
 use hex::FromHex;
 use std::alloc::Global;
-
-const PIECE_LENGTHS: [usize; 5] = [1, 3, 127, 128, 129];
 
 fn hash_in(digits: &str) -> Option<[u8; 32]> {
     <[u8; 32] as FromHex>::from_hex(digits).ok()
 }
 
-/// A message, and its hash: it has the same one in pieces.
+/// A message, and its hash.
 pub(crate) fn agrees_on_message(alloc: Global, columns: &str) -> Option<bool> {
     let (message, wanted) = columns.split_once('\t')?;
     let wanted = hash_in(wanted)?;
     let message = bytes_of(alloc, message)?;
-    Some(ckbhash(&message) == wanted && has_in_pieces(&message, &wanted))
+    Some(ckbhash(&message) == wanted)
 }
 
 /// Items with a comma between two, and their root.
@@ -46,30 +41,4 @@ fn items_of(alloc: Global, column: &str) -> Option<Vec<[u8; 32]>> {
         items.push(hash_in(digits)?).ok()?;
     }
     Some(items)
-}
-
-/// Whether the message has this hash in pieces of each length.
-fn has_in_pieces(message: &[u8], wanted: &[u8; 32]) -> bool {
-    for length in PIECE_LENGTHS {
-        if digest_in_pieces(message, length) != *wanted {
-            return false;
-        }
-    }
-    true
-}
-
-// The hash of a message that comes in pieces of one length, the last of them shorter.
-fn digest_in_pieces(message: &[u8], length: usize) -> [u8; 32]
-    requires { 0 < length }
-    ensures { result ≡ ckbhash message.now }
-{
-    let mut hasher = Hasher::new();
-    let mut rest = message;
-    'pieces: while rest.len() > length {
-        let (piece, others) = rest.split_at(length);
-        hasher.update(piece);
-        rest = others;
-    }
-    hasher.update(rest);
-    hasher.finalize()
 }

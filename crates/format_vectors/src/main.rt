@@ -1,4 +1,4 @@
-//! Encodings that are read and written, hashes and roots: tries each row of its standard input, and prints the rows that
+//! Encodings that are read, hashes, roots and blocks as JSON: tries each row of its standard input, and prints the rows that
 //! differ.
 //!
 //! A row is one of these, with a tab between two columns, bytes in hex and `-` for no bytes:
@@ -6,9 +6,9 @@
 //! - a view, what its `read` answers (`some` or `none`), and bytes. `Table/N` and `Fixvec/SIZE` name a table of
 //!   `N` fields, and a fixvec of items of `SIZE` bytes;
 //! - a view, `uncut`, and bytes that it reads, but not where they are cut short, at whatever place;
-//! - a view, an accessor, a place in a list or 0, bytes, and what the accessor gives;
-//! - `Builder`, what is made, its fields with a comma between two, and the bytes that are made;
-//! - `hash`, a message, and its hash, which it also has in pieces;
+//! - a view that is no part of a block, an accessor, a place in a list or 0, bytes, and what the accessor gives; those of a block
+//!   and its parts show in its text;
+//! - `hash`, a message, and its hash;
 //! - `root`, items with a comma between two, and their Merkle root;
 //! - `json`, a block, and its text, which is read as the block;
 //! - `back`, a block, which its text is read as;
@@ -22,7 +22,6 @@
 //! examples/, which tests/rows/sample_blocks.py writes.
 #![tactic(auto)]
 
-mod builder;
 mod fields;
 mod hash;
 mod json;
@@ -38,7 +37,7 @@ use std::string::String;
 /// What an accessor gives.
 #[derive(Clone, Copy)]
 pub(crate) enum Answer<'a> {
-    Number(u128),
+    Number(usize),
     Bytes(&'a [u8]),
     Nothing,
 }
@@ -72,7 +71,6 @@ impl Subject for Calls {
             "back" => json::comes_back(alloc, row.rest()),
             "again" => json::makes_again(alloc, row.rest()),
             "unjson" => json::agrees_on_block(alloc, row.rest()),
-            "Builder" => builder::agrees(alloc, row.rest()),
             view => agrees_on_view(alloc, view, row.rest()),
         }
     }

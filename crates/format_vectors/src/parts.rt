@@ -1,7 +1,7 @@
 // Tables, dynvecs and fixvecs of whatever parts.
 
 use crate::Answer;
-use mol_core::{check_dynvec, check_fixvec, check_table};
+use mol_schema::{check_dynvec, check_fixvec, check_table};
 
 /// Whether the bytes are such a table or vector.
 pub(crate) fn reads(view: &str, bytes: &[u8]) -> Option<bool> {
@@ -52,7 +52,7 @@ fn field_of_table<'a, const N: usize>(
 fn item_of_dynvec<'a>(bytes: &'a [u8], accessor: &str, i: usize) -> Option<Answer<'a>> {
     let list = check_dynvec(bytes)?;
     match accessor {
-        "len" => Some(Answer::Number(list.len() as u128)),
+        "len" => Some(Answer::Number(list.len())),
         "item" if i < list.len() => Some(Answer::Bytes(list.item(i))),
         _ => None,
     }
@@ -66,7 +66,7 @@ fn item_of_fixvec<'a>(
 ) -> Option<Answer<'a>> {
     let list = check_fixvec(bytes, size)?;
     match accessor {
-        "len" => Some(Answer::Number(list.len() as u128)),
+        "len" => Some(Answer::Number(list.len())),
         "item" if i < list.len() => Some(Answer::Bytes(list.item(i))),
         _ => None,
     }

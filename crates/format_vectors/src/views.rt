@@ -3,7 +3,7 @@
 use crate::{Answer, fields, parts};
 use mol_schema::{
     BlockView, Bytes, CellbaseWitnessView, DepView, HeaderView, InputView, OutPointView,
-    OutPointsView, OutputView, RawTxView, ScriptView, TxView, UncleView, WitnessArgsView,
+    OutPointsView, OutputView, ScriptView, TxView, UncleView, WitnessArgsView,
 };
 
 /// Whether the view of this name reads the bytes.
@@ -44,30 +44,8 @@ pub(crate) fn field<'a>(
     place: usize,
 ) -> Option<Answer<'a>> {
     match view {
-        "RawTxView" => fields::raw(&RawTxView::read(bytes)?, accessor, place),
-        "TxView" => fields::transaction(&TxView::read(bytes)?, accessor, place),
-        "HeaderView" => fields::header(&HeaderView::read(bytes)?, accessor),
-        "UncleView" => fields::uncle(&UncleView::read(bytes)?, accessor, place),
-        "BlockView" => fields::block(&BlockView::read(bytes)?, accessor, place),
-        "CellbaseWitnessView" => fields::witness(&CellbaseWitnessView::read(bytes)?, accessor),
-        _ => field_of_part(view, bytes, accessor, place),
-    }
-}
-
-/// The same of a part of a transaction.
-fn field_of_part<'a>(
-    view: &str,
-    bytes: &'a [u8],
-    accessor: &str,
-    place: usize,
-) -> Option<Answer<'a>> {
-    match view {
         "Bytes" => Some(Answer::Bytes(Bytes::read(bytes)?.content())),
-        "ScriptView" => fields::script(&ScriptView::read(bytes)?, accessor),
-        "OutPointView" => fields::out_point(&OutPointView::read(bytes)?, accessor),
-        "InputView" => fields::input(&InputView::read(bytes)?, accessor),
-        "DepView" => fields::dep(&DepView::read(bytes)?, accessor),
-        "OutputView" => fields::output(&OutputView::read(bytes)?, accessor),
+        "CellbaseWitnessView" => fields::witness(&CellbaseWitnessView::read(bytes)?, accessor),
         "WitnessArgsView" => fields::args(&WitnessArgsView::read(bytes)?, accessor),
         "OutPointsView" => fields::out_points(&OutPointsView::read(bytes)?, accessor, place),
         _ => parts::field(view, bytes, accessor, place),

@@ -85,16 +85,3 @@ where
         _ => None,
     }
 }
-
-/// Whether each call of a disk fails.
-pub(crate) fn is_refused<R: Files + Drop>(disk: &mut FolderDisk<R>) -> bool
-where
-    R::File: Claim + StoredFile,
-{
-    let mut into = [0];
-    disk.len(Area::Log).is_err()
-        && disk.read(Area::SnapB, 0, &mut into).is_err()
-        && disk.write(Area::SnapA, 0, b"lost").is_err()
-        && disk.cut(Area::Log, 0).is_err()
-        && disk.sync(Area::SnapB).is_err()
-}

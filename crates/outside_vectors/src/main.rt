@@ -1,35 +1,27 @@
-//! The streams and the disks by the traits of `outside`, in memory and of `outside_os`, at calls that fail and that move few
-//! bytes: makes the call of each row of its standard input, and prints the rows that differ.
+//! The adapters of `outside_os` over a system that is a fake, call by call, and what the disk of `outside_mem` leaves: makes the
+//! call of each row of its standard input, and prints the rows that differ.
 //!
 //! A row begins with what it calls, has a column for each argument and ends with the answer, with a tab between two, `ok` or
 //! `failed` where there is no other; bytes are in hex, `-` for none. A line that begins with `#` tells what follows. The
 //! answers were worked by hand.
 //!
-//! After `memory` are the streams and the disk of `outside_mem`: `source`, `sink` and `disk` make new ones, with the numbers
-//! of the calls that fail. `arm` and `crash` are the disk's; `each` makes each of its five calls; `crashes` counts what crashes
-//! leave of another disk.
+//! `failing_writes` and `crashes` count what is left of a disk in memory, which no clause says.
 //!
-//! The other rows are about the adapters of `outside_os` over a system that is a fake, call by call, and on real files: which
-//! bytes they move, what they answer, and which calls they make. Clauses tell the bytes of a file; that the system's own files are such files, which calls are made and what the streams move they do not tell. `system` makes a new fake, with what
-//! its calls do in order and the bytes that each of its files begins with and its input gives, and after the list they succeed:
-//! `N` moves at most so many bytes, `interrupted`, `broken` and `pipe` fail, `torn` and `torn_interrupted` write half and fail.
-//! `holds` has the bytes of the file that was changed last. `noted` has the calls that were made since the last `noted`. `real`
-//! goes to a disk on real files; `open` makes a new one on a folder.
+//! The other rows are about the adapters: which bytes they move, what they answer, and which calls they make. Clauses tell the
+//! bytes of a file; that the system's own files are such files, which calls are made and what the streams move they do not tell.
+//! `system` makes a new fake, with what its calls do in order and the bytes that each of its files begins with and its input
+//! gives, and after the list they succeed: `N` moves at most so many bytes, `interrupted`, `broken` and `pipe` fail, `torn` and
+//! `torn_interrupted` write half and fail. `holds` has the bytes of the file that was changed last, or all that standard output
+//! took. `noted` has the calls that were made since the last `noted`.
 #![tactic(auto)]
 
 mod area;
-mod crashes;
 mod disk;
-mod failing_writes;
 mod fake_file;
-mod files;
-mod memory;
-mod memory_disk;
-mod memory_streams;
+mod left;
 mod streams;
 mod system;
 
-use memory::Memory;
 use outside_os::{FolderDisk, StdinSource, StdoutSink};
 use row_table::{Row, Subject, all_agree};
 use std::alloc::{AllocError, Global};
@@ -41,13 +33,10 @@ use system::{Runtime, System, Turn};
 /// What the rows act on.
 #[derive(Drop)]
 struct Adapters<'a> {
-    rt: HostRuntime,
     system: &'a System,
     source: StdinSource<Runtime<'a>>,
     sink: StdoutSink<Runtime<'a>>,
     disk: FolderDisk<Runtime<'a>>,
-    real: FolderDisk<HostRuntime>,
-    memory: Memory,
 }
 
 fn turn_of(word: &str) -> Option<Turn> {
@@ -82,25 +71,17 @@ fn holds(alloc: Global, system: &System, row: &mut Row) -> Option<bool> {
     Some(system.holds(&row.bytes(alloc)?))
 }
 
-fn has_taken(alloc: Global, system: &System, row: &mut Row) -> Option<bool> {
-    Some(system.has_taken(&row.bytes(alloc)?))
-}
-
 fn new_disk<'a>(alloc: Global, system: &'a System) -> Result<FolderDisk<Runtime<'a>>, AllocError> {
     Ok(FolderDisk::new(Runtime(system), String::from_str(alloc, "d")?))
 }
 
 impl<'a> Adapters<'a> {
-    fn new(rt: HostRuntime, system: &'a System) -> Result<Adapters<'a>, AllocError> {
-        let disk = new_disk(rt.alloc(), system)?;
+    fn new(alloc: Global, system: &'a System) -> Result<Adapters<'a>, AllocError> {
         Ok(Adapters {
-            rt,
             system,
             source: StdinSource::new(Runtime(system)),
             sink: StdoutSink::new(Runtime(system)),
-            disk,
-            real: FolderDisk::new(rt, String::new(rt.alloc())),
-            memory: Memory::new(rt.alloc()),
+            disk: new_disk(alloc, system)?,
         })
     }
 
@@ -113,27 +94,11 @@ impl<'a> Adapters<'a> {
         Some(true)
     }
 
-    fn agrees_on_fake(&mut self, alloc: Global, call: &str, row: &mut Row) -> Option<bool> {
+    fn agrees_on_streams(&mut self, alloc: Global, call: &str, row: &mut Row) -> Option<bool> {
         match call {
-            "system" => self.begin(alloc, row),
-            "noted" => Some(self.system.has_noted(row.word())),
-            "holds" => holds(alloc, self.system, row),
-            "taken" => has_taken(alloc, self.system, row),
             "source" => streams::agrees_on_read(alloc, &mut self.source, row),
             "sink" => streams::agrees_on_write(alloc, &mut self.sink, row),
             call => disk::agrees(alloc, &mut self.disk, call, row),
-        }
-    }
-
-    fn open(&mut self, rt: HostRuntime, folder: &str) -> Option<bool> {
-        self.real = FolderDisk::new(rt, String::from_str(rt.alloc(), folder).ok()?);
-        Some(true)
-    }
-
-    fn agrees_on_real(&mut self, rt: HostRuntime, row: &mut Row) -> Option<bool> {
-        match row.word() {
-            "open" => self.open(rt, row.word()),
-            call => disk::agrees(rt.alloc(), &mut self.real, call, row),
         }
     }
 }
@@ -141,16 +106,18 @@ impl<'a> Adapters<'a> {
 impl<'a> Subject for Adapters<'a> {
     fn agrees(&mut self, alloc: Global, row: &mut Row<'_>) -> Option<bool> {
         match row.word() {
-            "memory" => self.memory.agrees(alloc, row),
-            "real" => self.agrees_on_real(self.rt, row),
-            "files" => files::agrees(self.rt, row.word(), row),
-            call => self.agrees_on_fake(alloc, call, row),
+            "failing_writes" => left::agrees_on_failures(alloc, row),
+            "crashes" => left::agrees_on_crashes(alloc, row),
+            "system" => self.begin(alloc, row),
+            "noted" => Some(self.system.has_noted(row.word())),
+            "holds" => holds(alloc, self.system, row),
+            call => self.agrees_on_streams(alloc, call, row),
         }
     }
 }
 
 fn all_rows_agree(rt: HostRuntime, system: &System) -> io::Result<bool> {
-    let mut adapters = Adapters::new(rt, system)?;
+    let mut adapters = Adapters::new(rt.alloc(), system)?;
     let all = all_agree(rt, &mut adapters);
     drop(adapters);
     all

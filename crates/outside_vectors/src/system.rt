@@ -22,15 +22,44 @@ pub(crate) enum Turn {
 pub(crate) struct System {
     turns: RefCell<Vec<Turn>>,
     calls: Cell<usize>,
-    noted: RefCell<String>,
-    bytes: RefCell<Vec<u8>>,
-    shown: RefCell<Vec<u8>>,
     at: Cell<usize>,
-    taken: RefCell<Vec<u8>>,
+    bytes: RefCell<Vec<u8>>,
+    noted: RefCell<Vec<u8>>,
+    shown: RefCell<Vec<u8>>,
 }
 
 fn taken_twice() -> io::Error {
     io::Error::other("taken twice")
+}
+
+/// Puts more of them at the end.
+fn put<T: Copy>(held: &RefCell<Vec<T>>, more: &[T]) -> io::Result<()> {
+    match held.try_borrow_mut() {
+        Ok(mut held) => {
+            held.extend_from_slice(more)?;
+            Ok(())
+        }
+        Err(_) => Err(taken_twice()),
+    }
+}
+
+/// Puts these in their place.
+fn fill<T: Copy>(held: &RefCell<Vec<T>>, these: &[T]) -> io::Result<()> {
+    match held.try_borrow_mut() {
+        Ok(mut held) => {
+            held.clear();
+            held.extend_from_slice(these)?;
+            Ok(())
+        }
+        Err(_) => Err(taken_twice()),
+    }
+}
+
+fn is_filled(held: &RefCell<Vec<u8>>, bytes: &[u8]) -> bool {
+    match held.try_borrow() {
+        Ok(held) => held.as_slice() == bytes,
+        Err(_) => false,
+    }
 }
 
 impl System {
@@ -38,11 +67,10 @@ impl System {
         System {
             turns: RefCell::new(Vec::new(alloc)),
             calls: Cell::new(0),
-            noted: RefCell::new(String::new(alloc)),
-            bytes: RefCell::new(Vec::new(alloc)),
-            shown: RefCell::new(Vec::new(alloc)),
             at: Cell::new(0),
-            taken: RefCell::new(Vec::new(alloc)),
+            bytes: RefCell::new(Vec::new(alloc)),
+            noted: RefCell::new(Vec::new(alloc)),
+            shown: RefCell::new(Vec::new(alloc)),
         }
     }
 
@@ -50,70 +78,36 @@ impl System {
     pub(crate) fn begin(&self, turns: &[Turn], bytes: &[u8]) -> io::Result<()> {
         self.calls.set(0);
         self.at.set(0);
-        self.set_turns(turns)?;
-        self.forget()?;
+        fill(&self.turns, turns)?;
         fill(&self.bytes, bytes)?;
-        fill(&self.taken, &[])
+        fill(&self.noted, b"")?;
+        fill(&self.shown, b"")
     }
 
-    fn set_turns(&self, turns: &[Turn]) -> io::Result<()> {
-        match self.turns.try_borrow_mut() {
-            Ok(mut held) => {
-                held.clear();
-                held.extend_from_slice(turns)?;
-                Ok(())
-            }
-            Err(_) => Err(taken_twice()),
-        }
-    }
-
-    fn forget(&self) -> io::Result<()> {
-        match self.noted.try_borrow_mut() {
-            Ok(mut noted) => {
-                noted.clear();
-                Ok(())
-            }
-            Err(_) => Err(taken_twice()),
-        }
-    }
-
-    fn note(&self, call: &str) -> io::Result<()> {
-        match self.noted.try_borrow_mut() {
-            Ok(mut noted) => {
-                noted.push_str(call)?;
-                noted.push_str(",")?;
-                Ok(())
-            }
-            Err(_) => Err(taken_twice()),
-        }
-    }
-
-    fn turn(&self) -> io::Result<Option<Turn>> {
+    /// What the call does, and that it is made.
+    pub(crate) fn begin_call(&self, call: &str) -> io::Result<Turn> {
+        put(&self.noted, call.as_bytes())?;
+        put(&self.noted, b",")?;
         let number = self.calls.get();
         self.calls.set(number.saturating_add(1));
         match self.turns.try_borrow() {
-            Ok(turns) => Ok(turns.get(number).copied()),
+            Ok(turns) => Ok(
+                turns
+                    .get(number)
+                    .copied()
+                    .unwrap_or(Turn::Moves(usize::MAX)),
+            ),
             Err(_) => Err(taken_twice()),
         }
     }
 
     /// How many of `most` bytes this call moves.
     pub(crate) fn next(&self, call: &str, most: usize) -> io::Result<usize> {
-        self.note(call)?;
-        match self.turn()? {
-            None => Ok(most),
-            Some(Turn::Moves(n)) => Ok(most.min(n)),
-            Some(Turn::Errs(kind) | Turn::Tears(kind)) => Err(io::Error::from(kind)),
+        match self.begin_call(call)? {
+            Turn::Moves(n) => Ok(most.min(n)),
+            Turn::Errs(kind) => Err(io::Error::from(kind)),
+            Turn::Tears(kind) => Err(io::Error::from(kind)),
         }
-    }
-
-    /// What the call does, and that it is made.
-    pub(crate) fn begin_call(&self, call: &str) -> io::Result<Turn> {
-        self.note(call)?;
-        Ok(match self.turn()? {
-            Some(turn) => turn,
-            None => Turn::Moves(usize::MAX),
-        })
     }
 
     /// What `holds` is asked of then: the bytes of the file that was changed last.
@@ -131,22 +125,12 @@ impl System {
 
     /// Whether these calls were made since this was last asked.
     pub(crate) fn has_noted(&self, calls: &str) -> bool {
-        match self.noted.try_borrow_mut() {
-            Ok(mut noted) => {
-                let same = noted.as_str() == calls;
-                noted.clear();
-                same
-            }
-            Err(_) => false,
-        }
+        let same = is_filled(&self.noted, calls.as_bytes());
+        fill(&self.noted, b"").is_ok() && same
     }
 
     pub(crate) fn holds(&self, bytes: &[u8]) -> bool {
         is_filled(&self.shown, bytes)
-    }
-
-    pub(crate) fn has_taken(&self, bytes: &[u8]) -> bool {
-        is_filled(&self.taken, bytes)
     }
 
     /// Gives bytes from the place on.
@@ -163,24 +147,6 @@ impl System {
         buf[..n].copy_from_slice(&left[..n]);
         self.at.set(at + n);
         Ok(n)
-    }
-}
-
-fn fill(held: &RefCell<Vec<u8>>, bytes: &[u8]) -> io::Result<()> {
-    match held.try_borrow_mut() {
-        Ok(mut held) => {
-            held.clear();
-            held.extend_from_slice(bytes)?;
-            Ok(())
-        }
-        Err(_) => Err(taken_twice()),
-    }
-}
-
-fn is_filled(held: &RefCell<Vec<u8>>, bytes: &[u8]) -> bool {
-    match held.try_borrow() {
-        Ok(held) => held.as_slice() == bytes,
-        Err(_) => false,
     }
 }
 
@@ -236,10 +202,7 @@ impl Print for Runtime<'_> {
 
     fn write_some(&self, bytes: &[u8]) -> io::Result<usize> {
         let n = self.0.next("write", bytes.len())?.min(bytes.len());
-        match self.0.taken.try_borrow_mut() {
-            Ok(mut taken) => taken.extend_from_slice(&bytes[..n])?,
-            Err(_) => return Err(taken_twice()),
-        }
+        put(&self.0.shown, &bytes[..n])?;
         Ok(n)
     }
 }

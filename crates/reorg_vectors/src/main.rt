@@ -26,7 +26,7 @@ use std::io;
 use std::marker::Brand;
 use std::process::ExitCode;
 use std::sync::ledger::{Blank, Ledger};
-use tree::{Kept, digest, of_genesis, record_at};
+use tree::{Kept, has_rows, of_genesis, record_at};
 
 /// The kept blocks, and the live cells with the place where they stand.
 #[derive(Drop)]
@@ -71,8 +71,9 @@ impl<'s, L: Ledger> Table<'s, L> {
     fn stands(&mut self, alloc: Global, row: &mut Row) -> Option<bool> {
         let to = row.short()?;
         self.go(alloc, to)?.ok()?;
-        let digest = digest(alloc, self.state.as_ref()?)?;
-        Some(digest.as_str() == row.rest())
+        let count = row.number()?;
+        let hash = row.bytes(alloc)?;
+        has_rows(alloc, self.state.as_ref()?, count, &hash)
     }
 
     fn is_damaged(&mut self, alloc: Global, row: &mut Row) -> Option<bool> {

@@ -5,13 +5,11 @@ ghost use Rattle.cell_model.specs.ListBlocks.{IsCanonical, IsExtFor};
 
 use blake2b_ckb::{Hasher, ckbhash};
 use cell_model::{CellMeta, Ext, ListBlocks, OutPoint};
-use cell_state::{State, tx_hashes};
+use cell_state::{State, go_to, tx_hashes};
 use chain_tree::{Entry, Tree};
 use mol_schema::{BlockView, HeaderView};
 use outside::{ReadStop, Steps};
-use reorg::go_to;
 use std::alloc::Global;
-use std::string::String;
 use std::sync::ledger::Ledger;
 
 /// The most blocks that are kept.
@@ -159,13 +157,11 @@ fn hash_on(hasher: &mut Hasher, o: &OutPoint, meta: &CellMeta) {
     hasher.update(&meta.data_len.to_le_bytes());
 }
 
-/// How many cells are live, and the hash of all their rows in order.
-pub(crate) fn digest(alloc: Global, state: &State) -> Option<String> {
+/// Whether so many cells are live, and their rows in order have this hash.
+pub(crate) fn has_rows(alloc: Global, state: &State, count: u64, hash: &[u8]) -> Option<bool> {
     let mut hasher = Hasher::new();
     for row in &state.sorted(alloc).ok()? {
         hash_on(&mut hasher, &row.0, &row.1);
     }
-    let hash = hex::encode(alloc, hasher.finalize()).ok()?;
-    let count = state.rows();
-    format!(in alloc; "{count}\t{hash}").ok()
+    Some(count == state.rows() && hash == hasher.finalize().as_slice())
 }

@@ -1,6 +1,6 @@
 // Rows of epochs and of the chain specification.
 ghost use Rattle.std.specs.Prelude.{IsTrue, IfSome};
-ghost use Rattle.time_defs.specs.Specification.{keeps_s2};
+ghost use Rattle.chain_defs.specs.Specification.{keeps_s2};
 
 use epochs::{Spec, epoch_of, field, parts, primary, share, span_over, well_formed};
 use row_table::Row;
@@ -8,40 +8,6 @@ use std::alloc::Global;
 
 fn spec_of(alloc: Global, row: &mut Row) -> Option<Spec> {
     Spec::read(&row.bytes(alloc)?).ok()
-}
-
-/// The bytes of a specification, and the rule that they break, or 0.
-pub(crate) fn agrees_on_rule(alloc: Global, row: &mut Row) -> Option<bool> {
-    let broken = Spec::read(&row.bytes(alloc)?).err().unwrap_or(0);
-    Some(u32::from(broken) == row.short()?)
-}
-
-/// A field of a specification that is a number.
-fn number_of(spec: &Spec, name: &str) -> Option<u64> {
-    match name {
-        "compact_target" => Some(u64::from(spec.compact_target)),
-        "epoch_length" => Some(u64::from(spec.epoch_length)),
-        "w_close" => Some(u64::from(spec.w_close)),
-        "w_far" => Some(u64::from(spec.w_far)),
-        "max_block_bytes" => Some(u64::from(spec.max_block_bytes)),
-        "max_proposals" => Some(u64::from(spec.max_proposals)),
-        "max_cycles" => Some(spec.max_cycles),
-        "maturity" => Some(spec.maturity),
-        "primary_reward" => Some(spec.primary_reward),
-        "secondary_reward" => Some(spec.secondary_reward),
-        "halving_interval" => Some(spec.halving_interval),
-        _ => None,
-    }
-}
-
-/// The bytes of a specification, a field's name and its value.
-pub(crate) fn agrees_on_field(alloc: Global, row: &mut Row) -> Option<bool> {
-    let spec = spec_of(alloc, row)?;
-    let name = row.word();
-    if name == "dao_code_hash" {
-        return Some(row.bytes(alloc)?.as_slice() == spec.dao_code_hash.as_slice());
-    }
-    Some(number_of(&spec, name)? == row.number()?)
 }
 
 /// Blocks in an epoch.

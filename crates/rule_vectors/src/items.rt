@@ -4,7 +4,7 @@ use crate::chain::{Chain, ext_of, join, parent_of};
 use blake2b_ckb::ckbhash;
 use block_rules::Checked;
 use mol_schema::BlockView;
-use rule_names::Rule;
+use rule_defs::Rule;
 use std::alloc::Global;
 
 /// The first rule that a block breaks which is not kept: its parent is kept, J4 to J8, or J9 to J14.

@@ -1,7 +1,7 @@
 //! The rules on a block by what they are printed as, and their lines.
 
 use row_table::Row;
-use rule_names::Rule;
+use rule_defs::Rule;
 use std::alloc::Global;
 
 /// Whether the rule that is printed as a row has it has the row's line.

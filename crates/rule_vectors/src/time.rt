@@ -7,8 +7,6 @@ use std::alloc::Global;
 /// Whether the call gives what the row says; None where it is no row.
 pub(crate) fn agrees(alloc: Global, row: &mut Row) -> Option<bool> {
     match row.word() {
-        "Spec::read" => epoch::agrees_on_rule(alloc, row),
-        "Spec" => epoch::agrees_on_field(alloc, row),
         "epoch_of" => epoch::agrees_on_epoch(row),
         "parts" => epoch::agrees_on_parts(row),
         "well_formed" => epoch::agrees_on_form(row),

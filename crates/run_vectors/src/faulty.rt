@@ -1,86 +1,23 @@
 // A list of runs that is made again and again, each time with another call of a disk, a source or a sink that fails.
 
-use crate::row::Call;
-use crate::streams::Behaviour;
-use crate::trial::status_of;
+use crate::list::{Made, answers_as, made_of, status_of};
+use crate::row::Run;
 use outside::Steps;
 use outside_mem::MemDisk;
+use run_list::run_all;
 use std::alloc::{AllocError, Global};
-use std::str;
 use std::sync::ledger::Ledger;
+use std::{slice, str};
 
 /// The most calls that such a list may make.
 const MOST_CALLS: u64 = 10_000;
 
-/// Whose calls fail: those of the disk, or those of each run's source or sink but the first run's, which makes the store.
+/// How a run ended: as it must, with the status of a fault and a beginning of its text, or in another way.
 #[derive(Clone, Copy, PartialEq, Eq)]
-pub enum Failing {
-    Source,
-    Sink,
-    Disk,
-}
-
-impl Failing {
-    pub fn of(name: &str) -> Option<Failing> {
-        match name {
-            "source" => Some(Failing::Source),
-            "sink" => Some(Failing::Sink),
-            "disk" => Some(Failing::Disk),
-            _ => None,
-        }
-    }
-
-    /// The number of the status of a run in which such a call failed.
-    fn status(self) -> u8 {
-        match self {
-            Failing::Source => 3,
-            Failing::Sink => 4,
-            Failing::Disk => 5,
-        }
-    }
-
-    /// A disk of which the call of this number fails, where it is the disk's that fail.
-    fn disk(self, alloc: Global, call: u64) -> Result<MemDisk, AllocError> {
-        let mut calls = Vec::new(alloc);
-        if self == Failing::Disk {
-            calls.push(call)?;
-        }
-        Ok(MemDisk::new(alloc, calls))
-    }
-
-    /// Streams of which the call of this number fails, where it is theirs that fail.
-    fn streams(self, alloc: Global, call: u64) -> Result<Behaviour, AllocError> {
-        let mut behaviour = Behaviour::plain(alloc);
-        match self {
-            Failing::Source => behaviour.reads.push(call)?,
-            Failing::Sink => behaviour.writes.push(call)?,
-            Failing::Disk => {}
-        }
-        Ok(behaviour)
-    }
-}
-
-/// An input, and the run over it.
-#[derive(Drop)]
-struct Made {
-    input: Vec<u8>,
-    wanted: Call,
-}
-
-/// What a run answered.
-#[derive(Drop)]
-struct Answer {
-    status: u8,
-    text: Vec<u8>,
-}
-
-/// Runs that are to be made with each call that fails: those from `first` on fail in turn, and `least` of them are made at least.
-#[derive(Drop)]
-pub struct FaultyRuns {
-    runs: Vec<Made>,
-    failing: Failing,
-    first: u64,
-    least: u64,
+enum End {
+    Whole,
+    CutOff,
+    Other,
 }
 
 /// Whether a line says of the item of another line, which joined, that it is known.
@@ -104,103 +41,151 @@ fn are_lines(text: &[u8], wanted: &[u8]) -> bool {
         .all(|(line, other)| line == other || says_known(line, other))
 }
 
-fn answer_of<L: Ledger>(
-    alloc: Global,
-    disk: &mut MemDisk,
-    steps: &mut Steps<L>,
-    made: &Made,
-    behaviour: &Behaviour,
-) -> Result<Answer, AllocError> {
-    let mut input = behaviour.source_of(&made.input, alloc)?;
-    let mut out = behaviour.sink(alloc)?;
-    let status = status_of(alloc, &made.wanted.words, &mut input, &mut out, disk, steps);
-    let text = out.inner.taken().to_vec(alloc)?;
-    Ok(Answer { status, text })
+fn end_of(made: &Made, run: &Run, status: u8) -> End {
+    if answers_as(made, run) {
+        End::Whole
+    } else if status_of(made) == status && run.text.starts_with(made.out.inner.taken()) {
+        End::CutOff
+    } else {
+        End::Other
+    }
 }
 
-/// Whether a run answers as it must. Where a call failed in it, it has the status of that and a beginning of its text, and once
-/// more over the same disk it has all of it. Then `failed` is set.
-fn agrees_once<L: Ledger>(
-    alloc: Global,
-    disk: &mut MemDisk,
-    steps: &mut Steps<L>,
-    made: &Made,
-    behaviour: &Behaviour,
+/// The number of the call, where it fails.
+fn failing(alloc: Global, call: u64, fails: bool) -> Result<Vec<u64>, AllocError> {
+    let mut calls = Vec::new(alloc);
+    if fails {
+        calls.push(call)?;
+    }
+    Ok(calls)
+}
+
+/// A new disk, and which call fails: of the disk where the status of that fault is 5, of the source of each run where it is 3, of
+/// the sink where it is 4.
+#[derive(Drop)]
+struct Trial {
+    disk: MemDisk,
     status: u8,
-    failed: &mut bool,
-) -> Result<bool, AllocError> {
-    let found = answer_of(alloc, disk, steps, made, behaviour)?;
-    if found.status == made.wanted.status {
-        return Ok(found.text.as_slice() == made.wanted.text.as_slice());
-    }
-    if *failed || found.status != status || !made.wanted.text.starts_with(found.text.as_slice()) {
-        return Ok(false);
-    }
-    *failed = true;
-    let plain = Behaviour::plain(alloc);
-    let again = answer_of(alloc, disk, steps, made, &plain)?;
-    Ok(again.status == made.wanted.status && are_lines(&again.text, &made.wanted.text))
+    call: u64,
+    has_failed: bool,
 }
 
-impl FaultyRuns {
-    pub fn new(alloc: Global, failing: Failing, first: u64, least: u64) -> FaultyRuns {
-        FaultyRuns {
-            runs: Vec::new(alloc),
-            failing,
-            first,
-            least,
-        }
+impl Trial {
+    fn new(alloc: Global, status: u8, call: u64) -> Result<Trial, AllocError> {
+        Ok(Trial {
+            disk: MemDisk::new(alloc, failing(alloc, call, status == 5)?),
+            status,
+            call,
+            has_failed: false,
+        })
     }
 
-    /// One run more, over this input.
-    pub fn push(&mut self, alloc: Global, input: &[u8], wanted: Call) -> Result<(), AllocError> {
-        let input = input.to_vec(alloc)?;
-        self.runs.push(Made { input, wanted })?;
-        Ok(())
-    }
-
-    /// The runs where one call fails: None where one does not agree, and else whether that call was made.
-    fn pass<L: Ledger>(
-        &self,
+    /// Makes a run; the call of its streams fails where that may be.
+    fn make<L: Ledger>(
+        &mut self,
         alloc: Global,
         steps: &mut Steps<L>,
-        call: u64,
-    ) -> Result<Option<bool>, AllocError> {
-        let mut disk = self.failing.disk(alloc, call)?;
-        let faulty = self.failing.streams(alloc, call)?;
-        let plain = Behaviour::plain(alloc);
-        let mut failed = false;
-        for (at, made) in self.runs.iter().enumerate() {
-            let behaviour = if at == 0 || failed { &plain } else { &faulty };
-            let status = self.failing.status();
-            if !agrees_once(
-                alloc,
-                &mut disk,
-                steps,
-                made,
-                behaviour,
-                status,
-                &mut failed,
-            )? {
-                return Ok(None);
-            }
-        }
-        Ok(Some(failed))
+        run: &Run,
+        may_fail: bool,
+    ) -> Result<Made, AllocError> {
+        let reads = failing(alloc, self.call, may_fail && self.status == 3)?;
+        let writes = failing(alloc, self.call, may_fail && self.status == 4)?;
+        let mut made = made_of(alloc, run, &reads, &writes, usize::MAX)?;
+        run_all(alloc, slice::from_mut(&mut made), &mut self.disk, steps);
+        Ok(made)
     }
 
-    /// Whether all agree with each call that fails, up to the first that is not made.
-    pub fn agrees<L: Ledger>(
-        &self,
+    fn ends<L: Ledger>(
+        &mut self,
         alloc: Global,
         steps: &mut Steps<L>,
+        run: &Run,
+        may_fail: bool,
+    ) -> Result<End, AllocError> {
+        let made = self.make(alloc, steps, run, may_fail)?;
+        let end = end_of(&made, run, self.status);
+        drop(made);
+        Ok(end)
+    }
+
+    /// Whether a run answers as it must once more: of an item it may say that it is known.
+    fn agrees_again<L: Ledger>(
+        &mut self,
+        alloc: Global,
+        steps: &mut Steps<L>,
+        run: &Run,
     ) -> Result<bool, AllocError> {
-        for turn in 0..MOST_CALLS {
-            match self.pass(alloc, steps, self.first.saturating_add(turn))? {
-                None => return Ok(false),
-                Some(true) => {}
-                Some(false) => return Ok(turn >= self.least),
+        let made = self.make(alloc, steps, run, false)?;
+        let agrees = status_of(&made) == run.status && are_lines(made.out.inner.taken(), &run.text);
+        drop(made);
+        Ok(agrees)
+    }
+
+    /// Whether a run answers as it must. The first in which the call fails has the status of that and a beginning of its text,
+    /// and once more over the same disk it has all of it.
+    fn agrees<L: Ledger>(
+        &mut self,
+        alloc: Global,
+        steps: &mut Steps<L>,
+        run: &Run,
+        may_fail: bool,
+    ) -> Result<bool, AllocError> {
+        match self.ends(alloc, steps, run, may_fail && !self.has_failed)? {
+            End::Whole => Ok(true),
+            End::CutOff if !self.has_failed => {
+                self.has_failed = true;
+                self.agrees_again(alloc, steps, run)
+            }
+            _ => Ok(false),
+        }
+    }
+
+    /// Whether all runs do; the streams of the first, which makes the store, do not fail.
+    fn all_agree<L: Ledger>(
+        &mut self,
+        alloc: Global,
+        steps: &mut Steps<L>,
+        runs: &[Run],
+    ) -> Result<bool, AllocError> {
+        for (at, run) in runs.iter().enumerate() {
+            if !self.agrees(alloc, steps, run, at > 0)? {
+                return Ok(false);
             }
         }
-        Ok(false)
+        Ok(true)
     }
+}
+
+/// Whether all runs agree where a call fails, and whether that call was made.
+fn pass<L: Ledger>(
+    alloc: Global,
+    steps: &mut Steps<L>,
+    runs: &[Run],
+    status: u8,
+    call: u64,
+) -> Result<(bool, bool), AllocError> {
+    let mut trial = Trial::new(alloc, status, call)?;
+    let agree = trial.all_agree(alloc, steps, runs);
+    let has_failed = trial.has_failed;
+    drop(trial);
+    Ok((agree?, has_failed))
+}
+
+/// Whether all agree with each call that fails with this status, from a first one up to the first that is not made; at least so
+/// many are.
+pub fn agrees<L: Ledger>(
+    alloc: Global,
+    steps: &mut Steps<L>,
+    runs: &[Run],
+    status: u8,
+    first: u64,
+    least: u64,
+) -> Result<bool, AllocError> {
+    for turn in 0..MOST_CALLS {
+        let (agree, has_failed) = pass(alloc, steps, runs, status, first.saturating_add(turn))?;
+        if !agree || !has_failed {
+            return Ok(agree && turn >= least);
+        }
+    }
+    Ok(false)
 }

@@ -1,80 +1,71 @@
 // A list of runs over one disk, in one call.
 
-use crate::row::{Call, words_of};
-use crate::streams::{Behaviour, Trickle};
+use crate::row::{Run, words_of};
+use crate::trickle::Trickle;
 use outside::Steps;
 use outside_mem::{MemDisk, MemSink, MemSource};
-use run_list::run_all;
+use run_list::{Call, run_all};
 use std::alloc::{AllocError, Global};
 use std::sync::ledger::Ledger;
 
-type Run = run_list::Call<Trickle<MemSource>, Trickle<MemSink>>;
+pub type Made = Call<Trickle<MemSource>, Trickle<MemSink>>;
 
-/// Runs that are to come, and beside each what it must answer.
-#[derive(Drop)]
-pub struct RunList {
-    runs: Vec<Run>,
-    wanted: Vec<Call>,
-}
-
-/// Whether status and text of a run are the call's.
-fn answers_as(run: &Run, wanted: &Call) -> bool {
-    let Some(status) = run.status else {
-        return false;
-    };
-    status.number() == wanted.status && run.out.inner.taken() == wanted.text.as_slice()
-}
-
-fn run_of(
+/// A run that is still to be made, of which these reads and writes fail, and whose streams move at most so many bytes a call.
+pub fn made_of(
     alloc: Global,
-    words: &str,
-    behaviour: &Behaviour,
-    input: &[u8],
-) -> Result<Run, AllocError> {
-    Ok(run_list::Call {
-        words: words_of(alloc, words)?,
-        input: behaviour.source_of(input, alloc)?,
-        out: behaviour.sink(alloc)?,
+    run: &Run,
+    reads: &[u64],
+    writes: &[u64],
+    most: usize,
+) -> Result<Made, AllocError> {
+    let words = words_of(alloc, run.words.as_str())?;
+    let inner = MemSource::new(run.input.to_vec(alloc)?, reads.to_vec(alloc)?);
+    let input = Trickle { inner, most };
+    let inner = MemSink::new(alloc, writes.to_vec(alloc)?);
+    Ok(Call {
+        words,
+        input,
+        out: Trickle { inner, most },
         stop: None,
         status: None,
     })
 }
 
-impl RunList {
-    pub fn new(alloc: Global) -> RunList {
-        RunList {
-            runs: Vec::new(alloc),
-            wanted: Vec::new(alloc),
-        }
+/// The number of the status that a run ended with, 255 where it was not made.
+pub fn status_of(made: &Made) -> u8 {
+    match made.status {
+        Some(status) => status.number(),
+        None => 255,
     }
+}
 
-    /// One run more, over this input and streams that behave so.
-    pub fn push(
-        &mut self,
-        alloc: Global,
-        words: &str,
-        behaviour: &Behaviour,
-        input: &[u8],
-        wanted: Call,
-    ) -> Result<(), AllocError> {
-        let run = run_of(alloc, words, behaviour, input)?;
-        self.runs.push(run)?;
-        self.wanted.push(wanted)?;
-        Ok(())
-    }
+/// Whether status and text of a run are as they must be.
+pub fn answers_as(made: &Made, run: &Run) -> bool {
+    status_of(made) == run.status && made.out.inner.taken() == run.text.as_slice()
+}
 
-    /// Runs all of them, and tells whether each answers as it must.
-    pub fn agrees<L: Ledger>(
-        &mut self,
-        alloc: Global,
-        disk: &mut MemDisk,
-        steps: &mut Steps<L>,
-    ) -> bool {
-        run_all(alloc, &mut self.runs, disk, steps);
-        let mut agreed = self.runs.len() == self.wanted.len();
-        for (run, wanted) in self.runs.iter().zip(&self.wanted) {
-            agreed = agreed && answers_as(run, wanted);
-        }
-        agreed
+fn all_made(alloc: Global, runs: &[Run]) -> Result<Vec<Made>, AllocError> {
+    let mut made = Vec::new(alloc);
+    for run in runs {
+        made.push(made_of(alloc, run, &run.reads, &run.writes, 1)?)?;
     }
+    Ok(made)
+}
+
+/// Makes all runs over a new disk, of which these calls fail, and tells whether each answers as it must.
+pub fn agrees<L: Ledger>(
+    alloc: Global,
+    steps: &mut Steps<L>,
+    runs: &[Run],
+    failing: Vec<u64>,
+) -> Result<bool, AllocError> {
+    let mut made = all_made(alloc, runs)?;
+    let mut disk = MemDisk::new(alloc, failing);
+    run_all(alloc, &mut made, &mut disk, steps);
+    let agree = made
+        .iter()
+        .zip(runs)
+        .all(|(made, run)| answers_as(made, run));
+    drop(made);
+    Ok(agree)
 }

@@ -2,9 +2,9 @@
 ghost use Rattle.std.specs.Prelude.{◌≡◌, ◌<◌, Some};
 
 use crate::logs::{Shown, put};
-use block_store::{Cache, Store};
 use chain_tree::{Blocks, Tree};
 use log_file::{Opened, open};
+use node_store::{Cache, Store};
 use outside::{Area, ReadStop};
 use outside_mem::MemDisk;
 use row_table::Row;

@@ -1,6 +1,6 @@
-// Rows of what the records of a log may hold.
+// Rows of what the record of a block holds.
 
-use log_file::{ext_form, genesis_ok, parts};
+use log_file::{ext_form, parts};
 use row_table::Row;
 use std::alloc::Global;
 
@@ -22,10 +22,4 @@ pub(crate) fn agrees_on_parts(alloc: Global, row: &mut Row) -> Option<bool> {
 pub(crate) fn agrees_on_ext(alloc: Global, row: &mut Row) -> Option<bool> {
     let has_form = ext_form(&row.bytes(alloc)?);
     Some(row.is("yes", "no")? == has_form)
-}
-
-/// The number of the rule that a genesis breaks, or 0.
-pub(crate) fn agrees_on_genesis(alloc: Global, row: &mut Row) -> Option<bool> {
-    let broken = genesis_ok(alloc, &row.bytes(alloc)?).ok()?;
-    Some(u64::from(broken.unwrap_or(0)) == row.number()?)
 }

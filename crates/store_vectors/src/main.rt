@@ -1,10 +1,11 @@
-//! Logs and the tree of the kept blocks: makes the call of each row of its standard input, and prints the rows that differ.
+//! Kept blocks that are read by their places, over caches of several sizes, and snapshots, each over a disk of which a call fails:
+//! makes the call of each row of its standard input, and prints the rows that differ. Logs that are made, cut and changed the
+//! built program is run over (tests/runs.py).
 //!
 //! A row begins with what it calls, has a column for each argument and ends with the answer, with a tab between two; bytes are
 //! in hex, `-` for none. `disk` makes a new disk in memory, with the numbers of the calls that fail, and `tree` a new tree; the
-//! rows below use them. `bytes` has bytes of a log, which `changed`, `fronts`, `put`, `prefix` and `brings` are about. A line that
-//! begins with `#` tells what follows. The records are by docs/STORE.md, the blocks by docs/RULES.md with hashes of Python's own Blake2b, and
-//! the medians by its `sorted`.
+//! rows below use them. `bytes` has bytes of a log, which `put`, `prefix` and `brings` are about. A line that begins with `#`
+//! tells what follows. The records are by docs/STORE.md, and tests/README.md says which rows scripts make.
 #![tactic(auto)]
 
 mod brought;
@@ -55,37 +56,12 @@ impl Store {
 
     fn agrees_on_log(&mut self, alloc: Global, call: &str, row: &mut Row) -> Option<bool> {
         match call {
-            "create" => logs::agrees_on_create(alloc, &mut self.disk, row),
-            "append" => logs::agrees_on_append(alloc, &mut self.disk, row),
-            "log" => logs::agrees_on_log(alloc, &mut self.disk, row),
-            "byte" => logs::agrees_on_byte(&mut self.disk, row),
-            "open" => logs::agrees_on_open(alloc, &mut self.disk, row),
-            "changed" => logs::agrees_on_changed(alloc, &self.bytes, row),
-            "fronts" => logs::agrees_on_prefixes(alloc, &self.bytes, row),
-            call => self.agrees_on_bodies(alloc, call, row),
-        }
-    }
-
-    fn agrees_on_bodies(&mut self, alloc: Global, call: &str, row: &mut Row) -> Option<bool> {
-        match call {
             "put" => logs::put(&mut self.disk, &self.bytes),
             "prefix" => logs::put_prefix(&mut self.disk, &self.bytes, row),
             "write" => logs::put_at(alloc, &mut self.disk, row),
             "brings" => brought::agrees_on_brings(alloc, &mut self.disk, &self.bytes, row),
-            call => self.agrees_on_tree(alloc, call, row),
-        }
-    }
-
-    fn agrees_on_tree(&mut self, alloc: Global, call: &str, row: &mut Row) -> Option<bool> {
-        match call {
-            "branch" => trees::agrees_on_branch(&mut self.tree, row),
-            "ancestors" => trees::agrees_on_ancestors(&self.tree, row),
-            "missing" => trees::agrees_on_missing(&self.tree, row),
-            "median" => trees::agrees_on_median(alloc, row),
             "parts" => forms::agrees_on_parts(alloc, row),
             "ext_form" => forms::agrees_on_ext(alloc, row),
-            "genesis" => forms::agrees_on_genesis(alloc, row),
-            "snapshot" => snaps::agrees(alloc, &mut self.disk, &self.tree, row),
             _ => None,
         }
     }
@@ -97,6 +73,8 @@ impl Subject for Store {
             "disk" => self.begin_disk(alloc, row),
             "bytes" => self.take_bytes(alloc, row),
             "tree" => self.begin_tree(alloc),
+            "branch" => trees::agrees_on_branch(&mut self.tree, row),
+            "snapshot" => snaps::agrees(alloc, &mut self.disk, &self.tree, row),
             call => self.agrees_on_log(alloc, call, row),
         }
     }

@@ -2,12 +2,12 @@
 
 use crate::cells::meta_in;
 use crate::kept::Chain;
-use crate::wanted::wanted;
 use cell_model::{OutPoint, Resolved, ResolvedTx, tx_hash};
 use mol_schema::TxView;
-use script_defs::Failure;
+use row_table::Row;
 use script_run::{ScriptStop, run_groups};
 use std::alloc::Global;
+use verdict_defs::Failure;
 
 /// Bytes that rows name.
 #[derive(Drop)]
@@ -81,16 +81,17 @@ fn resolved_of<'a>(
     alloc: Global,
     blobs: &[Blob],
     tx: TxView<'a>,
-    columns: &str,
+    row: &mut Row,
 ) -> Option<ResolvedTx<'a>> {
-    let (inputs, columns) = columns.split_once('\t')?;
-    let (deps, headers) = columns.split_once('\t')?;
+    let inputs = cells_of(alloc, blobs, row.word())?;
+    let deps = cells_of(alloc, blobs, row.word())?;
+    let headers = places_of(alloc, row.word())?;
     Some(ResolvedTx {
         hash: tx_hash(&tx),
         tx,
-        inputs: cells_of(alloc, blobs, inputs)?,
-        deps: cells_of(alloc, blobs, deps)?,
-        headers: places_of(alloc, headers)?,
+        inputs,
+        deps,
+        headers,
     })
 }
 
@@ -114,45 +115,60 @@ fn outcome(
     ))
 }
 
-fn is_wanted(got: Result<u64, ScriptStop>, wanted: &Result<u64, Failure>) -> bool {
-    match (got, wanted) {
-        (Ok(cycles), Ok(wanted)) => cycles == *wanted,
-        (Err(ScriptStop::Failed(failure)), Err(wanted)) => failure == *wanted,
-        _ => false,
+/// How a transaction's groups are run, so many times, and what each run is to be answered: a word, the place of a group or the
+/// cycles, and a number.
+#[derive(Clone, Copy)]
+struct Asked<'a> {
+    budget: u64,
+    rounds: u32,
+    word: &'a str,
+    group: u64,
+    number: i64,
+}
+
+fn asked_of<'a>(rounds: u32, budget: u64, wanted: &'a str) -> Option<Asked<'a>> {
+    let mut words = wanted.split(' ');
+    let word = words.next()?;
+    let group = words.next().unwrap_or("0").parse().ok()?;
+    let number = words.next().unwrap_or("0").parse().ok()?;
+    Some(Asked {
+        budget,
+        rounds,
+        word,
+        group,
+        number,
+    })
+}
+
+/// A failure as its word, the place of its group and its number.
+fn told(failure: Failure) -> (&'static str, u64, i64) {
+    match failure {
+        Failure::NoCode(group) => ("no_code", u64::from(group), 0),
+        Failure::ManyCodes(group) => ("many_codes", u64::from(group), 0),
+        Failure::BadElf(group, number) => ("bad_elf", u64::from(group), i64::from(number)),
+        Failure::MachineFault(group, number) => ("fault", u64::from(group), i64::from(number)),
+        Failure::ExitNot0(group, number) => ("exit", u64::from(group), i64::from(number)),
+        Failure::Spent => ("spent", 0, 0),
     }
 }
 
-/// How a transaction's groups are run, so many times, and what each run is to be answered.
-#[derive(Drop)]
-struct Asked {
-    budget: u64,
-    rounds: u32,
-    wanted: Result<u64, Failure>,
+fn is_wanted(got: Result<u64, ScriptStop>, asked: &Asked<'_>) -> bool {
+    let (word, group, number) = match got {
+        Ok(cycles) => ("ok", cycles, 0),
+        Err(ScriptStop::Failed(failure)) => told(failure),
+        Err(_) => return false,
+    };
+    word == asked.word && group == asked.group && number == asked.number
 }
 
 /// Whether each run is answered as is wanted.
-fn agree(alloc: Global, chain: &mut Chain, tx: &ResolvedTx<'_>, asked: &Asked) -> Option<bool> {
+fn agree(alloc: Global, chain: &mut Chain, tx: &ResolvedTx<'_>, asked: &Asked<'_>) -> Option<bool> {
     for _ in 0..asked.rounds {
-        if !is_wanted(outcome(alloc, chain, tx, asked.budget)?, &asked.wanted) {
+        if !is_wanted(outcome(alloc, chain, tx, asked.budget)?, asked) {
             return Some(false);
         }
     }
     Some(true)
-}
-
-fn agrees_on(
-    alloc: Global,
-    blobs: &[Blob],
-    chain: &mut Chain,
-    asked: &Asked,
-    columns: &str,
-) -> Option<bool> {
-    let (tx, columns) = columns.split_once('\t')?;
-    let bytes = hex::decode(alloc, tx).ok()?;
-    let tx = resolved_of(alloc, blobs, TxView::read(&bytes)?, columns)?;
-    let answer = agree(alloc, chain, &tx, asked);
-    drop(tx);
-    answer
 }
 
 /// Whether a transaction is answered as its row wants, so many times; None where that is none.
@@ -161,14 +177,13 @@ pub(crate) fn agrees(
     blobs: &[Blob],
     chain: &mut Chain,
     rounds: u32,
-    columns: &str,
+    row: &mut Row,
 ) -> Option<bool> {
-    let (answer, columns) = columns.split_once('\t')?;
-    let (budget, columns) = columns.split_once('\t')?;
-    let asked = Asked {
-        budget: budget.parse().ok()?,
-        rounds,
-        wanted: wanted(answer)?,
-    };
-    agrees_on(alloc, blobs, chain, &asked, columns)
+    let wanted = row.word();
+    let asked = asked_of(rounds, row.number()?, wanted)?;
+    let bytes = row.bytes(alloc)?;
+    let tx = resolved_of(alloc, blobs, TxView::read(&bytes)?, row)?;
+    let answer = agree(alloc, chain, &tx, &asked);
+    drop(tx);
+    answer
 }

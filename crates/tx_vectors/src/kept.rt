@@ -7,7 +7,7 @@ ghost use Rattle.chain_tree.specs.Blocks.{AreRated};
 
 use blake2b_ckb::ckbhash;
 use cell_model::{CellMeta, Cells, Ext, ListBlocks, OutPoint};
-use cell_state::{State, outputs_in, tx_hashes};
+use cell_state::{Odd, State, outputs_in, tx_hashes};
 use chain_tree::{Entry, Tree};
 use dao_math::is_rated;
 use epochs::Spec;
@@ -107,6 +107,20 @@ fn join(tree: &mut Tree, entry: Entry) -> Option<()> {
     Some(())
 }
 
+/// What a block at a place is answered that is applied to live cells.
+pub(crate) fn applied<L: Ledger>(
+    alloc: Global,
+    state: &mut State,
+    steps: &mut Steps<L>,
+    bytes: &[u8],
+    place: u32,
+) -> Option<Result<(), Odd>> {
+    let block = BlockView::read(bytes)?;
+    state.reserve(outputs_in(&block)).ok()?;
+    let hashes = tx_hashes(alloc, &block).ok()?;
+    Some(state.apply(&block, &hashes, place, steps))
+}
+
 /// Applies a block at a place to live cells; None where it does not fit.
 fn apply<L: Ledger>(
     alloc: Global,
@@ -115,10 +129,7 @@ fn apply<L: Ledger>(
     bytes: &[u8],
     place: u32,
 ) -> Option<()> {
-    let block = BlockView::read(bytes)?;
-    state.reserve(outputs_in(&block)).ok()?;
-    let hashes = tx_hashes(alloc, &block).ok()?;
-    state.apply(&block, &hashes, place, steps).ok()
+    applied(alloc, state, steps, bytes, place)?.ok()
 }
 
 pub(crate) fn out_point_in(bytes: &[u8]) -> Option<OutPoint> {

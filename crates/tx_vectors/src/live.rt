@@ -1,15 +1,14 @@
 //! The live cells after blocks, one after the other.
 
-use crate::cells::{bytes_of, is_text};
-use crate::kept::out_point_in;
+use crate::kept::{applied, out_point_in};
 use crate::rows::{hash_on, made_up};
 use blake2b_ckb::Hasher;
-use cell_model::{Cells, Ext};
-use cell_state::{Odd, State, outputs_in, tx_hashes};
+use cell_model::{Cells, Ext, OutPoint};
+use cell_state::{Odd, State, tx_hashes};
 use mol_schema::BlockView;
 use outside::{NoMemory, Steps};
+use row_table::Row;
 use std::alloc::Global;
-use std::string::String;
 use std::sync::ledger::Ledger;
 
 /// Whether the live cells answer what the columns want; None where they are no row.
@@ -17,18 +16,14 @@ pub(crate) fn agrees<L: Ledger>(
     alloc: Global,
     state: &mut Option<State>,
     steps: &mut Steps<L>,
-    columns: &str,
+    row: &mut Row,
 ) -> Option<bool> {
-    let (wanted, digits) = columns.split_once('\t')?;
-    if let Some((block, ext)) = digits.split_once('\t') {
-        let (block, ext) = (bytes_of(alloc, block)?, bytes_of(alloc, ext)?);
-        return is_undone(alloc, state.as_mut()?, steps, wanted, &block, &ext);
-    }
-    let bytes = bytes_of(alloc, digits)?;
+    let wanted = row.word();
+    let bytes = row.bytes(alloc)?;
     if wanted == "genesis" {
         return begins(alloc, state, &bytes);
     }
-    is_answered(alloc, state.as_mut()?, steps, wanted, &bytes)
+    agrees_on(alloc, state.as_mut()?, steps, wanted, &bytes, row)
 }
 
 /// The live cells after a genesis alone.
@@ -39,27 +34,22 @@ fn begins(alloc: Global, state: &mut Option<State>, bytes: &[u8]) -> Option<bool
     Some(state.is_some())
 }
 
-fn is_answered<L: Ledger>(
+fn agrees_on<L: Ledger>(
     alloc: Global,
     state: &mut State,
     steps: &mut Steps<L>,
     wanted: &str,
     bytes: &[u8],
+    row: &mut Row,
 ) -> Option<bool> {
     let (word, rest) = wanted.split_once(' ').unwrap_or((wanted, ""));
     match word {
         "load" => Some(load(state, steps, rest.parse().ok()?).is_ok()),
-        "rows" => is_text(digest(alloc, state), wanted),
-        "row" => is_text(found(alloc, state, bytes), wanted),
-        "none" => is_text(found(alloc, state, bytes), wanted),
-        _ => is_text(applied(alloc, state, steps, place_of(rest)?, bytes), wanted),
+        "rows" => has_rows(alloc, state, rest),
+        "row" => has_row(alloc, state, bytes, rest),
+        "none" => Some(state.get(&out_point_in(bytes)?).is_none()),
+        _ => is_changed(alloc, state, steps, word, rest, bytes, row),
     }
-}
-
-/// The number before a word.
-fn place_of(text: &str) -> Option<u32> {
-    let (place, _) = text.split_once(' ').unwrap_or((text, ""));
-    place.parse().ok()
 }
 
 /// Adds so many made-up rows, but for those that are there.
@@ -74,87 +64,82 @@ fn load<L: Ledger>(state: &mut State, steps: &mut Steps<L>, count: u32) -> Resul
     Ok(())
 }
 
+/// Whether these are the bytes in hex.
+fn is_hex(alloc: Global, bytes: &[u8], digits: &str) -> Option<bool> {
+    Some(hex::decode(alloc, digits).ok()?.as_slice() == bytes)
+}
+
 /// How many rows there are and the hash of all in order.
-fn digest(alloc: Global, state: &State) -> Option<String> {
+fn has_rows(alloc: Global, state: &State, wanted: &str) -> Option<bool> {
+    let (count, hash) = wanted.split_once(' ')?;
     let mut hasher = Hasher::new();
     for row in &state.sorted(alloc).ok()? {
         hash_on(&mut hasher, &row.0, &row.1);
     }
-    let hash = hex::encode(alloc, hasher.finalize()).ok()?;
-    let count = state.rows();
-    format!(in alloc; "rows {count} {hash}").ok()
+    Some(count.parse() == Ok(state.rows()) && is_hex(alloc, &hasher.finalize(), hash)?)
 }
 
-/// The hash of the row of an out-point, or `none`.
-fn found(alloc: Global, state: &State, bytes: &[u8]) -> Option<String> {
+/// The hash of the row of an out-point.
+fn has_row(alloc: Global, state: &State, bytes: &[u8], hash: &str) -> Option<bool> {
     let o = out_point_in(bytes)?;
     let Some(meta) = state.get(&o) else {
-        return format!(in alloc; "none").ok();
+        return Some(false);
     };
     let mut hasher = Hasher::new();
     hash_on(&mut hasher, &o, &meta);
-    let hash = hex::encode(alloc, hasher.finalize()).ok()?;
-    format!(in alloc; "row {hash}").ok()
+    is_hex(alloc, &hasher.finalize(), hash)
 }
 
-/// What a block at a place is answered.
-fn applied<L: Ledger>(
+/// What a block at a place is answered that is applied, or that is taken back where its ext follows: `ok` or `undone`, or else
+/// `not_live` or `live`, the place and an out-point.
+fn is_changed<L: Ledger>(
     alloc: Global,
     state: &mut State,
     steps: &mut Steps<L>,
-    place: u32,
+    word: &str,
+    rest: &str,
     bytes: &[u8],
-) -> Option<String> {
-    let block = BlockView::read(bytes)?;
-    state.reserve(outputs_in(&block)).ok()?;
-    let hashes = tx_hashes(alloc, &block).ok()?;
-    match state.apply(&block, &hashes, place, steps) {
-        Ok(()) => format!(in alloc; "ok {place}").ok(),
-        Err(odd) => odd_text(alloc, place, odd),
+    row: &mut Row,
+) -> Option<bool> {
+    let (place, o) = rest.split_once(' ').unwrap_or((rest, ""));
+    let answer = if row.rest().is_empty() {
+        applied(alloc, state, steps, bytes, place.parse().ok()?)?
+    } else {
+        let ext = row.bytes(alloc)?;
+        undone(alloc, state, steps, bytes, &ext)?
+    };
+    match answer {
+        Ok(()) => Some(word == "ok" || word == "undone"),
+        Err(odd) => is_odd(alloc, odd, word, o),
     }
 }
 
-/// Whether a block that is taken back with an ext is answered what is wanted.
-fn is_undone<L: Ledger>(
-    alloc: Global,
-    state: &mut State,
-    steps: &mut Steps<L>,
-    wanted: &str,
-    block: &[u8],
-    ext: &[u8],
-) -> Option<bool> {
-    let (_, rest) = wanted.split_once(' ')?;
-    is_text(
-        undone(alloc, state, steps, place_of(rest)?, block, ext),
-        wanted,
-    )
+/// What is odd by its word and its out-point.
+fn is_odd(alloc: Global, odd: Odd, word: &str, text: &str) -> Option<bool> {
+    let (name, o) = match odd {
+        Odd::NotLive(o) => ("not_live", o),
+        Odd::Live(o) => ("live", o),
+    };
+    Some(word == name && is_named(alloc, &o, text)?)
 }
 
-/// What a block at a place that is taken back with an ext is answered.
+/// The hash and the index of an out-point.
+fn is_named(alloc: Global, odd: &OutPoint, text: &str) -> Option<bool> {
+    let (hash, index) = text.split_once(':')?;
+    Some(index.parse() == Ok(odd.index) && is_hex(alloc, &odd.tx_hash, hash)?)
+}
+
+/// What a block that is taken back with an ext is answered.
 fn undone<L: Ledger>(
     alloc: Global,
     state: &mut State,
     steps: &mut Steps<L>,
-    place: u32,
     block: &[u8],
     ext: &[u8],
-) -> Option<String> {
+) -> Option<Result<(), Odd>> {
     let block = BlockView::read(block)?;
     let ext = Ext::read(alloc, ext).ok()??;
     state.reserve(ext.spent.len() as u64).ok()?;
     let hashes = tx_hashes(alloc, &block).ok()?;
-    match state.undo(&block, &hashes, &ext, steps) {
-        Ok(()) => format!(in alloc; "undone {place}").ok(),
-        Err(odd) => odd_text(alloc, place, odd),
-    }
-}
-
-fn odd_text(alloc: Global, place: u32, odd: Odd) -> Option<String> {
-    let (word, o) = match odd {
-        Odd::NotLive(o) => ("not_live", o),
-        Odd::Live(o) => ("live", o),
-    };
-    let tx_hash = hex::encode(alloc, o.tx_hash).ok()?;
-    let index = o.index;
-    format!(in alloc; "{word} {place} {tx_hash}:{index}").ok()
+    Some(state.undo(&block, &hashes, &ext, steps))
 }

@@ -1,9 +1,7 @@
-//! Cells, transactions and their scripts: tries each row of its standard input, and prints the rows that differ.
+//! Live cells, transactions and their scripts: tries each row of its standard input, and prints the rows that differ.
 //!
-//! A row is a word and its columns, with a tab between two, bytes in hex. After `cell` stands what is asked of cells, their
-//! rows and the exts of blocks; blocks are kept, one after the other, and copied from: tests/rows/cells.py makes these
-//! rows. After `state` stands what blocks are answered that are applied to live cells, one after the other, and which rows are
-//! live then: tests/rows/live_cells.py. Both files say what the columns are.
+//! A row is a word and its columns, with a tab between two, bytes in hex. After `state` stands what blocks are answered that are
+//! applied to live cells, one after the other, and which rows are live then: tests/rows/live_cells.py says what the columns are.
 //!
 //! The other rows are about a chain. `spec` and `genesis` begin a chain, and `block` puts
 //! a block with its ext on it. `shadow`, `transaction` and `within` stand after the last block, where all blocks stand in a
@@ -14,17 +12,13 @@
 
 mod answers;
 mod cells;
-mod copies;
 mod groups;
 mod kept;
 mod live;
 mod rows;
-mod values;
-mod wanted;
 
 ghost use Rattle.std.specs.Prelude.{◌≡◌, ◌<◌};
 
-use cell_model::ListBlocks;
 use cell_state::State;
 use cells::is_text;
 use epochs::Spec;
@@ -33,37 +27,29 @@ use kept::{Chain, of_genesis};
 use outside::Steps;
 use row_table::{Row, Subject, all_agree};
 use std::alloc::Global;
-use std::io::ErrorKind;
 use std::marker::Brand;
 use std::process::ExitCode;
 use std::sync::ledger::{Blank, Ledger};
 use std::{io, mem};
 
-/// What the rows act on: blocks that are copied from, live cells; the specification, the chain and the blobs so far.
+/// What the rows act on: live cells; the specification, the chain and the blobs so far.
 #[derive(Drop)]
 struct Table<'s, L: Ledger> {
     steps: &'s mut Steps<L>,
-    blocks: ListBlocks,
     state: Option<State>,
     spec: Option<Spec>,
     chain: Option<Chain>,
     blobs: Vec<Blob>,
 }
 
-/// The bytes of two columns.
-fn pair(alloc: Global, columns: &str) -> Option<(Vec<u8>, Vec<u8>)> {
-    let (first, second) = columns.split_once('\t')?;
-    let first = hex::decode(alloc, first).ok()?;
-    Some((first, hex::decode(alloc, second).ok()?))
-}
-
 fn adds<L: Ledger>(
     alloc: Global,
     chain: &mut Chain,
     steps: &mut Steps<L>,
-    columns: &str,
+    row: &mut Row,
 ) -> Option<bool> {
-    let (block, ext) = pair(alloc, columns)?;
+    let block = row.bytes(alloc)?;
+    let ext = row.bytes(alloc)?;
     Some(chain.add(alloc, steps, &block, &ext).is_some())
 }
 
@@ -71,15 +57,16 @@ fn shadows<L: Ledger>(
     alloc: Global,
     chain: &mut Chain,
     steps: &mut Steps<L>,
-    columns: &str,
+    row: &mut Row,
 ) -> Option<bool> {
-    let (new, old) = pair(alloc, columns)?;
+    let new = row.bytes(alloc)?;
+    let old = row.bytes(alloc)?;
     Some(chain.shadow(steps, &new, &old).is_some())
 }
 
-fn agrees_alone(alloc: Global, chain: &mut Chain, columns: &str) -> Option<bool> {
-    let (wanted, tx) = columns.split_once('\t')?;
-    let tx = hex::decode(alloc, tx).ok()?;
+fn agrees_alone(alloc: Global, chain: &mut Chain, row: &mut Row) -> Option<bool> {
+    let wanted = row.word();
+    let tx = row.bytes(alloc)?;
     is_text(answers::alone(alloc, chain, &tx), wanted)
 }
 
@@ -87,10 +74,11 @@ fn agrees_within<L: Ledger>(
     alloc: Global,
     chain: &mut Chain,
     steps: &mut Steps<L>,
-    columns: &str,
+    row: &mut Row,
 ) -> Option<bool> {
-    let (wanted, columns) = columns.split_once('\t')?;
-    let (earlier, block) = pair(alloc, columns)?;
+    let wanted = row.word();
+    let earlier = row.bytes(alloc)?;
+    let block = row.bytes(alloc)?;
     is_text(
         answers::within(alloc, steps, chain, &earlier, &block),
         wanted,
@@ -101,10 +89,10 @@ fn agrees_in_rounds(
     alloc: Global,
     chain: &mut Chain,
     blobs: &[Blob],
-    columns: &str,
+    row: &mut Row,
 ) -> Option<bool> {
-    let (rounds, columns) = columns.split_once('\t')?;
-    groups::agrees(alloc, blobs, chain, rounds.parse().ok()?, columns)
+    let rounds = row.short()?;
+    groups::agrees(alloc, blobs, chain, rounds, row)
 }
 
 /// Whether a row about a chain holds; None where it is none.
@@ -114,15 +102,15 @@ fn agrees_on_chain<L: Ledger>(
     blobs: &[Blob],
     steps: &mut Steps<L>,
     word: &str,
-    columns: &str,
+    row: &mut Row,
 ) -> Option<bool> {
     match word {
-        "block" => adds(alloc, chain, steps, columns),
-        "shadow" => shadows(alloc, chain, steps, columns),
-        "transaction" => agrees_alone(alloc, chain, columns),
-        "within" => agrees_within(alloc, chain, steps, columns),
-        "groups" => groups::agrees(alloc, blobs, chain, 1, columns),
-        "rounds" => agrees_in_rounds(alloc, chain, blobs, columns),
+        "block" => adds(alloc, chain, steps, row),
+        "shadow" => shadows(alloc, chain, steps, row),
+        "transaction" => agrees_alone(alloc, chain, row),
+        "within" => agrees_within(alloc, chain, steps, row),
+        "groups" => groups::agrees(alloc, blobs, chain, 1, row),
+        "rounds" => agrees_in_rounds(alloc, chain, blobs, row),
         _ => None,
     }
 }
@@ -146,14 +134,14 @@ impl<'s, L: Ledger> Table<'s, L> {
         Some(self.blobs.push(blob).is_ok())
     }
 
-    fn agrees_on_chain(&mut self, alloc: Global, word: &str, columns: &str) -> Option<bool> {
+    fn agrees_on_chain(&mut self, alloc: Global, word: &str, row: &mut Row) -> Option<bool> {
         agrees_on_chain(
             alloc,
             self.chain.as_mut()?,
             &self.blobs,
             self.steps,
             word,
-            columns,
+            row,
         )
     }
 }
@@ -161,24 +149,19 @@ impl<'s, L: Ledger> Table<'s, L> {
 impl<'s, L: Ledger> Subject for Table<'s, L> {
     fn agrees(&mut self, alloc: Global, row: &mut Row<'_>) -> Option<bool> {
         match row.word() {
-            "cell" => cells::agrees(alloc, &mut self.blocks, row.rest()),
-            "state" => live::agrees(alloc, &mut self.state, self.steps, row.rest()),
+            "state" => live::agrees(alloc, &mut self.state, self.steps, row),
             "spec" => self.begin_spec(alloc, row),
             "genesis" => self.begin_chain(alloc, row),
             "blob" => self.take_blob(alloc, row),
-            word => self.agrees_on_chain(alloc, word, row.rest()),
+            word => self.agrees_on_chain(alloc, word, row),
         }
     }
 }
 
 fn all_rows_agree<L: Ledger>(rt: HostRuntime, steps: &mut Steps<L>) -> io::Result<bool> {
     let alloc = rt.alloc();
-    let Ok(blocks) = ListBlocks::new(alloc, Vec::new(alloc), Vec::new(alloc)) else {
-        return Err(io::Error::from(ErrorKind::OutOfMemory));
-    };
     let mut table = Table {
         steps,
-        blocks,
         state: None,
         spec: None,
         chain: None,

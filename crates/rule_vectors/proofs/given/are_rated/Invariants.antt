@@ -1,6 +1,6 @@
 use Rattle.std.proofs.Common.{◌≡◌, ℕ, ◌<◌, Some}
 use Rattle.std.specs.Prelude.{IsTrue}
-use Rattle.time_defs.specs.Dao.{is_rated}
+use Rattle.chain_defs.specs.Dao.{is_rated}
 use Rattle.chain_tree.specs.declared.entry.Entry.{Entry}
 use Rattle.chain_tree.specs.Entries.{entry_at}
 use Rattle.rule_vectors.proofs.given.are_rated.Given as goal

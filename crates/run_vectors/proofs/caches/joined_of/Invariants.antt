@@ -1,5 +1,5 @@
-use Rattle.node_core.specs.Node.{IsItsOwn}
-use Rattle.run_vectors.proofs.caches.verdicts_on.Given as goal
+use Rattle.node_store.specs.Node.{IsItsOwn}
+use Rattle.run_vectors.proofs.caches.joined_of.Given as goal
 
 -- the disk is the node's own
 abbrev pub invariant-items : goal.invariant-items
