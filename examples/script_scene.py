@@ -130,33 +130,33 @@ class Scene:
     # ----------------------------------------------------- what is shown
 
     def place(self, group, source, index):
-        """The list in which an index of a source stands, and its place there; None where there is no such index."""
-        ends = {INPUTS: self.inputs, OUTPUTS: self.outputs, CELL_DEPS: self.deps, HEADER_DEPS: self.headers}
+        """The list in which an item of a source stands, and its place there, which for a group is that of its member."""
         of_group = {GROUP | INPUTS: (INPUTS, group.inputs), GROUP | OUTPUTS: (OUTPUTS, group.outputs)}
         if source in of_group:
             kind, members = of_group[source]
             return (kind, members[index]) if index < len(members) else None
-        if source in ends and index < len(ends[source]):
-            return source, index
-        return None
+        return None if source in (GROUP | CELL_DEPS, GROUP | HEADER_DEPS) else (source, index)
 
     def header_of(self, cell):
         return self.chain.headers[cell.block] if cell.block in self.headers else MISSING
 
-    def stands_at(self, kind, source, place):
-        """What of a kind stands at a place, or None where the source has no such thing."""
-        cells = {INPUTS: self.inputs, OUTPUTS: self.outputs, CELL_DEPS: self.deps}.get(source)
+    def listed(self, kind, source):
+        """The items of a kind that a source has. All witnesses are those of the inputs, and of the outputs too."""
+        cells = {INPUTS: self.inputs, OUTPUTS: self.outputs, CELL_DEPS: self.deps}.get(source, [])
         if kind in ('cell', 'data'):
-            return cells and cells[place]
+            return cells
         if kind == 'header':
             if source == HEADER_DEPS:
-                return self.chain.headers[self.headers[place]]
-            return None if source == OUTPUTS else self.header_of(cells[place])
+                return [self.chain.headers[it] for it in self.headers]
+            return [] if source == OUTPUTS else [self.header_of(it) for it in cells]
         if kind == 'input':
-            return self.cell_inputs[place] if source == INPUTS else None
-        if source in (INPUTS, OUTPUTS) and place < len(self.witnesses):
-            return self.witnesses[place]
-        return None
+            return self.cell_inputs if source == INPUTS else []
+        return self.witnesses if source in (INPUTS, OUTPUTS) else []
+
+    def stands_at(self, kind, source, place):
+        """What of a kind stands at a place, or None where the source has no such thing."""
+        items = self.listed(kind, source)
+        return items[place] if place < len(items) else None
 
     def header_field(self, header, number):
         length, height = self.chain.length, number_of(header[16:24])

@@ -28,19 +28,6 @@ enum {
     AFTER = SIGNATURE + 65
 };
 
-/* Loads so many bytes, from an offset in an item on. */
-typedef long load(void *to, uint64_t *length, uint64_t offset, uint64_t item);
-
-static long of_group(void *to, uint64_t *length, uint64_t offset, uint64_t index)
-{
-    return ckb_load_witness(to, length, offset, index, CKB_SOURCE_GROUP_INPUT);
-}
-
-static long of_transaction(void *to, uint64_t *length, uint64_t offset, uint64_t start)
-{
-    return ckb_load_transaction(to, length, start + offset);
-}
-
 static uint32_t number_at(const uint8_t *bytes)
 {
     return bytes[0] | bytes[1] << 8 | bytes[2] << 16 | (uint32_t)bytes[3] << 24;
@@ -51,13 +38,13 @@ static void add_length(struct ckbhash *hash, uint64_t length)
     ckbhash_update(hash, &length, sizeof length);
 }
 
-/* Adds the bytes of an item from an offset to an end. */
-static void add(struct ckbhash *hash, load *of, uint64_t item, uint64_t offset, uint64_t end)
+/* Adds the bytes of a witness from an offset to an end. */
+static void add(struct ckbhash *hash, uint64_t index, uint64_t source, uint64_t offset, uint64_t end)
 {
     uint8_t piece[1024];
     while (offset < end) {
         uint64_t length = end - offset < sizeof piece ? end - offset : sizeof piece, count = length;
-        if (of(piece, &length, offset, item) || length < count)
+        if (ckb_load_witness(piece, &length, offset, index, source) || length < count)
             ckb_exit(SYSCALL);
         ckbhash_update(hash, piece, count);
         offset += count;
@@ -69,7 +56,7 @@ static void add_first(struct ckbhash *hash, uint8_t *signature)
 {
     uint8_t start[AFTER];
     uint64_t length = sizeof start;
-    if (of_group(start, &length, 0, 0))
+    if (ckb_load_witness(start, &length, 0, 0, CKB_SOURCE_GROUP_INPUT))
         ckb_exit(SYSCALL);
     if (length < AFTER || number_at(start) != length || number_at(start + 4) != 16)
         ckb_exit(ENCODING);
@@ -79,41 +66,28 @@ static void add_first(struct ckbhash *hash, uint8_t *signature)
     memset(start + SIGNATURE, 0, 65);
     add_length(hash, length);
     ckbhash_update(hash, start, AFTER);
-    add(hash, of_group, 0, AFTER, length);
+    add(hash, 0, CKB_SOURCE_GROUP_INPUT, AFTER, length);
 }
 
-static void add_others(struct ckbhash *hash)
+/* Adds the witnesses of a source from an index on, to the last. */
+static void add_from(struct ckbhash *hash, uint64_t index, uint64_t source)
 {
-    for (uint64_t index = 1;; index++) {
+    for (;; index++) {
         uint64_t length = 0;
-        if (of_group(0, &length, 0, index))
+        if (ckb_load_witness(0, &length, 0, index, source))
             return;
         add_length(hash, length);
-        add(hash, of_group, index, 0, length);
+        add(hash, index, source, 0, length);
     }
 }
 
-/* A number of four bytes, from this offset of the transaction on. */
-static uint64_t of_transaction_at(uint64_t offset)
+/* How many inputs the transaction has. */
+static uint64_t count_inputs(void)
 {
-    uint8_t bytes[4];
-    uint64_t length = sizeof bytes;
-    if (ckb_load_transaction(bytes, &length, offset) || length < sizeof bytes)
-        ckb_exit(SYSCALL);
-    return number_at(bytes);
-}
-
-/* Past its last input no source has the witnesses of a transaction, so they are taken from the `Transaction` itself. */
-static void add_past_the_inputs(struct ckbhash *hash)
-{
-    uint64_t raw = of_transaction_at(4), witnesses = of_transaction_at(8);
-    uint64_t inputs = of_transaction_at(raw + of_transaction_at(raw + 16));
-    uint64_t count = of_transaction_at(witnesses) == 4 ? 0 : of_transaction_at(witnesses + 4) / 4 - 1;
-    for (uint64_t index = inputs; index < count; index++) {
-        uint64_t start = witnesses + of_transaction_at(witnesses + 4 + 4 * index);
-        uint64_t length = of_transaction_at(start);
-        add_length(hash, length);
-        add(hash, of_transaction, start + 4, 0, length);
+    for (uint64_t count = 0;; count++) {
+        uint64_t length = 0;
+        if (ckb_load_input(0, &length, 0, count, CKB_SOURCE_INPUT))
+            return count;
     }
 }
 
@@ -127,8 +101,8 @@ static void load_signed(uint8_t *message, uint8_t *signature)
         ckb_exit(SYSCALL);
     ckbhash_update(&hash, message, 32);
     add_first(&hash, signature);
-    add_others(&hash);
-    add_past_the_inputs(&hash);
+    add_from(&hash, 1, CKB_SOURCE_GROUP_INPUT);
+    add_from(&hash, count_inputs(), CKB_SOURCE_INPUT);
     ckbhash_final(&hash, message);
 }
 

@@ -310,6 +310,50 @@ def on_witnesses(chain):
                     for group in scene.groups()])
 
 
+def on_witness_places(chain):
+    """A witness of the inputs or of the outputs stands at its index, whatever the count of these; one of a group at its
+    member's place. What must come of each call is written down."""
+    lock, kind = by_data(CHECKS, b'\1'), by_data(CHECKS, b'\2' + bytes(30))
+    three = [b'first', b'', b'the third, which is longer']
+    some = [b'witness %d' % place for place in range(6)]
+
+    def tries(inputs, outputs, witnesses, of_lock, of_kind=()):
+        tables = [b''.join(loads(lambda *_: wanted, 2074, index, source) for source, index, wanted in it)
+                  for it in (of_lock, of_kind)]
+        deps = [Cell(ANYONE, None, it, block=1) for it in (CHECKS, *tables, PROGRAM)]
+        row(Scene(chain, [Cell(*it) for it in inputs], [Cell(*it) for it in outputs], deps, [1], witnesses), 'ok')
+
+    def past(source, end):
+        return [(source, index, NO_INDEX) for index in (end, end + 1, 2 ** 32, 2 ** 32 + 1, 2 ** 64 - 1)]
+
+    # one input and one output, three witnesses
+    for source in (INPUTS, OUTPUTS):
+        tries([(lock,)], [(ANYONE,)], three, [(source, 0, b'first'), (source, 1, b''),
+                                             (source, 2, b'the third, which is longer'), *past(source, 3)])
+    # no output, and no input
+    tries([(lock,)], [], three[:2], [(OUTPUTS, 0, b'first'), (OUTPUTS, 1, b''), *past(OUTPUTS, 2)])
+    tries([], [(ANYONE,), (ANYONE, kind)], three, (), [
+        (INPUTS, 0, b'first'), (INPUTS, 1, b''), (INPUTS, 2, b'the third, which is longer'), *past(INPUTS, 3),
+        (OUTPUTS, 2, b'the third, which is longer'), (GROUP | OUTPUTS, 0, b''), *past(GROUP | OUTPUTS, 1)])
+    # fewer witnesses than inputs and outputs: of a group's members the second has none
+    tries([(lock,), (OK,), (lock,)], [(ANYONE,), (ANYONE, kind), (ANYONE, kind)], some[:2], [
+        (INPUTS, 0, b'witness 0'), (INPUTS, 1, b'witness 1'), *past(INPUTS, 2), (OUTPUTS, 1, b'witness 1'),
+        *past(OUTPUTS, 2), (GROUP | INPUTS, 0, b'witness 0'), *past(GROUP | INPUTS, 1)], [
+        (GROUP | OUTPUTS, 0, b'witness 1'), *past(GROUP | OUTPUTS, 1)])
+    # more witnesses: a group ends with its members, and a lock group has no outputs
+    tries([(OK,), (lock,), (OK, kind), (lock,)], [(ANYONE,), (ANYONE, kind), (ANYONE, kind)], some, [
+        (GROUP | INPUTS, 0, b'witness 1'), (GROUP | INPUTS, 1, b'witness 3'), *past(GROUP | INPUTS, 2),
+        *past(GROUP | OUTPUTS, 0), (INPUTS, 4, b'witness 4'), (INPUTS, 5, b'witness 5'), *past(INPUTS, 6)], [
+        (GROUP | INPUTS, 0, b'witness 2'), *past(GROUP | INPUTS, 1), (GROUP | OUTPUTS, 0, b'witness 1'),
+        (GROUP | OUTPUTS, 1, b'witness 2'), *past(GROUP | OUTPUTS, 2), (OUTPUTS, 3, b'witness 3'),
+        (OUTPUTS, 5, b'witness 5'), *past(OUTPUTS, 6)])
+    # no witness at all
+    tries([(lock,)], [(ANYONE,)], [], [*past(INPUTS, 0), *past(OUTPUTS, 0), *past(GROUP | INPUTS, 0)])
+    # a dep has no witness, also where there is one at its index
+    tries([(lock,)], [(ANYONE,)], some, [it for source in (CELL_DEPS, HEADER_DEPS, GROUP | CELL_DEPS, GROUP | HEADER_DEPS)
+                                         for it in past(source, 0)])
+
+
 def on_code_loads(chain):
     """Data that is loaded as code: its bytes, and where it is not there."""
     shown = Shown(chain)
@@ -757,8 +801,8 @@ def main():
     # Blocks 2 and 3 both stand on block 1, and blocks 4 and 5 after 3: places are not heights.
     parents = [0, 1, 1, 3, 4]
     chain = Chain(10, parents)
-    for cases in (on_shown, on_witnesses, on_code_loads, on_large, on_contents, on_unknown, on_memory, on_code, on_codes, on_files,
-                  on_groups, on_first_failure, on_cycles, on_type_id_locks, on_type_id_types):
+    for cases in (on_shown, on_witnesses, on_witness_places, on_code_loads, on_large, on_contents, on_unknown, on_memory, on_code,
+                  on_codes, on_files, on_groups, on_first_failure, on_cycles, on_type_id_locks, on_type_id_types):
         cases(chain)
     for length in (1, 2, 3, 4, 65535):
         on_epochs(Chain(length, parents))

@@ -14,7 +14,7 @@ use Rattle.cell_defs.specs.Row.{Row}
 use Rattle.cell_defs.specs.Cell.{data_of}
 use Rattle.cell_model.specs.Copies.{ResolvedValue}
 use Rattle.machine_defs.specs.World.{Call, Item, Here, NoIndex, Missing, Unknown}
-use Rattle.verdict_defs.specs.Scene.{Scene, ShownCell}
+use Rattle.verdict_defs.specs.Scene.{ShownCell}
 use Rattle.verdict_defs.specs.Items.{OutputWithData, answer, item_at, listed, output_of}
 use Rattle.verdict_defs.specs.Groups.{Group}
 use Rattle.verdict_defs.specs.Sources.{Place, place_in_source, source_of}
@@ -161,23 +161,23 @@ pub mapped : {I J : Type 0} (bytes : J → Option (List ℕ)) (of : I → Option
 mapped bytes of None = refl
 mapped bytes of (Some it) = refl
 
-pub listed-at : {I : Type 0} (scene : Scene) (group : Group) (call : Call) (at : Place → Option (Option I)) (bytes : I → Option (List ℕ)) (place : Place)
-    → Some (Some place) ≡ option_map (λ it. place_in_source scene group it call.index) (source_of call.source) → listed scene group call at (Some bytes) ≡ item_at at bytes (Some place)
-listed-at scene group call at bytes place is =
-    elim (source_of call.source) as (λ source. Some (Some place) ≡ option_map (λ it. place_in_source scene group it call.index) source
-    → (elim source [ None ↦ Unknown | Some it ↦ item_at at bytes (place_in_source scene group it call.index) ]) ≡ item_at at bytes (Some place)) [
+pub listed-at : {I : Type 0} (group : Group) (call : Call) (at : Place → Option (Option I)) (bytes : I → Option (List ℕ)) (place : Place)
+    → Some (Some place) ≡ option_map (λ it. place_in_source group it call.index) (source_of call.source) → listed group call at (Some bytes) ≡ item_at at bytes (Some place)
+listed-at group call at bytes place is =
+    elim (source_of call.source) as (λ source. Some (Some place) ≡ option_map (λ it. place_in_source group it call.index) source
+    → (elim source [ None ↦ Unknown | Some it ↦ item_at at bytes (place_in_source group it call.index) ]) ≡ item_at at bytes (Some place)) [
       | None ↦ λ none. absurd cc
       | Some it ↦ λ some. ap (item_at at bytes) (sym (some-is _ _ some))
     ] is
 
 -- an item of a list at the place that its source and index name
-pub listed-to : {I : Type 0} (scene : Scene) (group : Group) (call : Call) (at : Place → Option (Option I)) (bytes : I → Option (List ℕ)) (target : Target) (place : code.Place) (index source : ℕ)
-    → target_meaning target ≡ option_map (λ it. place_in_source scene group it index) (source_of source) → target ≡ At place → index ≡ call.index → source ≡ call.source
-    → listed scene group call at (Some bytes) ≡ item_at at bytes (Some (place_meaning place))
-listed-to scene group call at bytes target place index source named is same_index same_source =
-    let here : Some (Some (place_meaning place)) ≡ option_map (λ it. place_in_source scene group it call.index) (source_of call.source) =
-    sym (ap target_meaning is) ∙ named ∙ (λ t. option_map (λ it. place_in_source scene group it (same_index t)) (source_of (same_source t))) in
-    listed-at scene group call at bytes (place_meaning place) here
+pub listed-to : {I : Type 0} (group : Group) (call : Call) (at : Place → Option (Option I)) (bytes : I → Option (List ℕ)) (target : Target) (place : code.Place) (index source : ℕ)
+    → target_meaning target ≡ option_map (λ it. place_in_source group it index) (source_of source) → target ≡ At place → index ≡ call.index → source ≡ call.source
+    → listed group call at (Some bytes) ≡ item_at at bytes (Some (place_meaning place))
+listed-to group call at bytes target place index source named is same_index same_source =
+    let here : Some (Some (place_meaning place)) ≡ option_map (λ it. place_in_source group it call.index) (source_of call.source) =
+    sym (ap target_meaning is) ∙ named ∙ (λ t. option_map (λ it. place_in_source group it (same_index t)) (source_of (same_source t))) in
+    listed-at group call at bytes (place_meaning place) here
 
 -- ---- Numbers
 

@@ -1,12 +1,7 @@
--- What a scene shows of a transaction, place by place.
-use Rattle.std.proofs.Common.{◌≡◌, ℕ, zero, suc, List, [], ◌∷◌, length, Some, None, refl, sym, ap, subst}
+-- Lists side by side, as what a scene shows of a transaction beside it.
+use Rattle.std.proofs.Common.{◌≡◌, ℕ, zero, suc, List, [], ◌∷◌, length, Some, None, refl, ap, subst}
 use Rattle.std.specs.Prelude.{slice_get}
 use Rattle.std.specs.List.{AllZip}
-use Rattle.cell_model.specs.Copies.{ResolvedTxValue}
-use Rattle.verdict_defs.specs.Scene.{Scene}
-use Rattle.script_run.specs.Shown.{IsShownAs, Shows}
-
--- ---- Lists side by side
 
 pub zip-lengths : {A B : Type 0} (R : A → B → Type 0) (xs : List A) (ys : List B) → AllZip R xs ys → length xs ≡ length ys
 zip-lengths R [] [] zip = refl
@@ -44,8 +39,3 @@ beside-none R [] (y ∷ ys) i zip here = absurd zip
 beside-none R (a ∷ xs) [] i zip here = absurd zip
 beside-none R (a ∷ xs) (y ∷ ys) zero zip here = absurd cc
 beside-none R (a ∷ xs) (y ∷ ys) (suc i) zip here = beside-none R xs ys i zip.1 here
-
--- ---- How many
-
-pub as-many-deps : (it : ResolvedTxValue) (scene : Scene) → Shows it scene → length scene.deps ≡ length it.deps
-as-many-deps it scene shows = sym (zip-lengths IsShownAs it.deps scene.deps shows.deps)

@@ -39,39 +39,39 @@ pub at-2062 : (scene : Scene) (it : GroupValue) (call : Call) → call.number �
 unfolding items syscalls
 at-2062 scene it call is = at-number scene it call 2062 is
 
-pub at-2071 : (scene : Scene) (it : GroupValue) (call : Call) → call.number ≡ 2071 → items_of scene it call ≡ listed scene it.group call (cell_at scene) (option_map cell_part (Some Output))
+pub at-2071 : (scene : Scene) (it : GroupValue) (call : Call) → call.number ≡ 2071 → items_of scene it call ≡ listed it.group call (cell_at scene) (option_map cell_part (Some Output))
 unfolding items syscalls
 at-2071 scene it call is = at-number scene it call 2071 is
 
-pub at-2072 : (scene : Scene) (it : GroupValue) (call : Call) → call.number ≡ 2072 → items_of scene it call ≡ listed scene it.group call (header_at scene) (whole (encoded header))
+pub at-2072 : (scene : Scene) (it : GroupValue) (call : Call) → call.number ≡ 2072 → items_of scene it call ≡ listed it.group call (header_at scene) (whole (encoded header))
 unfolding items syscalls
 at-2072 scene it call is = at-number scene it call 2072 is
 
-pub at-2073 : (scene : Scene) (it : GroupValue) (call : Call) → call.number ≡ 2073 → items_of scene it call ≡ listed scene it.group call (input_at scene) (option_map input_part (Some Whole))
+pub at-2073 : (scene : Scene) (it : GroupValue) (call : Call) → call.number ≡ 2073 → items_of scene it call ≡ listed it.group call (input_at scene) (option_map input_part (Some Whole))
 unfolding items syscalls
 at-2073 scene it call is = at-number scene it call 2073 is
 
-pub at-2074 : (scene : Scene) (it : GroupValue) (call : Call) → call.number ≡ 2074 → items_of scene it call ≡ listed scene it.group call (witness_at scene) (whole (λ witness. witness))
+pub at-2074 : (scene : Scene) (it : GroupValue) (call : Call) → call.number ≡ 2074 → items_of scene it call ≡ listed it.group call (witness_at scene) (whole (λ witness. witness))
 unfolding items syscalls
 at-2074 scene it call is = at-number scene it call 2074 is
 
-pub at-2081 : (scene : Scene) (it : GroupValue) (call : Call) → call.number ≡ 2081 → items_of scene it call ≡ listed scene it.group call (cell_at scene) (field cell_fields call.field)
+pub at-2081 : (scene : Scene) (it : GroupValue) (call : Call) → call.number ≡ 2081 → items_of scene it call ≡ listed it.group call (cell_at scene) (field cell_fields call.field)
 unfolding items syscalls
 at-2081 scene it call is = at-number scene it call 2081 is
 
-pub at-2082 : (scene : Scene) (it : GroupValue) (call : Call) → call.number ≡ 2082 → items_of scene it call ≡ listed scene it.group call (header_at scene) (field (header_fields scene.epoch_length) call.field)
+pub at-2082 : (scene : Scene) (it : GroupValue) (call : Call) → call.number ≡ 2082 → items_of scene it call ≡ listed it.group call (header_at scene) (field (header_fields scene.epoch_length) call.field)
 unfolding items syscalls
 at-2082 scene it call is = at-number scene it call 2082 is
 
-pub at-2083 : (scene : Scene) (it : GroupValue) (call : Call) → call.number ≡ 2083 → items_of scene it call ≡ listed scene it.group call (input_at scene) (field input_fields call.field)
+pub at-2083 : (scene : Scene) (it : GroupValue) (call : Call) → call.number ≡ 2083 → items_of scene it call ≡ listed it.group call (input_at scene) (field input_fields call.field)
 unfolding items syscalls
 at-2083 scene it call is = at-number scene it call 2083 is
 
-pub at-2091 : (scene : Scene) (it : GroupValue) (call : Call) → call.number ≡ 2091 → items_of scene it call ≡ listed scene it.group call (cell_at scene) (option_map cell_part (Some Data))
+pub at-2091 : (scene : Scene) (it : GroupValue) (call : Call) → call.number ≡ 2091 → items_of scene it call ≡ listed it.group call (cell_at scene) (option_map cell_part (Some Data))
 unfolding items syscalls
 at-2091 scene it call is = at-number scene it call 2091 is
 
-pub at-2092 : (scene : Scene) (it : GroupValue) (call : Call) → call.number ≡ 2092 → items_of scene it call ≡ listed scene it.group call (cell_at scene) (option_map cell_part (Some Data))
+pub at-2092 : (scene : Scene) (it : GroupValue) (call : Call) → call.number ≡ 2092 → items_of scene it call ≡ listed it.group call (cell_at scene) (option_map cell_part (Some Data))
 unfolding items syscalls
 at-2092 scene it call is = at-number scene it call 2092 is
 

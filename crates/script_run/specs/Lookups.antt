@@ -118,10 +118,10 @@ load_meaning scene it call load.Transaction = world.Here (encoded transaction sc
 load_meaning scene it call load.Script = world.Here (encoded script it.group.script)
 load_meaning scene it call load.TxHash = world.Here (transaction_hash scene.transaction)
 load_meaning scene it call load.ScriptHash = world.Here it.hash
-load_meaning scene it call (load.Cell part) = listed scene it.group call (cell_at scene) (option_map cell_part part)
-load_meaning scene it call (load.Header part) = listed scene it.group call (header_at scene) (option_map (λ part h. Some (header_part scene.epoch_length part h)) part)
-load_meaning scene it call (load.Input part) = listed scene it.group call (input_at scene) (option_map input_part part)
-load_meaning scene it call load.Witness = listed scene it.group call (witness_at scene) (whole (λ witness. witness))
+load_meaning scene it call (load.Cell part) = listed it.group call (cell_at scene) (option_map cell_part part)
+load_meaning scene it call (load.Header part) = listed it.group call (header_at scene) (option_map (λ part h. Some (header_part scene.epoch_length part h)) part)
+load_meaning scene it call (load.Input part) = listed it.group call (input_at scene) (option_map input_part part)
+load_meaning scene it call load.Witness = listed it.group call (witness_at scene) (whole (λ witness. witness))
 load_meaning scene it call load.Nothing = world.Unknown
 
 -- ---- Kept blocks

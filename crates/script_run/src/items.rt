@@ -113,13 +113,13 @@ fn input_field(number: u64) -> Option<InputPart>
 /// A part of the cell that a call names, where there is such a part.
 fn cell<'a>(tx: &ShownTx<'a>, group: &Group<'_>, call: &Call, part: Option<CellPart>) -> Answer<'a>
     ensures { (scene : Scene) → Shows tx.now.it scene
-        → listed scene group.now.group call.now (defs.cell_at scene) (option_map cell_part part) ≡ item_of result }
+        → listed group.now.group call.now (defs.cell_at scene) (option_map cell_part part) ≡ item_of result }
 {
     let Some(part) = part else {
         return Answer::Unknown;
     };
     let it = tx.it;
-    match target_of(it, group, call.source, call.index) {
+    match target_of(group, call.source, call.index) {
         Target::NoSource => Answer::Unknown,
         Target::NoIndex => Answer::NoIndex,
         Target::At(place) => cell_at(it, &tx.outputs, place, part),
@@ -240,13 +240,13 @@ fn header<'a>(
     part: Option<HeaderPart>,
 ) -> Lookup<'a>
     ensures found { (headers : ℕ → Option Header) (length : ℕ) (scene : Scene) → Shows tx.now scene → ShowsHeaders headers tx.now scene
-        → IsFound headers length (listed scene group.now.group call.now (defs.header_at scene) (option_map (λ part h. Some (header_part length part h)) part)) result }
+        → IsFound headers length (listed group.now.group call.now (defs.header_at scene) (option_map (λ part h. Some (header_part length part h)) part)) result }
     ensures kept { (kept : ℕ) → All (λ place. place < kept) tx.now.headers → IsOfKept kept result }
 {
     let Some(part) = part else {
         return Lookup::Answered(Answer::Unknown);
     };
-    match target_of(tx, group, call.source, call.index) {
+    match target_of(group, call.source, call.index) {
         Target::NoSource => Lookup::Answered(Answer::Unknown),
         Target::NoIndex => Lookup::Answered(Answer::NoIndex),
         Target::At(place) => header_at(tx, place, part),
@@ -314,12 +314,12 @@ fn input<'a>(
     part: Option<InputPart>,
 ) -> Answer<'a>
     ensures { (scene : Scene) → Shows tx.now scene
-        → listed scene group.now.group call.now (defs.input_at scene) (option_map input_part part) ≡ item_of result }
+        → listed group.now.group call.now (defs.input_at scene) (option_map input_part part) ≡ item_of result }
 {
     let Some(part) = part else {
         return Answer::Unknown;
     };
-    match target_of(tx, group, call.source, call.index) {
+    match target_of(group, call.source, call.index) {
         Target::NoSource => Answer::Unknown,
         Target::NoIndex => Answer::NoIndex,
         Target::At(Place::Input(i)) => part_of_input(&tx.tx, i, part),
@@ -354,12 +354,12 @@ fn part_of_input<'a>(tx: &TxView<'a>, i: usize, part: InputPart) -> Answer<'a>
     }
 }
 
-/// The witness at the place of the input or output that a call names.
+/// The witness at the place that a call names, whatever the count of inputs and of outputs.
 fn witness<'a>(tx: &ResolvedTx<'a>, group: &Group<'_>, call: &Call) -> Answer<'a>
     ensures { (scene : Scene) → Shows tx.now scene
-        → listed scene group.now.group call.now (defs.witness_at scene) (whole (λ witness. witness)) ≡ item_of result }
+        → listed group.now.group call.now (defs.witness_at scene) (whole (λ witness. witness)) ≡ item_of result }
 {
-    match target_of(tx, group, call.source, call.index) {
+    match target_of(group, call.source, call.index) {
         Target::NoSource => Answer::Unknown,
         Target::NoIndex => Answer::NoIndex,
         Target::At(Place::Input(i)) => witness_at(&tx.tx, i),

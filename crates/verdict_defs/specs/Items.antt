@@ -45,7 +45,8 @@ input_at scene (AtOutput place) = None
 input_at scene (AtCellDep place) = None
 input_at scene (AtHeaderDep place) = None
 
--- the witness at the place of an input or of an output, without its length; where there are fewer witnesses the place has none
+-- the witness at a place of the inputs or of the outputs, without its length. All witnesses stand there, whatever the count of inputs and of
+-- outputs (docs/DECISIONS.md).
 abbrev pub witness_at : Scene → Place → Option (Option (List ℕ))
 witness_at scene (AtInput place) = option_map Some (slice_get scene.transaction.witnesses place)
 witness_at scene (AtOutput place) = option_map Some (slice_get scene.transaction.witnesses place)
@@ -110,11 +111,11 @@ item_at at bytes None = NoIndex
 item_at at bytes (Some place) = answer (option_map (λ it. option_and_then bytes it) (at place))
 
 -- An item of a list. An unknown source or field decides first, then an index that has no such item, then an item that is missing.
-abbrev pub listed : {I : Type 0} → Scene → Group → Call → (Place → Option (Option I)) → Asked I → Item
-listed scene group call at None = Unknown
-listed scene group call at (Some bytes) = elim (source_of call.source) [
+abbrev pub listed : {I : Type 0} → Group → Call → (Place → Option (Option I)) → Asked I → Item
+listed group call at None = Unknown
+listed group call at (Some bytes) = elim (source_of call.source) [
   | None ↦ Unknown
-  | Some source ↦ item_at at bytes (place_in_source scene group source call.index)
+  | Some source ↦ item_at at bytes (place_in_source group source call.index)
 ]
 
 -- What syscalls ask of cells, of headers, of inputs. The table has no row by which they would be asked for otherwise.
@@ -145,11 +146,11 @@ shown_item scene group call deed table.TransactionBytes = Here (encoded transact
 shown_item scene group call deed table.ScriptBytes = Here (encoded script group.script)
 shown_item scene group call deed table.TransactionHash = Here (transaction_hash scene.transaction)
 shown_item scene group call deed table.ScriptHash = Here (script_hash group.script)
-shown_item scene group call deed table.CellOutputs = listed scene group call (cell_at scene) (cells_asked deed call.field)
-shown_item scene group call deed table.CellData = listed scene group call (cell_at scene) (whole (λ cell. cell.content))
-shown_item scene group call deed table.Headers = listed scene group call (header_at scene) (headers_asked scene.epoch_length deed call.field)
-shown_item scene group call deed table.Inputs = listed scene group call (input_at scene) (inputs_asked deed call.field)
-shown_item scene group call deed table.Witnesses = listed scene group call (witness_at scene) (whole (λ witness. witness))
+shown_item scene group call deed table.CellOutputs = listed group call (cell_at scene) (cells_asked deed call.field)
+shown_item scene group call deed table.CellData = listed group call (cell_at scene) (whole (λ cell. cell.content))
+shown_item scene group call deed table.Headers = listed group call (header_at scene) (headers_asked scene.epoch_length deed call.field)
+shown_item scene group call deed table.Inputs = listed group call (input_at scene) (inputs_asked deed call.field)
+shown_item scene group call deed table.Witnesses = listed group call (witness_at scene) (whole (λ witness. witness))
 
 abbrev pub item_of_row : Scene → Group → Call → Option Syscall → Item
 item_of_row scene group call None = Unknown

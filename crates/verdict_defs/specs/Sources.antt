@@ -1,9 +1,8 @@
 -- The sources that a syscall loads from, and where what it asks for stands in the transaction (RFC 0009, "source"; docs/MACHINE.md, "What a
 -- script is shown").
-use Rattle.std.specs.Prelude.{ℕ, ◌==◌, nat_lt, List, [], ◌∷◌, length, Option, Some, None, if◌then◌else◌, slice_get}
+use Rattle.std.specs.Prelude.{ℕ, ◌==◌, List, [], ◌∷◌, Option, Some, None, slice_get}
 use Rattle.std.specs.Option.{option_map}
 use Rattle.std.specs.List.{find}
-use Rattle.verdict_defs.specs.Scene.{Scene}
 use Rattle.verdict_defs.specs.Groups.{Group}
 
 pub data Source : Type 0 where
@@ -40,18 +39,15 @@ pub data Place : Type 0 where
   AtCellDep : ℕ → Place
   AtHeaderDep : ℕ → Place
 
--- an index before the end
-abbrev pub before : ℕ → ℕ → Option ℕ
-before end index = if nat_lt index end then Some index else None
-
--- The place of an index of a source; none at its end and past it. An index into a group is mapped to the place in the transaction. A group has
--- no cell deps and no header deps (docs/DECISIONS.md).
-abbrev pub place_in_source : Scene → Group → Source → ℕ → Option Place
-place_in_source scene group Inputs index = option_map AtInput (before (length scene.transaction.raw.inputs) index)
-place_in_source scene group Outputs index = option_map AtOutput (before (length scene.transaction.raw.outputs) index)
-place_in_source scene group CellDeps index = option_map AtCellDep (before (length scene.deps) index)
-place_in_source scene group HeaderDeps index = option_map AtHeaderDep (before (length scene.headers) index)
-place_in_source scene group GroupInputs index = option_map AtInput (slice_get group.inputs index)
-place_in_source scene group GroupOutputs index = option_map AtOutput (slice_get group.outputs index)
-place_in_source scene group GroupCellDeps index = None
-place_in_source scene group GroupHeaderDeps index = None
+-- The place of an index of a source. An index into a group is mapped to the place in the transaction; at the group's end and past it there is
+-- none. A group has no cell deps and no header deps (docs/DECISIONS.md). Where any other source ends is said by what is asked of it: at a place
+-- past the last such item stands none.
+abbrev pub place_in_source : Group → Source → ℕ → Option Place
+place_in_source group Inputs index = Some (AtInput index)
+place_in_source group Outputs index = Some (AtOutput index)
+place_in_source group CellDeps index = Some (AtCellDep index)
+place_in_source group HeaderDeps index = Some (AtHeaderDep index)
+place_in_source group GroupInputs index = option_map AtInput (slice_get group.inputs index)
+place_in_source group GroupOutputs index = option_map AtOutput (slice_get group.outputs index)
+place_in_source group GroupCellDeps index = None
+place_in_source group GroupHeaderDeps index = None

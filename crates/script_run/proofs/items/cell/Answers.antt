@@ -12,7 +12,7 @@ use Rattle.script_run.proofs.items.cell.Goals as goal
 pub returns-in-At : goal.returns-in-At
 returns-in-At c scene shows =
     let here : Shows c.tx.inside.it.now scene = subst (λ (t : ResolvedTxValue). Shows t scene) (sym (ap (λ (t : ShownTxValue). t.it) c.tx.view_is)) shows in
-    ap (λ (p : Option CellPart). listed scene c.args.group.now.group c.args.call.now (cell_at scene) (option_map cell_part p)) c.in-Some.is
-    ∙ listed-to scene c.args.group.now.group c.args.call.now (cell_at scene) (cell_part c.in-Some.part) c.target_of.result c.in-At.place _ _ (c.target_of.ensures scene here) c.in-At.is
+    ap (λ (p : Option CellPart). listed c.args.group.now.group c.args.call.now (cell_at scene) (option_map cell_part p)) c.in-Some.is
+    ∙ listed-to c.args.group.now.group c.args.call.now (cell_at scene) (cell_part c.in-Some.part) c.target_of.result c.in-At.place _ _ c.target_of.ensures c.in-At.is
     (ap (λ (call : Call). call.index) c.call.view_is) (ap (λ (call : Call). call.source) c.call.view_is)
     ∙ c.cell_at.ensures scene here

@@ -10,8 +10,8 @@ use Rattle.script_run.proofs.items.header.Goals as goal
 pub returns-in-At-clause-found : goal.returns-in-At-clause-found
 returns-in-At-clause-found c headers length scene shows among =
     found headers length _ _ c.header_at.result
-    (ap (λ (p : Option HeaderPart). listed scene c.args.group.now.group c.args.call.now (header_at scene) (option_map (λ part h. Some (header_part length part h)) p)) c.in-Some.is
-    ∙ listed-to scene c.args.group.now.group c.args.call.now (header_at scene) (λ h. Some (header_part length c.in-Some.part h)) c.target_of.result c.in-At.place _ _ (c.target_of.ensures scene shows) c.in-At.is
+    (ap (λ (p : Option HeaderPart). listed c.args.group.now.group c.args.call.now (header_at scene) (option_map (λ part h. Some (header_part length part h)) p)) c.in-Some.is
+    ∙ listed-to c.args.group.now.group c.args.call.now (header_at scene) (λ h. Some (header_part length c.in-Some.part h)) c.target_of.result c.in-At.place _ _ c.target_of.ensures c.in-At.is
     (ap (λ (call : Call). call.index) c.call.view_is) (ap (λ (call : Call). call.source) c.call.view_is))
     (c.header_at.ensures.found headers length scene among)
 

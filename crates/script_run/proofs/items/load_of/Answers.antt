@@ -48,19 +48,19 @@ pub returns-in-2081 : goal.returns-in-2081
 returns-in-2081 c scene it =
     let number : c.args.call.now.number ≡ 2081 = sym (ap (λ (call : Call). call.number) c.call.view_is) ∙ c.in-2081.is in
     let asked = c.cell_field.ensures ∙ ap (λ (call : Call). field cell_fields call.field) c.call.view_is in
-    at-2081 scene it c.args.call.now number ∙ ap (listed scene it.group c.args.call.now (cell_at scene)) (sym asked)
+    at-2081 scene it c.args.call.now number ∙ ap (listed it.group c.args.call.now (cell_at scene)) (sym asked)
 
 pub returns-in-2082 : goal.returns-in-2082
 returns-in-2082 c scene it =
     let number : c.args.call.now.number ≡ 2082 = sym (ap (λ (call : Call). call.number) c.call.view_is) ∙ c.in-2082.is in
     let asked = c.header_field.ensures scene.epoch_length ∙ ap (λ (call : Call). field (header_fields scene.epoch_length) call.field) c.call.view_is in
-    at-2082 scene it c.args.call.now number ∙ ap (listed scene it.group c.args.call.now (header_at scene)) (sym asked)
+    at-2082 scene it c.args.call.now number ∙ ap (listed it.group c.args.call.now (header_at scene)) (sym asked)
 
 pub returns-in-2083 : goal.returns-in-2083
 returns-in-2083 c scene it =
     let number : c.args.call.now.number ≡ 2083 = sym (ap (λ (call : Call). call.number) c.call.view_is) ∙ c.in-2083.is in
     let asked = c.input_field.ensures ∙ ap (λ (call : Call). field input_fields call.field) c.call.view_is in
-    at-2083 scene it c.args.call.now number ∙ ap (listed scene it.group c.args.call.now (input_at scene)) (sym asked)
+    at-2083 scene it c.args.call.now number ∙ ap (listed it.group c.args.call.now (input_at scene)) (sym asked)
 
 pub returns-in-2091 : goal.returns-in-2091
 returns-in-2091 c scene it =

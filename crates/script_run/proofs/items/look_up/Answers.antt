@@ -40,7 +40,7 @@ returns-in-Header-clause-found c headers scene shows among same =
     let headers_here : ShowsHeaders headers c.tx.inside.it.now scene = subst (λ (t : ResolvedTxValue). ShowsHeaders headers t scene) (sym (ap (λ (t : ShownTxValue). t.it) c.tx.view_is)) among in
     found headers c.args.tx.now.epoch_length _ _ c.header.result
     (c.in-Header.ensures scene c.args.group.now
-    ∙ ap (λ (n : ℕ). listed scene c.args.group.now.group c.args.call.now (header_at scene) (option_map (λ part h. Some (header_part n part h)) c.in-Header.part)) same)
+    ∙ ap (λ (n : ℕ). listed c.args.group.now.group c.args.call.now (header_at scene) (option_map (λ part h. Some (header_part n part h)) c.in-Header.part)) same)
     (c.header.ensures.found headers c.args.tx.now.epoch_length scene here headers_here)
 
 pub returns-in-Input-clause-found : goal.returns-in-Input-clause-found
