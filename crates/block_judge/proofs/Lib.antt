@@ -1,3 +1,5 @@
+pub mod AnswerLemmas
+pub mod LeftLemmas
 pub mod SceneLemmas
 pub mod ScriptLemmas
 pub mod TransactionLemmas

@@ -1,10 +1,9 @@
 -- What the transactions of a block move: the interest that they withdraw, and what the cells occupy that they spend.
-use Rattle.std.proofs.Common.{◌≡◌, ℕ, suc, ◌+◌, ◌^◌, ◌<◌, ◌≤◌, ℤ, pos, ◌+ℤ◌, nat_abs, List, [], ◌∷◌, length, drop, Some, refl, sym, ap, ◌∙◌, arith}
+use Rattle.std.proofs.Common.{◌≡◌, ℕ, suc, ◌+◌, ◌^◌, ◌<◌, ◌≤◌, ℤ, pos, ◌+ℤ◌, nat_abs, List, [], ◌∷◌, length, drop, Some, refl, ap, ◌∙◌, arith}
 use Rattle.std.specs.Prelude.{slice_get, sum_by}
 use Rattle.std.specs.List.{AllZip}
 use Rattle.std.specs.Int.{w128}
 use mir.Val.{to_z, of_z}
-use Rattle.std.proofs.Math.IntN.{+ℤ_idl}
 use Rattle.std.proofs.lemmas.Int.{ints}
 use Rattle.std.proofs.lemmas.List.{drop_all}
 use Rattle.std.proofs.lemmas.List.Sums.{sum_by-cons}
@@ -17,7 +16,7 @@ use Rattle.rule_defs.specs.Resolving.{inputs}
 use Rattle.rule_defs.specs.Capacity.{interest}
 use Rattle.tx_rules.specs.Outcome.{Copies, IsResolved}
 use Rattle.rule_defs.specs.Field.{occupied_found, freed_by, freed_from, interest_from}
-use Rattle.block_judge.specs.Progress.{CanMove, AreMoved}
+use Rattle.block_judge.specs.Progress.{CanMove}
 use Rattle.block_judge.proofs.RestLemmas.{rest-next}
 
 -- ---- One transaction
@@ -74,19 +73,7 @@ can-move-more count old more new freed adds all can one sum total =
 
 -- ---- One transaction after the other
 
--- What is left to move from a place on.
-pub record IsMovedTo (spec : Specification) (on : List Block) (b : Block) (place : ℕ) (interest : ℤ) (freed : ℕ) : Type 0 where
-  pub interest_left : interest_from spec on b 1 (drop 1 b.transactions) ≡ interest +ℤ interest_from spec on b place (drop place b.transactions)
-  pub freed_left : freed_from spec on b 1 (drop 1 b.transactions) ≡ freed + freed_from spec on b place (drop place b.transactions)
-
-pub moved-none : (spec : Specification) (on : List Block) (b : Block) (interest : ℤ) (freed : ℕ) → interest ≡ pos 0 → freed ≡ 0 → IsMovedTo spec on b 1 interest freed
-moved-none spec on b interest freed none nothing = record {
-  interest_left =
-      sym (ap (λ (z : ℤ). z +ℤ interest_from spec on b 1 (drop 1 b.transactions)) none ∙ +ℤ_idl (interest_from spec on b 1 (drop 1 b.transactions)));
-  freed_left = omega (arith, nothing);
-}
-
-interest-next : (spec : Specification) (on : List Block) (b : Block) (place : ℕ) (t : Transaction) → slice_get b.transactions place ≡ Some t
+pub interest-next : (spec : Specification) (on : List Block) (b : Block) (place : ℕ) (t : Transaction) → slice_get b.transactions place ≡ Some t
     → interest_from spec on b place (drop place b.transactions)
     ≡ interest (site_at spec on b place) t +ℤ interest_from spec on b (place + 1) (drop (place + 1) b.transactions)
 unfolding interest_from
@@ -95,7 +82,7 @@ interest-next spec on b place t there =
     ap (interest_from spec on b place) (rest-next b.transactions place t there)
     ∙ ap (λ (n : ℕ). interest (site_at spec on b place) t +ℤ interest_from spec on b n (drop (place + 1) b.transactions)) next
 
-freed-next : (spec : Specification) (on : List Block) (b : Block) (place : ℕ) (t : Transaction) → slice_get b.transactions place ≡ Some t
+pub freed-next : (spec : Specification) (on : List Block) (b : Block) (place : ℕ) (t : Transaction) → slice_get b.transactions place ≡ Some t
     → freed_from spec on b place (drop place b.transactions)
     ≡ freed_by (site_at spec on b place) t + freed_from spec on b (place + 1) (drop (place + 1) b.transactions)
 unfolding freed_from
@@ -104,34 +91,12 @@ freed-next spec on b place t there =
     ap (freed_from spec on b place) (rest-next b.transactions place t there)
     ∙ ap (λ (n : ℕ). freed_by (site_at spec on b place) t + freed_from spec on b n (drop (place + 1) b.transactions)) next
 
-pub moved-more : (spec : Specification) (on : List Block) (b : Block) (place : ℕ) (t : Transaction) (old new : ℤ) (freed more : ℕ)
-    → IsMovedTo spec on b place old freed → slice_get b.transactions place ≡ Some t → new ≡ old +ℤ interest (site_at spec on b place) t
-    → more ≡ freed + freed_by (site_at spec on b place) t → IsMovedTo spec on b (place + 1) new more
-moved-more spec on b place t old new freed more so_far there withdraws frees =
-    let interest_left = so_far.interest_left in
-    let freed_left = so_far.freed_left in
-    let interest_is = interest-next spec on b place t there in
-    let freed_is = freed-next spec on b place t there in
-    record {
-      interest_left = omega (arith, ints, interest_left, interest_is, withdraws);
-      freed_left = omega (arith, freed_left, freed_is, frees);
-    }
-
-interest-none : (spec : Specification) (on : List Block) (b : Block) (place : ℕ) → length b.transactions ≤ place
+pub interest-none : (spec : Specification) (on : List Block) (b : Block) (place : ℕ) → length b.transactions ≤ place
     → interest_from spec on b place (drop place b.transactions) ≡ pos 0
 unfolding interest_from
 interest-none spec on b place past = ap (interest_from spec on b place) (drop_all place b.transactions past)
 
-freed-none : (spec : Specification) (on : List Block) (b : Block) (place : ℕ) → length b.transactions ≤ place
+pub freed-none : (spec : Specification) (on : List Block) (b : Block) (place : ℕ) → length b.transactions ≤ place
     → freed_from spec on b place (drop place b.transactions) ≡ 0
 unfolding freed_from
 freed-none spec on b place past = ap (freed_from spec on b place) (drop_all place b.transactions past)
-
-pub moved-all : (spec : Specification) (on : List Block) (b : Block) (place : ℕ) (interest : ℤ) (freed : ℕ) → IsMovedTo spec on b place interest freed
-    → length b.transactions ≤ place → AreMoved spec on b interest freed
-moved-all spec on b place interest freed so_far past =
-    let interest_left = so_far.interest_left in
-    let freed_left = so_far.freed_left in
-    let none = interest-none spec on b place past in
-    let nothing = freed-none spec on b place past in
-    record { interest_is = omega (arith, ints, interest_left, none); freed_is = omega (arith, freed_left, nothing) }

@@ -1,5 +1,5 @@
 -- A transaction put at the end of those that stand in a block so far, and what it is judged over.
-use Rattle.std.specs.Prelude.{◌≡◌, ℕ, Bool, ◌++◌, List, length, Option, Some}
+use Rattle.std.specs.Prelude.{◌≡◌, List, length, Option, Some}
 use Rattle.chain_defs.specs.Schema.{OutPoint, Transaction, Block}
 use Rattle.chain_defs.specs.Specification.{Specification}
 use Rattle.chain_defs.specs.Branch.{branch}
@@ -7,9 +7,6 @@ use Rattle.chain_tree.specs.Told.{Stored, blocks_of}
 use Rattle.cell_defs.specs.Events.{events_from}
 use Rattle.cell_defs.specs.Row.{Row, row_after}
 use Rattle.rule_defs.specs.Site.{Site, site_at}
-use Rattle.rule_defs.specs.TransactionRules.{form_rules, cell_rules}
-use Rattle.verdict_defs.specs.Scene.{scene_of}
-use Rattle.verdict_defs.specs.ScriptRules.{script_rules}
 use Rattle.tx_rules.specs.At.{AtValue}
 use Rattle.tx_rules.specs.Own.{of_transactions}
 use Rattle.block_judge.specs.Standing.{ContextValue, StandsFor}
@@ -17,10 +14,6 @@ use Rattle.block_judge.specs.Standing.{ContextValue, StandsFor}
 -- where the next transaction stands of a block after a branch that has these so far
 abbrev pub next_site : Specification → List Block → List Transaction → Site
 next_site spec branch so_far = site_at spec branch (of_transactions so_far) (length so_far)
-
--- The rules on it there, within the cycles that are left: no proposal is asked for.
-abbrev pub appended_rules : Site → ℕ → Transaction → List (ℕ × Bool)
-appended_rules site left t = form_rules t ++ (cell_rules site t ++ script_rules (scene_of site t) left)
 
 -- the same place as the code is handed it, in a context
 abbrev pub at_next : ContextValue → List Transaction → AtValue

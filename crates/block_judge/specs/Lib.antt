@@ -6,3 +6,4 @@ pub mod Changes
 pub mod BlockCells
 pub mod Progress
 pub mod Appending
+pub mod Answers

@@ -1,5 +1,5 @@
 -- What the transactions of a block are judged by, beside the cells, and what they move.
-use Rattle.std.specs.Prelude.{◌≡◌, ℕ, ◌*◌, ◌^◌, ◌≤◌, ℤ, nat_abs, List, length, drop, is_some}
+use Rattle.std.specs.Prelude.{◌≡◌, ℕ, ◌*◌, ◌^◌, ◌<◌, ◌≤◌, ℤ, nat_abs, List, length, drop, is_some}
 use Rattle.std.specs.List.{list_any}
 use Rattle.std.specs.Str.{bytes_eq}
 use Rattle.chain_defs.specs.Schema.{Block}
@@ -15,6 +15,12 @@ AreProposed spec branch ids = (id : List ℕ) → list_any (bytes_eq id) ids ≡
 pub record CanMove (count : ℕ) (interest : ℤ) (freed : ℕ) : Type 0 where
   pub interest_fits : nat_abs interest ≤ count * 2 ^ 96
   pub freed_fits : freed ≤ count * 2 ^ 96
+
+-- So many transactions are few, they leave few cycles, and they move no more than so many can.
+pub record AreFew (count left : ℕ) (interest : ℤ) (freed : ℕ) : Type 0 where
+  pub few : count < 2 ^ 30
+  pub left_fits : left ≤ 2 ^ 40
+  pub moves : CanMove count interest freed
 
 -- The interest is what the transactions of a block on a branch withdraw, and what is freed is what all cells occupy that they spend.
 pub record AreMoved (spec : Specification) (on : List Block) (b : Block) (interest : ℤ) (freed : ℕ) : Type 0 where

@@ -1,11 +1,14 @@
 -- What a block is judged over, and what that stands for.
-use Rattle.std.specs.Prelude.{◌≡◌, ◌⊎◌, ℕ, ◌≤◌, Bool, ◌∷◌, ◌++◌, List, Option, Some, None, IsTrue, IsSome}
+use Rattle.std.specs.Prelude.{◌≡◌, ◌⊎◌, ℕ, ◌≤◌, Bool, ◌∷◌, ◌++◌, List, Option, Some, None, Result, IsTrue, IsSome}
 use Rattle.chain_defs.specs.Schema.{OutPoint, Block}
 use Rattle.chain_defs.specs.Specification.{Specification}
 use Rattle.chain_defs.specs.Branch.{branch}
+use Rattle.chain_defs.specs.First.{first_failing}
 use Rattle.rule_defs.specs.Cellbase.{forms_cellbase}
 use Rattle.verdict_defs.specs.Transactions.{rules_of_transactions}
 use Rattle.verdict_defs.specs.Rules.{broken_at_sight}
+use Rattle.verdict_defs.specs.Ext.{ext_of}
+use Rattle.verdict_defs.specs.Judged.{unless_broken}
 use Rattle.rule_defs.specs.RewardRules.{end_rules}
 use Rattle.chain_tree.specs.declared.entry.Entry.{Entry}
 use Rattle.chain_tree.specs.Blocks.{IndexesBlocks}
@@ -13,6 +16,7 @@ use Rattle.chain_tree.specs.Told.{Stored, blocks_of}
 use Rattle.cell_defs.specs.Cell.{Cell, holds_its_own}
 use Rattle.cell_defs.specs.Events.{live_cell}
 use Rattle.cell_defs.specs.Row.{Row, live_row}
+use Rattle.cell_defs.specs.Ext.{Ext}
 use Rattle.uncle_rules.specs.Embedded.{UnclesValue, IndexesUncles}
 use Rattle.rewards.specs.Own.{HaveOwnFees}
 use Rattle.block_judge.specs.declared.context.Context.{Context}
@@ -65,6 +69,10 @@ PassesAtSight kept on b = broken_at_sight on.spec (branch kept on.parent) b ≡ 
 -- The rules that are left of such a block: J17, over the live cells, and those after it.
 abbrev pub rules_left : Specification → List Block → Block → List (ℕ × Bool)
 rules_left spec branch b = (17, forms_cellbase (live_cell branch) b) ∷ (rules_of_transactions spec branch b ++ end_rules spec branch b)
+
+-- What comes of one by these: its ext, or the first that it breaks.
+abbrev pub judged_left : Specification → List Block → ℕ → Block → Result Ext ℕ
+judged_left spec kept parent b = unless_broken (ext_of spec kept parent b) (first_failing (rules_left spec (branch kept parent) b))
 
 -- the rules that are tried on a block that has passed at sight
 abbrev pub IsTried : ℕ → Type 0

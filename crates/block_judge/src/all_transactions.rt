@@ -1,29 +1,23 @@
 // J18 to J30: the transactions of a block, one after the other.
-ghost use Rattle.std.specs.Prelude.{◌≡◌, ◌+◌, ◌-◌, ◌<◌, ◌^◌, ◌≤◌, ◌++◌, ◌∷◌, [], ℕ, nat_lt, pos, ◌+ℤ◌, List, None, Some, Err, IfOk, OnOk, length, map, drop};
+ghost use Rattle.std.specs.Prelude.{◌≡◌, ◌+◌, ◌-◌, ◌<◌, ◌^◌, ◌≤◌, ◌++◌, ◌∷◌, [], ℕ, nat_lt, pos, List, Some, Err, IfOk, OnOk, length, map};
 ghost use Rattle.std.specs.List.{filter};
-ghost use Rattle.chain_defs.specs.First.{first_failing};
-ghost use Rattle.outside.specs.declared.disk.Damage.{Damage};
-ghost use Rattle.outside.specs.declared.disk.ReadStop.TheVariants.{Damaged};
 ghost use Rattle.chain_defs.specs.Schema.{OutPoint};
-ghost use Rattle.chain_defs.specs.Branch.{branch};
 ghost use Rattle.chain_defs.specs.Hashes.{transaction_hash};
 ghost use Rattle.chain_tree.specs.Told.{Stored, blocks_of};
 ghost use Rattle.chain_tree.specs.Reading.{HasRead};
 ghost use Rattle.cell_defs.specs.Events.{events_of};
 ghost use Rattle.cell_defs.specs.Row.{row_after};
 ghost use Rattle.rule_defs.specs.Site.{Site};
-ghost use Rattle.rule_defs.specs.Capacity as capacity;
 ghost use Rattle.tx_rules.specs.At.{IsPlaced, IsSiteOf};
 ghost use Rattle.chain_tree.specs.Blocks.{IsParent};
 ghost use Rattle.tx_rules.specs.Copying.{row_in};
-ghost use Rattle.verdict_defs.specs.Transactions.{transaction_rules, left_after, rules_of_transactions};
-ghost use Rattle.verdict_defs.specs.Ext.{ext_of, rows_spent};
-ghost use Rattle.rule_defs.specs.Field.{freed_by, freed_from, interest_from};
+ghost use Rattle.verdict_defs.specs.Judged.{judged, judged_transactions};
 ghost use Rattle.rule_defs.specs.RuleNumber.{rule_number};
 ghost use Rattle.rule_defs.specs.declared.rule.Rule.{Rule};
-ghost use Rattle.block_judge.specs.declared.stop.JudgeStop.TheVariants.{Broken, Read};
+ghost use Rattle.block_judge.specs.declared.stop.JudgeStop.TheVariants.{Broken};
+ghost use Rattle.block_judge.specs.Answers.{Answers, AddsAnswered, IsOutcomeOf, AddsJudged};
 ghost use Rattle.block_judge.specs.BlockCells.{rows_in};
-ghost use Rattle.block_judge.specs.Progress.{AreProposed, CanMove};
+ghost use Rattle.block_judge.specs.Progress.{AreFew, AreProposed, CanMove};
 ghost use Rattle.block_judge.specs.Standing.{IsTriedOnTransaction, StandsFor, seen};
 ghost use Rattle.block_judge.specs.Stops.{read_stop_of};
 
@@ -123,16 +117,11 @@ impl<'a, C: Cells> Progress<'a, C> {
     ) -> Result<(), NoMemory>
         requires hash { hash.now ≡ transaction_hash tx.now }
         requires cycles { passed.now.cycles ≤ self.old.left }
-        requires few { place < 2 ^ 30 }
-        requires moved { CanMove place self.old.interest self.old.freed }
+        requires few { AreFew place self.old.left self.old.interest self.old.freed }
         requires moves { CanMove 1 passed.now.interest passed.now.freed }
         ensures moved { OnOk result (CanMove (place + 1) self.new.interest self.new.freed) }
-        ensures interest { OnOk result (self.new.interest ≡ self.old.interest +ℤ passed.now.interest) }
-        ensures freed { OnOk result (self.new.freed ≡ self.old.freed + passed.now.freed) }
+        ensures taken { OnOk result (AddsAnswered e passed.now self.old self.new) }
         ensures within { self.new.left ≤ self.old.left }
-        ensures left { OnOk result (self.new.left ≡ self.old.left - passed.now.cycles) }
-        ensures fees { OnOk result (self.new.ext.fees ≡ self.old.ext.fees ++ passed.now.fee ∷ []) }
-        ensures spent { OnOk result (self.new.ext.spent ≡ self.old.ext.spent ++ filter (λ it. nat_lt it.1.block e) (map row_in passed.now.inputs.items)) }
         ensures rows { OnOk result ((height : ℕ) (o : OutPoint) → 0 < height
             → rows_in C.rows self.new.cells o ≡ row_after e (events_of tx.now height place) (rows_in C.rows self.old.cells) o) }
     {
@@ -157,9 +146,7 @@ impl<'a, C: Cells> Progress<'a, C> {
     ) -> Result<(), JudgeStop>
         requires placed { IsPlaced at.now }
         requires hash { hash.now ≡ transaction_hash tx.now }
-        requires left { self.old.left ≤ 2 ^ 40 }
-        requires few { place < 2 ^ 30 }
-        requires moved { CanMove place self.old.interest self.old.freed }
+        requires few { AreFew place self.old.left self.old.interest self.old.freed }
         requires counts { B.count blocks.old ≡ length at.now.entries }
         ensures read { HasRead B.told B.count B.loans_of B.faults B.damages blocks.old blocks.new (read_stop_of result) }
         ensures rule { (rule : Rule) → result ≡ Err (Broken rule) → IsTriedOnTransaction (rule_number rule) }
@@ -170,30 +157,9 @@ impl<'a, C: Cells> Progress<'a, C> {
             → rows_in C.rows self.new.cells o ≡ row_after (length at.now.entries) (events_of tx.now height place) (rows_in C.rows self.old.cells) o) }
 
         // At the site that its cells make.
-        ensures broken { (stored : List Stored) (site : Site) → B.told blocks.old ≡ Some stored
+        ensures exact { (stored : List Stored) (site : Site) → B.told blocks.old ≡ Some stored
             → IsSiteOf stored at.now (rows_in C.rows self.old.cells) site → AreProposed site.spec site.branch proposed.now
-            → (rule : Rule) → result ≡ Err (Broken rule) → first_failing (transaction_rules site self.old.left tx.now) ≡ Some (rule_number rule) }
-        ensures unbroken { (stored : List Stored) (site : Site) → B.told blocks.old ≡ Some stored
-            → IsSiteOf stored at.now (rows_in C.rows self.old.cells) site → AreProposed site.spec site.branch proposed.now
-            → OnOk result (first_failing (transaction_rules site self.old.left tx.now) ≡ None) }
-        ensures cycles { (stored : List Stored) (site : Site) → B.told blocks.old ≡ Some stored
-            → IsSiteOf stored at.now (rows_in C.rows self.old.cells) site
-            → OnOk result (self.new.left ≡ left_after site self.old.left tx.now) }
-        ensures fee { (stored : List Stored) (site : Site) → B.told blocks.old ≡ Some stored
-            → IsSiteOf stored at.now (rows_in C.rows self.old.cells) site
-            → OnOk result (self.new.ext.fees ≡ self.old.ext.fees ++ capacity.fee site tx.now ∷ []) }
-        ensures spends { (stored : List Stored) (site : Site) → B.told blocks.old ≡ Some stored
-            → IsSiteOf stored at.now (rows_in C.rows self.old.cells) site
-            → OnOk result (self.new.ext.spent ≡ self.old.ext.spent ++ rows_spent (blocks_of stored) at.now.parent site tx.now) }
-        ensures interest { (stored : List Stored) (site : Site) → B.told blocks.old ≡ Some stored
-            → IsSiteOf stored at.now (rows_in C.rows self.old.cells) site
-            → OnOk result (self.new.interest ≡ self.old.interest +ℤ capacity.interest site tx.now) }
-        ensures freed { (stored : List Stored) (site : Site) → B.told blocks.old ≡ Some stored
-            → IsSiteOf stored at.now (rows_in C.rows self.old.cells) site
-            → OnOk result (self.new.freed ≡ self.old.freed + freed_by site tx.now) }
-        ensures undamaged { (stored : List Stored) (site : Site) → B.told blocks.old ≡ Some stored
-            → IsSiteOf stored at.now (rows_in C.rows self.old.cells) site
-            → (damage : Damage) → result ≡ Err (Read (Damaged damage)) → ⊥ }
+            → Answers (λ is _. AddsJudged (blocks_of stored) at.now.parent site is self.old self.new) (judged site self.old.left tx.now) result }
     {
         let is_proposed = proposed.contains(&proposal_id(hash));
         let passed = match judge_transaction(
@@ -232,18 +198,8 @@ pub(crate) fn judge_transactions<C: Cells, B: Blocks>(
     ensures read { HasRead B.told B.count B.loans_of B.faults B.damages blocks.old blocks.new (read_stop_of result) }
     ensures rule { (rule : Rule) → result ≡ Err (Broken rule) → IsTriedOnTransaction (rule_number rule) }
     ensures fees { IfOk result (λ it. length it.ext.fees ≡ length block.now.transactions - 1) }
-    ensures broken { (stored : List Stored) → B.told blocks.old ≡ Some stored → StandsFor stored (seen C.rows context.now)
-        → (rule : Rule) → result ≡ Err (Broken rule) → first_failing (rules_of_transactions context.now.spec.now (branch (blocks_of stored) context.now.parent) block.now) ≡ Some (rule_number rule) }
-    ensures unbroken { (stored : List Stored) → B.told blocks.old ≡ Some stored → StandsFor stored (seen C.rows context.now)
-        → IfOk result (λ _. first_failing (rules_of_transactions context.now.spec.now (branch (blocks_of stored) context.now.parent) block.now) ≡ None) }
-    ensures ext { (stored : List Stored) → B.told blocks.old ≡ Some stored → StandsFor stored (seen C.rows context.now)
-        → IfOk result (λ it. it.ext ≡ ext_of context.now.spec.now (blocks_of stored) context.now.parent block.now) }
-    ensures interest { (stored : List Stored) → B.told blocks.old ≡ Some stored → StandsFor stored (seen C.rows context.now)
-        → IfOk result (λ it. it.interest ≡ interest_from context.now.spec.now (branch (blocks_of stored) context.now.parent) block.now 1 (drop 1 block.now.transactions)) }
-    ensures freed { (stored : List Stored) → B.told blocks.old ≡ Some stored → StandsFor stored (seen C.rows context.now)
-        → IfOk result (λ it. it.freed ≡ freed_from context.now.spec.now (branch (blocks_of stored) context.now.parent) block.now 1 (drop 1 block.now.transactions)) }
-    ensures undamaged { (stored : List Stored) → B.told blocks.old ≡ Some stored → StandsFor stored (seen C.rows context.now)
-        → (damage : Damage) → result ≡ Err (Read (Damaged damage)) → ⊥ }
+    ensures exact { (stored : List Stored) → B.told blocks.old ≡ Some stored → StandsFor stored (seen C.rows context.now)
+        → Answers IsOutcomeOf (judged_transactions context.now.spec.now (blocks_of stored) context.now.parent block.now) result }
 {
     let count = block.transactions_count();
     if count == 1 {

@@ -1,25 +1,18 @@
 // J18 and J20 to J30: a transaction put at the end of those that stand in a block so far.
-ghost use Rattle.std.specs.Prelude.{◌≡◌, ◌<◌, ◌≤◌, ◌^◌, List, None, Some, Err, IfOk, length, map, nat_abs};
-ghost use Rattle.chain_defs.specs.First.{first_failing};
-ghost use Rattle.outside.specs.declared.disk.Damage.{Damage};
-ghost use Rattle.outside.specs.declared.disk.ReadStop.TheVariants.{Damaged};
+ghost use Rattle.std.specs.Prelude.{◌≡◌, ◌≤◌, ◌^◌, List, Some, Err, IfOk, length};
 ghost use Rattle.chain_defs.specs.Branch.{branch};
 ghost use Rattle.chain_defs.specs.Hashes.{transaction_hash};
 ghost use Rattle.chain_tree.specs.Blocks.{IsParent};
 ghost use Rattle.chain_tree.specs.Told.{Stored, blocks_of};
 ghost use Rattle.chain_tree.specs.Reading.{HasRead};
-ghost use Rattle.rule_defs.specs.Capacity as capacity;
-ghost use Rattle.rule_defs.specs.Resolving.{inputs};
 ghost use Rattle.rule_defs.specs.TransactionRules.{has_form};
-ghost use Rattle.tx_rules.specs.At.{found_row, spends_rows};
-ghost use Rattle.tx_rules.specs.Copying.{row_in};
-ghost use Rattle.rule_defs.specs.Field.{freed_by};
-ghost use Rattle.verdict_defs.specs.Scene.{scene_of};
-ghost use Rattle.verdict_defs.specs.ScriptRules.{cycles_of};
+ghost use Rattle.tx_rules.specs.At.{spends_rows};
+ghost use Rattle.verdict_defs.specs.Judged.{judged_alone};
 ghost use Rattle.rule_defs.specs.RuleNumber.{rule_number};
 ghost use Rattle.rule_defs.specs.declared.rule.Rule.{Rule};
-ghost use Rattle.block_judge.specs.declared.stop.JudgeStop.TheVariants.{Broken, Read};
-ghost use Rattle.block_judge.specs.Appending.{SeesSoFar, appended_rules, at_next, next_site};
+ghost use Rattle.block_judge.specs.declared.stop.JudgeStop.TheVariants.{Broken};
+ghost use Rattle.block_judge.specs.Answers.{Answers, FitsWithin, IsPassed};
+ghost use Rattle.block_judge.specs.Appending.{SeesSoFar, at_next, next_site};
 ghost use Rattle.block_judge.specs.ByRows.{SaysByRows};
 ghost use Rattle.block_judge.specs.Inputs.{AreInputsOf};
 ghost use Rattle.block_judge.specs.Standing.{IsTriedAlone, seen};
@@ -53,33 +46,16 @@ pub fn judge_appended<C: Cells, S: Cells, B: Blocks>(
     requires left { left ≤ 2 ^ 40 }
     ensures read { HasRead B.told B.count B.loans_of B.faults B.damages blocks.old blocks.new (read_stop_of result) }
     ensures tried { (rule : Rule) → result ≡ Err (Broken rule) → IsTriedAlone (rule_number rule) }
-    ensures within { IfOk result (λ passed. passed.cycles ≤ left) }
-    ensures interest_fits { IfOk result (λ passed. nat_abs passed.interest < 2 ^ 96) }
-    ensures freed_fits { IfOk result (λ passed. passed.freed < 2 ^ 96) }
+    ensures fits { IfOk result (FitsWithin left) }
 
     // Over any source of blocks: J18 and J20, and the cells of its inputs.
     ensures by_rows { SaysByRows (has_form tx.now) (spends_rows (S.rows cells.now) tx.now) result }
     ensures copied { IfOk result (λ passed. AreInputsOf (B.told blocks.old) (at_next (seen C.rows context.now) so_far.now) tx.now passed.inputs.items) }
 
     // Over kept blocks that are known, with the cells after the transactions so far.
-    ensures broken { (stored : List Stored) → B.told blocks.old ≡ Some stored → SeesSoFar stored (seen C.rows context.now) so_far.now (S.rows cells.now)
-        → (rule : Rule) → result ≡ Err (Broken rule)
-        → first_failing (appended_rules (next_site context.now.spec.now (branch (blocks_of stored) context.now.parent) so_far.now) left tx.now) ≡ Some (rule_number rule) }
-    ensures unbroken { (stored : List Stored) → B.told blocks.old ≡ Some stored → SeesSoFar stored (seen C.rows context.now) so_far.now (S.rows cells.now)
-        → IfOk result (λ _. first_failing (appended_rules (next_site context.now.spec.now (branch (blocks_of stored) context.now.parent) so_far.now) left tx.now) ≡ None) }
-    ensures fee { (stored : List Stored) → B.told blocks.old ≡ Some stored → SeesSoFar stored (seen C.rows context.now) so_far.now (S.rows cells.now)
-        → IfOk result (λ passed. passed.fee ≡ capacity.fee (next_site context.now.spec.now (branch (blocks_of stored) context.now.parent) so_far.now) tx.now) }
-    ensures interest { (stored : List Stored) → B.told blocks.old ≡ Some stored → SeesSoFar stored (seen C.rows context.now) so_far.now (S.rows cells.now)
-        → IfOk result (λ passed. passed.interest ≡ capacity.interest (next_site context.now.spec.now (branch (blocks_of stored) context.now.parent) so_far.now) tx.now) }
-    ensures freed { (stored : List Stored) → B.told blocks.old ≡ Some stored → SeesSoFar stored (seen C.rows context.now) so_far.now (S.rows cells.now)
-        → IfOk result (λ passed. passed.freed ≡ freed_by (next_site context.now.spec.now (branch (blocks_of stored) context.now.parent) so_far.now) tx.now) }
-    ensures cycles { (stored : List Stored) → B.told blocks.old ≡ Some stored → SeesSoFar stored (seen C.rows context.now) so_far.now (S.rows cells.now)
-        → IfOk result (λ passed. passed.cycles ≡ cycles_of (scene_of (next_site context.now.spec.now (branch (blocks_of stored) context.now.parent) so_far.now) tx.now) left) }
-    ensures spends { (stored : List Stored) → B.told blocks.old ≡ Some stored → SeesSoFar stored (seen C.rows context.now) so_far.now (S.rows cells.now)
-        → IfOk result (λ passed. map row_in passed.inputs.items ≡ map (found_row (blocks_of stored) context.now.parent)
-        (inputs (next_site context.now.spec.now (branch (blocks_of stored) context.now.parent) so_far.now) tx.now)) }
-    ensures undamaged { (stored : List Stored) → B.told blocks.old ≡ Some stored → SeesSoFar stored (seen C.rows context.now) so_far.now (S.rows cells.now)
-        → (damage : Damage) → result ≡ Err (Read (Damaged damage)) → ⊥ }
+    ensures exact { (stored : List Stored) → B.told blocks.old ≡ Some stored → SeesSoFar stored (seen C.rows context.now) so_far.now (S.rows cells.now)
+        → Answers (IsPassed (blocks_of stored) context.now.parent)
+        (judged_alone (next_site context.now.spec.now (branch (blocks_of stored) context.now.parent) so_far.now) left tx.now) result }
 {
     let at = TxAt {
         spec: context.spec,

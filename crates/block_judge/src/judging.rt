@@ -1,8 +1,5 @@
 // A block judged by all rules, and a transaction judged alone.
-ghost use Rattle.std.specs.Prelude.{◌≡◌, ◌-◌, ◌<◌, ◌≤◌, List, Option, None, Some, Err, IfOk, IsTrue, length, map};
-ghost use Rattle.chain_defs.specs.First.{first_failing};
-ghost use Rattle.outside.specs.declared.disk.Damage.{Damage};
-ghost use Rattle.outside.specs.declared.disk.ReadStop.TheVariants.{Damaged};
+ghost use Rattle.std.specs.Prelude.{◌≡◌, ◌-◌, ◌<◌, ◌≤◌, List, Option, Some, Err, IfOk, IsTrue, length, map};
 ghost use Rattle.chain_defs.specs.Schema.{OutPoint};
 ghost use Rattle.chain_defs.specs.Branch.{branch};
 ghost use Rattle.chain_defs.specs.Hashes.{transaction_hash};
@@ -10,20 +7,17 @@ ghost use Rattle.chain_tree.specs.Told.{Stored, blocks_of};
 ghost use Rattle.chain_tree.specs.Reading.{HasRead};
 ghost use Rattle.cell_defs.specs.Cell.{Cell};
 ghost use Rattle.rule_defs.specs.Cellbase as rules;
-ghost use Rattle.rule_defs.specs.Capacity as capacity;
-ghost use Rattle.verdict_defs.specs.ScriptRules.{cycles_of};
-ghost use Rattle.verdict_defs.specs.Scene.{scene_of};
 ghost use Rattle.rule_defs.specs.TransactionRules.{has_form};
 ghost use Rattle.tx_rules.specs.At.{spends_rows};
 ghost use Rattle.chain_tree.specs.Blocks.{IsParent};
-ghost use Rattle.verdict_defs.specs.Ext.{ext_of};
 ghost use Rattle.chain_defs.specs.Dao.{is_rated};
-ghost use Rattle.verdict_defs.specs.Rules.{first_broken, broken_in_dry_run};
 ghost use Rattle.rule_defs.specs.Site.{site_after};
 ghost use Rattle.rule_defs.specs.RuleNumber.{rule_number};
-ghost use Rattle.block_judge.specs.declared.stop.JudgeStop.TheVariants.{Broken, Read};
+ghost use Rattle.verdict_defs.specs.Judged.{judged_alone};
+ghost use Rattle.block_judge.specs.declared.stop.JudgeStop.TheVariants.{Broken};
+ghost use Rattle.block_judge.specs.Answers.{Answers, JudgesBlock, PaysAndTakes};
 ghost use Rattle.block_judge.specs.ByRows.{SaysByForm, SaysByRows, AgreeOnLive};
-ghost use Rattle.block_judge.specs.Standing.{PassesAtSight, IsTried, IsTriedAlone, StandsFor, StandsForAll, rules_left, seen};
+ghost use Rattle.block_judge.specs.Standing.{IsTried, IsTriedAlone, StandsFor, StandsForAll, seen};
 ghost use Rattle.block_judge.specs.Stops.{read_stop_of};
 
 use crate::all_transactions::judge_transactions;
@@ -64,23 +58,8 @@ pub fn judge<C: Cells, B: Blocks>(
     ensures rated { IfOk result (λ _. IsTrue (is_rated block.now.header.dao)) }
 
     // Over kept blocks that are known with their own fees, with the cells of the parent's branch: J17 to J32, which are all rules on one that has passed at sight.
-    ensures broken_left { (stored : List Stored) → B.told blocks.old ≡ Some stored → StandsForAll stored (seen C.rows context.now)
-        → (rule : Rule) → result ≡ Err (Broken rule)
-        → first_failing (rules_left context.now.spec.now (branch (blocks_of stored) context.now.parent) block.now) ≡ Some (rule_number rule) }
-    ensures unbroken_left { (stored : List Stored) → B.told blocks.old ≡ Some stored → StandsForAll stored (seen C.rows context.now)
-        → IfOk result (λ _. first_failing (rules_left context.now.spec.now (branch (blocks_of stored) context.now.parent) block.now) ≡ None) }
-    ensures broken { (stored : List Stored) → B.told blocks.old ≡ Some stored
-        → StandsForAll stored (seen C.rows context.now) → PassesAtSight (blocks_of stored) (seen C.rows context.now) block.now
-        → (rule : Rule) → result ≡ Err (Broken rule)
-        → first_broken context.now.spec.now (branch (blocks_of stored) context.now.parent) block.now ≡ Some (rule_number rule) }
-    ensures unbroken { (stored : List Stored) → B.told blocks.old ≡ Some stored
-        → StandsForAll stored (seen C.rows context.now) → PassesAtSight (blocks_of stored) (seen C.rows context.now) block.now
-        → IfOk result (λ _. first_broken context.now.spec.now (branch (blocks_of stored) context.now.parent) block.now ≡ None) }
-    ensures ext { (stored : List Stored) → B.told blocks.old ≡ Some stored
-        → StandsForAll stored (seen C.rows context.now)
-        → IfOk result (λ ext. ext ≡ ext_of context.now.spec.now (blocks_of stored) context.now.parent block.now) }
-    ensures undamaged { (stored : List Stored) → B.told blocks.old ≡ Some stored
-        → StandsForAll stored (seen C.rows context.now) → (damage : Damage) → result ≡ Err (Read (Damaged damage)) → ⊥ }
+    ensures exact { (stored : List Stored) → B.told blocks.old ≡ Some stored → StandsForAll stored (seen C.rows context.now)
+        → JudgesBlock (blocks_of stored) (seen C.rows context.now) block.now result }
 {
     if !forms_cellbase(context.cells, block, hashes) {
         return Err(JudgeStop::Broken(Rule::CellbaseForm));
@@ -116,16 +95,8 @@ pub fn dry_run<C: Cells, B: Blocks>(
     ensures within { IfOk result (λ it. it.1 ≤ context.now.spec.now.max_cycles) }
 
     // Over kept blocks that are known, with the cells of the parent's branch.
-    ensures broken { (stored : List Stored) → B.told blocks.old ≡ Some stored → StandsFor stored (seen C.rows context.now)
-        → (rule : Rule) → result ≡ Err (Broken rule) → broken_in_dry_run context.now.spec.now (branch (blocks_of stored) context.now.parent) tx.now ≡ Some (rule_number rule) }
-    ensures unbroken { (stored : List Stored) → B.told blocks.old ≡ Some stored → StandsFor stored (seen C.rows context.now)
-        → IfOk result (λ _. broken_in_dry_run context.now.spec.now (branch (blocks_of stored) context.now.parent) tx.now ≡ None) }
-    ensures fee { (stored : List Stored) → B.told blocks.old ≡ Some stored → StandsFor stored (seen C.rows context.now)
-        → IfOk result (λ it. it.0 ≡ capacity.fee (site_after context.now.spec.now (branch (blocks_of stored) context.now.parent)) tx.now) }
-    ensures cycles { (stored : List Stored) → B.told blocks.old ≡ Some stored → StandsFor stored (seen C.rows context.now)
-        → IfOk result (λ it. it.1 ≡ cycles_of (scene_of (site_after context.now.spec.now (branch (blocks_of stored) context.now.parent)) tx.now) context.now.spec.now.max_cycles) }
-    ensures undamaged { (stored : List Stored) → B.told blocks.old ≡ Some stored → StandsFor stored (seen C.rows context.now)
-        → (damage : Damage) → result ≡ Err (Read (Damaged damage)) → ⊥ }
+    ensures exact { (stored : List Stored) → B.told blocks.old ≡ Some stored → StandsFor stored (seen C.rows context.now)
+        → Answers PaysAndTakes (judged_alone (site_after context.now.spec.now (branch (blocks_of stored) context.now.parent)) context.now.spec.now.max_cycles tx.now) result }
 {
     let spec = context.spec;
     let at = TxAt {

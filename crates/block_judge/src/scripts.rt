@@ -1,8 +1,5 @@
 // J28 to J30: the scripts of a transaction.
-ghost use Rattle.std.specs.Prelude.{◌≡◌, ◌^◌, ◌≤◌, List, Option, None, Some, Err, IfOk, length};
-ghost use Rattle.chain_defs.specs.First.{first_failing};
-ghost use Rattle.outside.specs.declared.disk.Damage.{Damage};
-ghost use Rattle.outside.specs.declared.disk.ReadStop.TheVariants.{Damaged};
+ghost use Rattle.std.specs.Prelude.{◌≡◌, ◌^◌, ◌≤◌, List, Option, Some, Err, IfOk, length};
 ghost use Rattle.chain_defs.specs.Schema.{OutPoint};
 ghost use Rattle.cell_defs.specs.Row.{Row};
 ghost use Rattle.chain_tree.specs.Told.{Stored, blocks_of};
@@ -11,10 +8,10 @@ ghost use Rattle.rule_defs.specs.Site.{Site};
 ghost use Rattle.tx_rules.specs.At.{IsSiteOf};
 ghost use Rattle.tx_rules.specs.Outcome.{IsFormed, IsResolved};
 ghost use Rattle.verdict_defs.specs.Scene.{scene_of};
-ghost use Rattle.verdict_defs.specs.ScriptRules.{script_rules, cycles_of};
 ghost use Rattle.verdict_defs.specs.ScriptRules as rules;
 ghost use Rattle.rule_defs.specs.RuleNumber.{rule_number};
-ghost use Rattle.block_judge.specs.declared.stop.JudgeStop.TheVariants.{Broken, Read};
+ghost use Rattle.block_judge.specs.declared.stop.JudgeStop.TheVariants.{Broken};
+ghost use Rattle.block_judge.specs.Answers.{Answers, AreCycles, judged_scripts};
 ghost use Rattle.block_judge.specs.Standing.{IsScriptRule};
 ghost use Rattle.block_judge.specs.Stops.{AnswersRunning, read_stop_of};
 
@@ -63,14 +60,9 @@ pub(crate) fn run_scripts<B: Blocks>(
     ensures read { HasRead B.told B.count B.loans_of B.faults B.damages blocks.old blocks.new (read_stop_of result) }
     ensures within { IfOk result (λ cycles. cycles ≤ left) }
     ensures rule { (rule : Rule) → result ≡ Err (Broken rule) → IsScriptRule (rule_number rule) }
-    ensures broken { (stored : List Stored) (rows : OutPoint → Option Row) (site : Site) → B.told blocks.old ≡ Some stored → IsSiteOf stored at.now rows site
-        → IsResolved (blocks_of stored) at.now.parent site resolved.now.tx resolved.now → (rule : Rule) → result ≡ Err (Broken rule)
-        → first_failing (script_rules (scene_of site resolved.now.tx) left) ≡ Some (rule_number rule) }
-    ensures unbroken { (stored : List Stored) (rows : OutPoint → Option Row) (site : Site) → B.told blocks.old ≡ Some stored → IsSiteOf stored at.now rows site
+    ensures exact { (stored : List Stored) (rows : OutPoint → Option Row) (site : Site) → B.told blocks.old ≡ Some stored → IsSiteOf stored at.now rows site
         → IsResolved (blocks_of stored) at.now.parent site resolved.now.tx resolved.now
-        → IfOk result (λ cycles. (first_failing (script_rules (scene_of site resolved.now.tx) left) ≡ None) × (cycles ≡ cycles_of (scene_of site resolved.now.tx) left)) }
-    ensures undamaged { (stored : List Stored) (rows : OutPoint → Option Row) (site : Site) → B.told blocks.old ≡ Some stored → IsSiteOf stored at.now rows site
-        → IsResolved (blocks_of stored) at.now.parent site resolved.now.tx resolved.now → (damage : Damage) → result ≡ Err (Read (Damaged damage)) → ⊥ }
+        → Answers AreCycles (judged_scripts (scene_of site resolved.now.tx) left) result }
 {
     match run_groups(alloc, at.spec, resolved, at.tree, blocks, left) {
         Ok(cycles) => Ok(cycles),

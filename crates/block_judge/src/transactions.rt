@@ -1,24 +1,17 @@
 // J18 to J30: one transaction.
-ghost use Rattle.std.specs.Prelude.{◌≡◌, ◌^◌, ◌<◌, ◌≤◌, ◌++◌, ◌∷◌, nat_abs, true, List, None, Some, Err, IfOk, length, map};
+ghost use Rattle.std.specs.Prelude.{◌≡◌, ◌^◌, ◌<◌, ◌≤◌, true, List, Some, Err, IfOk, length};
 ghost use Rattle.std.specs.List.{sum_by};
-ghost use Rattle.chain_defs.specs.First.{first_failing};
-ghost use Rattle.outside.specs.declared.disk.Damage.{Damage};
-ghost use Rattle.outside.specs.declared.disk.ReadStop.TheVariants.{Damaged};
 ghost use Rattle.chain_defs.specs.Hashes.{transaction_hash};
 ghost use Rattle.chain_tree.specs.Told.{Stored, blocks_of};
 ghost use Rattle.chain_tree.specs.Reading.{HasRead};
 ghost use Rattle.rule_defs.specs.Site.{Site};
-ghost use Rattle.rule_defs.specs.TransactionRules.{form_rules, cell_rules, has_form};
-ghost use Rattle.rule_defs.specs.Capacity.{fee, interest};
-ghost use Rattle.rule_defs.specs.Resolving.{inputs};
-ghost use Rattle.tx_rules.specs.At.{IsPlaced, IsSiteOf, found_row, spends_rows};
-ghost use Rattle.tx_rules.specs.Copying.{row_in};
-ghost use Rattle.rule_defs.specs.Field.{freed_by};
-ghost use Rattle.verdict_defs.specs.Scene.{scene_of};
-ghost use Rattle.verdict_defs.specs.ScriptRules.{script_rules, cycles_of};
+ghost use Rattle.rule_defs.specs.TransactionRules.{has_form};
+ghost use Rattle.tx_rules.specs.At.{IsPlaced, IsSiteOf, spends_rows};
+ghost use Rattle.verdict_defs.specs.Judged.{judged_where};
 ghost use Rattle.rule_defs.specs.RuleNumber.{rule_number};
 ghost use Rattle.rule_defs.specs.declared.rule.Rule.{Rule};
-ghost use Rattle.block_judge.specs.declared.stop.JudgeStop.TheVariants.{Broken, Read};
+ghost use Rattle.block_judge.specs.declared.stop.JudgeStop.TheVariants.{Broken};
+ghost use Rattle.block_judge.specs.Answers.{Answers, FitsWithin, IsPassed};
 ghost use Rattle.block_judge.specs.ByRows.{SaysByRows};
 ghost use Rattle.block_judge.specs.Inputs.{AreInputsOf};
 ghost use Rattle.block_judge.specs.Standing.{IsTriedAlone, IsTriedOnTransaction};
@@ -84,31 +77,15 @@ pub(crate) fn judge_transaction<C: Cells, B: Blocks>(
     requires left { left ≤ 2 ^ 40 }
     requires counts { B.count blocks.old ≡ length at.now.entries }
     ensures read { HasRead B.told B.count B.loans_of B.faults B.damages blocks.old blocks.new (read_stop_of result) }
-    ensures within { IfOk result (λ passed. passed.cycles ≤ left) }
-    ensures interest_fits { IfOk result (λ passed. nat_abs passed.interest < 2 ^ 96) }
-    ensures freed_fits { IfOk result (λ passed. passed.freed < 2 ^ 96) }
+    ensures fits { IfOk result (FitsWithin left) }
     ensures rule { (rule : Rule) → result ≡ Err (Broken rule) → IsTriedOnTransaction (rule_number rule) }
     // J18 and J20, and the cells of its inputs, over any source of blocks.
     ensures by_rows { proposed ≡ true → SaysByRows (has_form tx.now) (spends_rows (C.rows cells.now) tx.now) result }
     ensures copied { IfOk result (λ passed. AreInputsOf (B.told blocks.old) at.now tx.now passed.inputs.items) }
     ensures alone { proposed ≡ true → (rule : Rule) → result ≡ Err (Broken rule) → IsTriedAlone (rule_number rule) }
-    ensures broken { (stored : List Stored) (site : Site) → B.told blocks.old ≡ Some stored → IsSiteOf stored at.now (C.rows cells.now) site
-        → (rule : Rule) → result ≡ Err (Broken rule)
-        → first_failing (form_rules tx.now ++ (19, proposed) ∷ cell_rules site tx.now ++ script_rules (scene_of site tx.now) left) ≡ Some (rule_number rule) }
-    ensures unbroken { (stored : List Stored) (site : Site) → B.told blocks.old ≡ Some stored → IsSiteOf stored at.now (C.rows cells.now) site
-        → IfOk result (λ _. first_failing (form_rules tx.now ++ (19, proposed) ∷ cell_rules site tx.now ++ script_rules (scene_of site tx.now) left) ≡ None) }
-    ensures fee { (stored : List Stored) (site : Site) → B.told blocks.old ≡ Some stored → IsSiteOf stored at.now (C.rows cells.now) site
-        → IfOk result (λ passed. passed.fee ≡ fee site tx.now) }
-    ensures interest { (stored : List Stored) (site : Site) → B.told blocks.old ≡ Some stored → IsSiteOf stored at.now (C.rows cells.now) site
-        → IfOk result (λ passed. passed.interest ≡ interest site tx.now) }
-    ensures freed { (stored : List Stored) (site : Site) → B.told blocks.old ≡ Some stored → IsSiteOf stored at.now (C.rows cells.now) site
-        → IfOk result (λ passed. passed.freed ≡ freed_by site tx.now) }
-    ensures cycles { (stored : List Stored) (site : Site) → B.told blocks.old ≡ Some stored → IsSiteOf stored at.now (C.rows cells.now) site
-        → IfOk result (λ passed. passed.cycles ≡ cycles_of (scene_of site tx.now) left) }
-    ensures spends { (stored : List Stored) (site : Site) → B.told blocks.old ≡ Some stored → IsSiteOf stored at.now (C.rows cells.now) site
-        → IfOk result (λ passed. map row_in passed.inputs.items ≡ map (found_row (blocks_of stored) at.now.parent) (inputs site tx.now)) }
-    ensures undamaged { (stored : List Stored) (site : Site) → B.told blocks.old ≡ Some stored → IsSiteOf stored at.now (C.rows cells.now) site
-        → (damage : Damage) → result ≡ Err (Read (Damaged damage)) → ⊥ }
+    // Over kept blocks that are known, at the site of the transaction.
+    ensures exact { (stored : List Stored) (site : Site) → B.told blocks.old ≡ Some stored → IsSiteOf stored at.now (C.rows cells.now) site
+        → Answers (IsPassed (blocks_of stored) at.now.parent) (judged_where proposed site left tx.now) result }
 {
     let ok = match resolve(alloc, tx, hash, at, proposed, cells, blocks) {
         Ok(ok) => ok,

@@ -1,6 +1,6 @@
 -- What a block is judged over, and the verdict that it comes to.
 use Rattle.std.proofs.Common.{◌≡◌, ℕ, ◌-◌, ◌<◌, Bool, true, false, cond, List, [], ◌∷◌, drop, length, Option, Some, None, refl, sym, ap, ◌∙◌, subst, arith}
-use Rattle.std.specs.Prelude.{Result, Ok, Err, nat_lt, is_some, IsTrue, IfOk}
+use Rattle.std.specs.Prelude.{Result, Ok, Err, nat_lt, is_some, IsTrue, IfOk, IsOkAnd}
 use Rattle.std.proofs.lemmas.Bool.Decides.{Decides-ltb}
 use Rattle.std.proofs.lemmas.List.Elements.{All-head, All-tail}
 use Rattle.chain_defs.specs.Shape.{decoded}
@@ -20,13 +20,18 @@ use Rattle.chain_tree.specs.Blocks.{IndexesBlocks}
 use Rattle.chain_tree.specs.Told.{Stored, blocks_of}
 use Rattle.chain_tree.proofs.BlockLemmas.{len-same}
 use Rattle.uncle_rules.specs.Embedded.{UnclesValue}
-use Rattle.rule_defs.specs.Capacity.{fee}
-use Rattle.verdict_defs.specs.Scene.{scene_of}
-use Rattle.verdict_defs.specs.ScriptRules.{cycles_of}
 use Rattle.verdict_defs.specs.Ext.{ext_of}
-use Rattle.verdict_defs.specs.Rules.{first_broken, broken_in_dry_run}
+use Rattle.verdict_defs.specs.Rules.{first_broken}
+use Rattle.verdict_defs.specs.Judged.{Passed, judged_alone}
 use Rattle.rule_defs.specs.Site.{site_after}
 use Rattle.chain_defs.specs.Dao.{is_rated}
+use Rattle.outside.specs.declared.disk.Damage.{Damage}
+use Rattle.outside.specs.declared.disk.ReadStop.TheVariants.{Damaged}
+use Rattle.rule_defs.specs.RuleNumber.{rule_number}
+use Rattle.rule_defs.specs.declared.rule.Rule.{Rule}
+use Rattle.block_judge.specs.declared.stop.JudgeStop.{JudgeStop}
+use Rattle.block_judge.specs.declared.stop.JudgeStop.TheVariants.{Broken, Read}
+use Rattle.block_judge.specs.Answers.{Answers, PaysAndTakes}
 use Rattle.block_judge.specs.Standing.{Stands, StandsWhole}
 use Rattle.verdict_defs.specs.Verdict.{verdict, verdict_of, verdict_of_block, verdict_on, verdict_by_rules}
 use Rattle.verdict_defs.specs.Chain.{Chain}
@@ -185,22 +190,28 @@ branch_at kept (Some place) = branch kept place
 best-is : (kept : List Block) (tip : ℕ) → tip_place kept ≡ Some tip → best_branch kept ≡ branch kept tip
 best-is kept tip is = ap (branch_at kept) is
 
+-- what comes of it after the tip, as it is answered
 module _ (spec : Specification) (kept : List Block) (t : Transaction) (tip : ℕ) (is : tip_place kept ≡ Some tip) where
-  by-rule : (broken : Option ℕ) → broken_in_dry_run spec (branch kept tip) t ≡ broken → trial_on spec (best_branch kept) t ≡ trial_by spec (branch kept tip) t broken
+  abbrev comes : Result Passed ℕ
+  comes = judged_alone (site_after spec (branch kept tip)) spec.max_cycles t
+
+  by-value : (value : Result Passed ℕ) → comes ≡ value → trial_on spec (best_branch kept) t ≡ trial_by value
   unfolding trial_on
-  by-rule broken found = ap (λ (on : List Block). trial_on spec on t) (best-is kept tip is) ∙ ap (trial_by spec (branch kept tip) t) found
+  by-value value found = ap (λ (on : List Block). trial_on spec on t) (best-is kept tip is) ∙ ap trial_by found
 
-  pub trial-refused : (rule : ℕ) → broken_in_dry_run spec (branch kept tip) t ≡ Some rule → trial_on spec (best_branch kept) t ≡ trials.Refused rule
-  trial-refused rule found = by-rule (Some rule) found
+  pub trial-refused : (result : Result (ℕ × ℕ) JudgeStop) (rule : Rule) → Answers PaysAndTakes comes result → result ≡ Err (Broken rule)
+      → trial_on spec (best_branch kept) t ≡ trials.Refused (rule_number rule)
+  trial-refused result rule answers broken =
+      by-value (Err (rule_number rule)) (subst (λ (r : Result (ℕ × ℕ) JudgeStop). Answers PaysAndTakes comes r) broken answers)
 
-  pub trial-passes : (paid cycles : ℕ) → broken_in_dry_run spec (branch kept tip) t ≡ None → paid ≡ fee (site_after spec (branch kept tip)) t
-      → cycles ≡ cycles_of (scene_of (site_after spec (branch kept tip)) t) spec.max_cycles
-      → trial_on spec (best_branch kept) t ≡ trials.Passes paid cycles
-  trial-passes paid cycles found is_fee is_cycles = by-rule None found ∙ (λ i. trials.Passes (sym is_fee i) (sym is_cycles i))
+  pub trial-undamaged : (result : Result (ℕ × ℕ) JudgeStop) (damage : Damage) → Answers PaysAndTakes comes result → result ≡ Err (Read (Damaged damage)) → ⊥
+  trial-undamaged result damage answers was = subst (λ (r : Result (ℕ × ℕ) JudgeStop). Answers PaysAndTakes comes r) was answers
 
-pub trial-passes-else : {E : Type 0} (spec : Specification) (kept : List Block) (t : Transaction) (tip : ℕ) (result : Result (ℕ × ℕ) E) → tip_place kept ≡ Some tip
-    → IfOk result (λ _. broken_in_dry_run spec (branch kept tip) t ≡ None) → IfOk result (λ it. it.0 ≡ fee (site_after spec (branch kept tip)) t)
-    → IfOk result (λ it. it.1 ≡ cycles_of (scene_of (site_after spec (branch kept tip)) t) spec.max_cycles)
-    → IfOk result (λ it. trial_on spec (best_branch kept) t ≡ trials.Passes it.0 it.1)
-trial-passes-else spec kept t tip (Ok it) is found is_fee is_cycles = trial-passes spec kept t tip is it.0 it.1 found is_fee is_cycles
-trial-passes-else spec kept t tip (Err stop) is found is_fee is_cycles = tt
+  pub trial-passes : (result : Result (ℕ × ℕ) JudgeStop) → Answers PaysAndTakes comes result
+      → IfOk result (λ it. trial_on spec (best_branch kept) t ≡ trials.Passes it.0 it.1)
+  trial-passes (Err stop) answers = tt
+  trial-passes (Ok it) answers = by_value comes refl answers
+    where
+      by_value : (value : Result Passed ℕ) → comes ≡ value → IsOkAnd value (λ passed. PaysAndTakes passed it) → trial_on spec (best_branch kept) t ≡ trials.Passes it.0 it.1
+      by_value (Err rule) found same = absurd same
+      by_value (Ok passed) found same = by-value (Ok passed) found ∙ (λ i. trials.Passes (sym same.fee_is i) (sym same.cycles_are i))

@@ -1,6 +1,6 @@
 -- What the block so far stands for after each step.
 use Rattle.std.proofs.Common.{◌≡◌, ℕ, ◌+◌, ◌-◌, ◌^◌, ◌<◌, ◌≤◌, ℤ, ◌+ℤ◌, Bool, true, false, cond, not, ◌&&◌, ◌||◌, List, [], ◌∷◌, ◌++◌, length, map, take, replicate, eq-eqb, ◌==◌, ◌⊎◌, inl, inr, get_or, Vec, Global, Option, Some, None, refl, sym, ap, ◌∙◌, subst, arith}
-use Rattle.std.specs.Prelude.{IsTrue, nat_le}
+use Rattle.std.specs.Prelude.{IsOkAnd, IsTrue, Result, nat_le}
 use Rattle.std.specs.List.{AllByRecursion, list_any}
 use Rattle.std.specs.Str.{bytes_eq}
 use Rattle.std.proofs.lemmas.Bool.{le-leb, lt-leb}
@@ -18,19 +18,21 @@ use Rattle.cell_defs.specs.Row.{Row, row_after}
 use Rattle.cell_defs.specs.Events.{events_of}
 use Rattle.rule_defs.specs.Cellbase.{null_index, is_cellbase, begins_with_cellbase, has_cellbase}
 use Rattle.rule_defs.specs.Body.{fits_length, has_proposals}
-use Rattle.rule_defs.specs.Site.{Site}
 use Rattle.rule_defs.specs.Capacity as capacity
-use Rattle.rule_defs.specs.Field.{freed_by}
-use Rattle.verdict_defs.specs.Scene.{scene_of}
-use Rattle.verdict_defs.specs.ScriptRules.{cycles_of}
 use Rattle.verdict_defs.specs.Transactions.{is_proposed, transaction_rules}
 use Rattle.block_judge.specs.Appending as appending
-use Rattle.block_judge.specs.Appending.{SeesSoFar, appended_rules}
+use Rattle.block_judge.specs.Appending.{SeesSoFar}
+use Rattle.block_judge.specs.Answers.{IsPassed, StopsAs}
 use Rattle.block_judge.specs.Progress.{AreMoved, AreProposed, CanMove}
 use Rattle.block_judge.specs.Standing.{ContextValue, StandsFor}
+use Rattle.rule_defs.specs.RuleNumber.{rule_number}
+use Rattle.rule_defs.specs.declared.rule.Rule.{Rule}
+use Rattle.block_judge.specs.declared.stop.JudgeStop.{JudgeStop}
+use Rattle.block_judge.specs.declared.stop.JudgeStop.TheVariants.{Broken}
 use Rattle.block_judge.specs.declared.transactions.PassedTransaction.{PassedTransaction}
 use Rattle.block_judge.proofs.MovedLemmas.{can-move-none}
-use Rattle.block_judge.proofs.NextLemmas.{next-proposed}
+use Rattle.verdict_defs.specs.Judged.{Passed, judged, judged_alone, passed_at}
+use Rattle.verdict_defs.proofs.JudgedLemmas.{judged-breaks-first, judged-passes-by, judged-proposed}
 use Rattle.pool_defs.specs.Size.{size_with}
 use Rattle.pool_defs.specs.Start as start
 use Rattle.pool_defs.specs.Start.{cellbase}
@@ -40,7 +42,7 @@ use Rattle.pool_defs.specs.declared.line.Line.{Line}
 use Rattle.pool_defs.specs.declared.line.Line.TheVariants.{Commit, Propose, Refused, Later}
 use Rattle.pool_defs.proofs.GrowthLemmas.{size-transaction, size-id, counted-size, cellbase-grows, proposals-grow, distinct-push}
 use Rattle.pool_defs.specs.Size.{most_items}
-use Rattle.tx_pool.specs.Draft.{DraftValue, Fits, IsEmpty, IsPut, ComesTo, IsSoFar, has, with_line}
+use Rattle.tx_pool.specs.Draft.{DraftValue, Fits, IsEmpty, IsPut, IsSoFar, has, with_line}
 use Rattle.tx_pool.proofs.GrownLemmas.{each-push, has-push, has-hash-push, moved-push, moved-same, moved-nothing, sees-push, sees-none}
 
 -- ---- What each draft keeps
@@ -328,7 +330,7 @@ module _ (stored : List Stored) (on : ContextValue) (so_far : Assembly) (draft :
 
   pub committed-so-far : (t : Transaction) (e : ℕ) (put after : DraftValue) (passed : PassedTransaction) → on.parent < length on.entries → e ≡ length on.entries
       → IsPut e t draft put → IsTrue (has_cellbase (pool.with_transaction so_far.block t))
-      → ComesTo (pool.next_site on.spec on_branch so_far.block) so_far.left t passed
+      → IsPassed (blocks_of stored) on.parent (passed_at (pool.next_site on.spec on_branch so_far.block) so_far.left t) passed
       → after ≡ record put { left = put.left - passed.cycles; interest = after.interest; freed = put.freed + passed.freed }
       → after.interest ≡ put.interest +ℤ passed.interest
       → IsSoFar stored on (pool.committed_at (pool.next_site on.spec on_branch so_far.block) so_far t) (with_line after (Commit passed.fee passed.cycles))
@@ -388,43 +390,35 @@ module _ (stored : List Stored) (on : ContextValue) (so_far : Assembly) (draft :
   pub sees-as : SeesSoFar stored on txs draft.rows
   sees-as = subst (λ (these : List Transaction). SeesSoFar stored on these draft.rows) (sym (same ∙ is.fills.transactions_are)) is.sees
 
-  site-as : appending.next_site on.spec branch_on txs ≡ pool.next_site on.spec branch_on so_far.block
-  site-as = ap (appending.next_site on.spec branch_on) (same ∙ is.fills.transactions_are)
+  -- what comes of it after the transactions of the draft is what comes of it after those of the block: J19 is kept by one that is proposed
+  judged-as : IsTrue (is_proposed on.spec branch_on t)
+      → judged_alone (appending.next_site on.spec branch_on txs) draft.left t ≡ judged (pool.next_site on.spec branch_on so_far.block) so_far.left t
+  judged-as proposed =
+      ap (λ (these : List Transaction). judged_alone (appending.next_site on.spec branch_on these) draft.left t) (same ∙ is.fills.transactions_are)
+      ∙ ap (λ (left : ℕ). judged_alone (pool.next_site on.spec branch_on so_far.block) left t) is.left_is
+      ∙ judged-proposed (pool.next_site on.spec branch_on so_far.block) so_far.left t proposed
 
-  -- J19 is kept by one that is proposed
-  pub judged-as : (answer : Option ℕ) → IsTrue (is_proposed on.spec branch_on t)
-      → first_failing (appended_rules (appending.next_site on.spec branch_on txs) draft.left t) ≡ answer
-      → first_failing (transaction_rules (pool.next_site on.spec branch_on so_far.block) so_far.left t) ≡ answer
-  judged-as answer proposed judged =
-      ap (λ (site : Site). first_failing (transaction_rules site so_far.left t)) (sym site-as)
-      ∙ ap (λ (left : ℕ). first_failing (transaction_rules (appending.next_site on.spec branch_on txs) left t)) (sym is.left_is)
-      ∙ sym (next-proposed (appending.next_site on.spec branch_on txs) draft.left t proposed)
-      ∙ judged
-
-  pub refused-so-far : (rule number : ℕ) → number ≡ rule → IsTrue (is_proposed on.spec branch_on t)
-      → first_failing (appended_rules (appending.next_site on.spec branch_on txs) draft.left t) ≡ Some rule
+  pub refused-so-far : (stop : JudgeStop) (rule : Rule) (number : ℕ) → stop ≡ Broken rule → number ≡ rule_number rule → IsTrue (is_proposed on.spec branch_on t)
+      → StopsAs (judged_alone (appending.next_site on.spec branch_on txs) draft.left t) stop
       → IsSoFar stored on (pool.judge on.spec branch_on so_far t (first_failing (transaction_rules (pool.next_site on.spec branch_on so_far.block) so_far.left t)))
       (with_line draft (Refused number))
-  refused-so-far rule number numbered proposed broken = so-far-answered stored on so_far _ draft (Refused number)
-      (ap (pool.judge on.spec branch_on so_far t) (judged-as (Some rule) proposed broken) ∙ ap (λ (n : ℕ). pool.with_line so_far (Refused n)) (sym numbered)) is
+  refused-so-far stop rule number was numbered proposed stops =
+      let broken = subst (StopsAs (judged_alone (appending.next_site on.spec branch_on txs) draft.left t)) was stops in
+      so-far-answered stored on so_far _ draft (Refused number)
+      (ap (pool.judge on.spec branch_on so_far t)
+      (judged-breaks-first (pool.next_site on.spec branch_on so_far.block) so_far.left t (rule_number rule) (sym (judged-as proposed) ∙ broken))
+      ∙ ap (λ (n : ℕ). pool.with_line so_far (Refused n)) (sym numbered)) is
 
-  pub judged-commits : IsTrue (is_proposed on.spec branch_on t) → first_failing (appended_rules (appending.next_site on.spec branch_on txs) draft.left t) ≡ None
-      → pool.judge on.spec branch_on so_far t (first_failing (transaction_rules (pool.next_site on.spec branch_on so_far.block) so_far.left t))
-      ≡ pool.commit on.spec branch_on so_far t
-  judged-commits proposed unbroken = ap (pool.judge on.spec branch_on so_far t) (judged-as None proposed unbroken)
-
-  pub comes-as : (passed : PassedTransaction) → passed.fee ≡ capacity.fee (appending.next_site on.spec branch_on txs) t
-      → passed.cycles ≡ cycles_of (scene_of (appending.next_site on.spec branch_on txs) t) draft.left
-      → passed.interest ≡ capacity.interest (appending.next_site on.spec branch_on txs) t
-      → passed.freed ≡ freed_by (appending.next_site on.spec branch_on txs) t
-      → ComesTo (pool.next_site on.spec branch_on so_far.block) so_far.left t passed
-  comes-as passed pays takes withdraws frees = record {
-    fee_is = pays ∙ ap (λ (site : Site). capacity.fee site t) site-as;
-    cycles_are = takes ∙ ap (λ (site : Site). cycles_of (scene_of site t) draft.left) site-as
-        ∙ ap (λ (left : ℕ). cycles_of (scene_of (pool.next_site on.spec branch_on so_far.block) t) left) is.left_is;
-    interest_is = withdraws ∙ ap (λ (site : Site). capacity.interest site t) site-as;
-    freed_is = frees ∙ ap (λ (site : Site). freed_by site t) site-as;
-  }
+  -- one that passes is put into the block, where it fits
+  pub judged-commits : (passed : PassedTransaction) → IsTrue (is_proposed on.spec branch_on t)
+      → IsOkAnd (judged_alone (appending.next_site on.spec branch_on txs) draft.left t) (λ passes. IsPassed (blocks_of stored) on.parent passes passed)
+      → (pool.judge on.spec branch_on so_far t (first_failing (transaction_rules (pool.next_site on.spec branch_on so_far.block) so_far.left t))
+      ≡ pool.commit on.spec branch_on so_far t)
+      × IsPassed (blocks_of stored) on.parent (passed_at (pool.next_site on.spec branch_on so_far.block) so_far.left t) passed
+  judged-commits passed proposed passes =
+      let by = judged-passes-by (pool.next_site on.spec branch_on so_far.block) so_far.left t (λ it. IsPassed (blocks_of stored) on.parent it passed)
+      (subst (λ (comes : Result Passed ℕ). IsOkAnd comes (λ it. IsPassed (blocks_of stored) on.parent it passed)) (judged-as proposed) passes) in
+      (ap (pool.judge on.spec branch_on so_far t) by.0, by.1)
 
 -- J19 by the ids that are proposed
 pub asked-as : (spec : Specification) (on : List Block) (t : Transaction) (ids : List (List ℕ)) (id : List ℕ) (answer : Bool) → AreProposed spec on ids → id ≡ proposal_id t

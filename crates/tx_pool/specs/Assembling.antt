@@ -1,5 +1,6 @@
 -- What is assembled, as the code answers it.
-use Rattle.std.specs.Prelude.{◌≡◌, ℕ, List, Some, is_some, if◌then◌else◌}
+use Rattle.std.specs.Prelude.{◌≡◌, ℕ, ◌≤◌, List, length, Some, is_some, if◌then◌else◌}
+use Rattle.std.specs.List.{All}
 use Rattle.chain_defs.specs.Shape.{IsA, encoded}
 use Rattle.chain_defs.specs.Schema as schema
 use Rattle.chain_defs.specs.Schema.{Block, CellbaseWitness}
@@ -9,8 +10,15 @@ use Rattle.verdict_defs.specs.Rules.{first_broken}
 use Rattle.verdict_defs.specs.Chain.{Chain}
 use Rattle.pool_defs.specs.Start.{sealed}
 use Rattle.pool_defs.specs.Assembly as pool
+use Rattle.pool_defs.specs.Size.{most_items, most_bytes}
 use Rattle.pool_defs.specs.declared.line.Line.{Line}
 use Rattle.tx_pool.specs.declared.assembling.Assembled.{Assembled}
+
+-- What it is made of is few and small: at most so many items, the bytes of each of at most so many, and a witness of at most as many.
+pub record AreSmall {T : Type 0} (bytes_of : T → List ℕ) (witness : CellbaseWitness) (items : List T) : Type 0 where
+  pub items_fit : length items ≤ most_items
+  pub bytes_fit : All (λ item. length (bytes_of item) ≤ most_bytes) items
+  pub witness_fits : length (encoded schema.cellbase_witness witness) ≤ most_bytes
 
 -- an answer is what is assembled
 pub record IsAssembled (all : pool.Assembled) (made : Assembled) : Type 0 where

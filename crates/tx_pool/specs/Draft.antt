@@ -12,16 +12,10 @@ use Rattle.chain_tree.specs.Told.{Stored, blocks_of}
 use Rattle.cell_defs.specs.Events.{events_of}
 use Rattle.cell_defs.specs.Row.{Row, row_after}
 use Rattle.rule_defs.specs.Cellbase.{has_cellbase}
-use Rattle.rule_defs.specs.Site.{Site}
-use Rattle.rule_defs.specs.Capacity as capacity
-use Rattle.rule_defs.specs.Field.{freed_by}
-use Rattle.verdict_defs.specs.Scene.{scene_of}
-use Rattle.verdict_defs.specs.ScriptRules.{cycles_of}
 use Rattle.block_judge.specs.BlockCells.{rows_in}
 use Rattle.block_judge.specs.Appending.{SeesSoFar}
 use Rattle.block_judge.specs.Progress.{AreMoved, CanMove}
 use Rattle.block_judge.specs.Standing.{ContextValue}
-use Rattle.block_judge.specs.declared.transactions.PassedTransaction.{PassedTransaction}
 use Rattle.pool_defs.specs.Size.{size_with}
 use Rattle.pool_defs.specs.Assembly.{Assembly}
 use Rattle.pool_defs.specs.declared.line.Line.{Line}
@@ -99,13 +93,6 @@ pub record IsPut (e : ℕ) (t : Transaction) (before after : DraftValue) : Type 
   pub interest : after.interest ≡ before.interest
   pub freed : after.freed ≡ before.freed
   pub lines : after.lines ≡ before.lines
-
--- What a transaction comes to at a site, within so many cycles.
-pub record ComesTo (site : Site) (left : ℕ) (t : Transaction) (passed : PassedTransaction) : Type 0 where
-  pub fee_is : passed.fee ≡ capacity.fee site t
-  pub cycles_are : passed.cycles ≡ cycles_of (scene_of site t) left
-  pub interest_is : passed.interest ≡ capacity.interest site t
-  pub freed_is : passed.freed ≡ freed_by site t
 
 -- ---- What it stands for
 

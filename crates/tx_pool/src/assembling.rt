@@ -21,7 +21,7 @@ ghost use Rattle.pool_defs.specs.Assembly as pool;
 ghost use Rattle.pool_defs.specs.Laws.{breakable};
 ghost use Rattle.pool_defs.specs.Size.{most_items, most_bytes};
 ghost use Rattle.tx_pool.specs.Draft.{Fits, IsSoFar, draft_of};
-ghost use Rattle.tx_pool.specs.Assembling.{IsAssembled, IsMade, assembled_on, chain_on};
+ghost use Rattle.tx_pool.specs.Assembling.{AreSmall, IsAssembled, IsMade, assembled_on, chain_on};
 
 use crate::cellbase::cellbase_after;
 use crate::draft::Draft;
@@ -180,9 +180,7 @@ fn make_block<C: Cells, B: Blocks>(
     };
     match sealed(
         alloc,
-        context.spec,
-        context.tree,
-        context.parent,
+        context,
         &draft.transactions,
         &draft.proposals,
         draft.interest,
@@ -208,9 +206,7 @@ pub fn assemble<C: Cells, B: Blocks>(
 ) -> Result<Assembled, ReadStop>
     requires placed { IsParent context.now.tree.now.entries context.now.parent }
     requires counts { B.count blocks.old ≡ length context.now.tree.now.entries }
-    requires items { length items.now ≤ most_items }
-    requires bytes { All (λ item. length item.items ≤ most_bytes) items.now }
-    requires witness { length (encoded schema.cellbase_witness witness.now) ≤ most_bytes }
+    requires small { AreSmall (λ item. item.items) witness.now items.now }
     ensures read { HasRead B.told B.count B.loans_of B.faults B.damages blocks.old blocks.new (stop_of result) }
 
     // Over any source of blocks: a line for each item, and a canonical block.

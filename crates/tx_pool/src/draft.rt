@@ -17,12 +17,14 @@ ghost use Rattle.chain_tree.specs.Reading.{HasRead, stop_of};
 ghost use Rattle.rule_defs.specs.Cellbase as rules;
 ghost use Rattle.rule_defs.specs.Cellbase.{has_cellbase};
 ghost use Rattle.verdict_defs.specs.Transactions.{is_proposed, transaction_rules};
+ghost use Rattle.verdict_defs.specs.Judged.{passed_at};
+ghost use Rattle.block_judge.specs.Answers.{IsPassed};
 ghost use Rattle.block_judge.specs.Progress.{AreProposed, CanMove};
 ghost use Rattle.block_judge.specs.Standing.{StandsFor, seen};
 ghost use Rattle.pool_defs.specs.Start as start;
 ghost use Rattle.pool_defs.specs.Assembly as pool;
 ghost use Rattle.pool_defs.specs.Size.{most_items, most_bytes};
-ghost use Rattle.tx_pool.specs.Draft.{ComesTo, Fits, IsEmpty, IsPut, IsSoFar, draft_of, with_line};
+ghost use Rattle.tx_pool.specs.Draft.{Fits, IsEmpty, IsPut, IsSoFar, draft_of, with_line};
 
 use block_judge::{BlockCells, Context, JudgeStop, PassedTransaction, is_cellbase, judge_appended};
 use cell_model::{Cells, proposal_id, tx_hash};
@@ -162,7 +164,8 @@ impl<'c, 'a, C: Cells> Draft<'c, 'a, C> {
         ensures lines { IfOk result (λ _. self.new.lines.items ≡ self.old.lines.items) }
         ensures committed { (stored : List Stored) (so_far : pool.Assembly) → IsSoFar stored (seen C.rows context.now) so_far (draft_of C.rows self.old)
             → IsTrue (has_cellbase (pool.with_transaction so_far.block tx.now))
-            → ComesTo (pool.next_site context.now.spec.now (branch (blocks_of stored) context.now.parent) so_far.block) so_far.left tx.now passed.now
+            → IsPassed (blocks_of stored) context.now.parent
+            (passed_at (pool.next_site context.now.spec.now (branch (blocks_of stored) context.now.parent) so_far.block) so_far.left tx.now) passed.now
             → IfOk result (λ line. IsSoFar stored (seen C.rows context.now)
             (pool.commit context.now.spec.now (branch (blocks_of stored) context.now.parent) so_far tx.now) (with_line (draft_of C.rows self.new) line)) }
     {

@@ -10,7 +10,7 @@ ghost use Rattle.pool_defs.specs.Start as start;
 ghost use Rattle.pool_defs.specs.Size.{size_with};
 ghost use Rattle.tx_pool.specs.Sealing.{Fills, commitments_to, header_on};
 
-use block_judge::made_in;
+use block_judge::{Context, made_in};
 use block_rules::{proposals_hash, transactions_root, uncles_hash};
 use chain_tree::Tree;
 use dao_math::{Dao, DaoMove, next_field};
@@ -66,21 +66,26 @@ fn dao_bytes(field: Option<Dao>) -> [u8; 32]
 }
 
 /// What the header of a block after a kept block commits to it by.
-fn commitments_of(
+fn commitments_of<C>(
     alloc: Global,
-    spec: &Spec,
-    tree: &Tree,
-    parent: u32,
+    context: &Context<'_, C>,
     block: &BlockView<'_>,
     interest: i128,
     freed: u128,
 ) -> Result<Commitments, NoMemory>
-    requires placed { IsParent tree.now.entries parent }
-    ensures { (kept : List schema.Block) → IndexesBlocks kept tree.now.entries → AreMoved spec.now (branch kept parent) block.now interest freed
-        → IfOk result (λ commitments. commitments ≡ commitments_to spec.now (branch kept parent) block.now) }
+    requires placed { IsParent context.now.tree.now.entries context.now.parent }
+    ensures { (kept : List schema.Block) → IndexesBlocks kept context.now.tree.now.entries → AreMoved context.now.spec.now (branch kept context.now.parent) block.now interest freed
+        → IfOk result (λ commitments. commitments ≡ commitments_to context.now.spec.now (branch kept context.now.parent) block.now) }
 {
     let root = transactions_root(alloc, block)?;
-    let field = dao_after(spec, tree, parent, block, interest, freed);
+    let field = dao_after(
+        context.spec,
+        context.tree,
+        context.parent,
+        block,
+        interest,
+        freed,
+    );
     Ok(Commitments {
         transactions_root: root,
         proposals_hash: proposals_hash(block),
@@ -122,27 +127,32 @@ fn header_after(
 /// A block after a kept block with these transactions and proposal ids, and no uncles, of which the transactions withdraw
 /// this interest and free so much, in shannons. Its header commits to it: what it commits to is read off the block whose
 /// header commits to nothing.
-pub(crate) fn sealed(
+pub(crate) fn sealed<C>(
     alloc: Global,
-    spec: &Spec,
-    tree: &Tree,
-    parent: u32,
+    context: &Context<'_, C>,
     transactions: &[TxView<'_>],
     ids: &[[u8; 10]],
     interest: i128,
     freed: u128,
 ) -> Result<Vec<u8>, NoMemory>
-    requires placed { IsParent tree.now.entries parent }
+    requires placed { IsParent context.now.tree.now.entries context.now.parent }
     requires size { size_with transactions.now ids.now < 2 ^ 32 }
     ensures canonical { IfOk result (λ bytes. (b : schema.Block) × IsA schema.block bytes.items b) }
-    ensures sealed { (kept : List schema.Block) (b : schema.Block) → IndexesBlocks kept tree.now.entries
-        → Fills spec.now (branch kept parent) b transactions.now ids.now → AreMoved spec.now (branch kept parent) b interest freed
-        → IfOk result (λ bytes. IsA schema.block bytes.items (start.sealed spec.now (branch kept parent) b)) }
+    ensures sealed { (kept : List schema.Block) (b : schema.Block) → IndexesBlocks kept context.now.tree.now.entries
+        → Fills context.now.spec.now (branch kept context.now.parent) b transactions.now ids.now
+        → AreMoved context.now.spec.now (branch kept context.now.parent) b interest freed
+        → IfOk result (λ bytes. IsA schema.block bytes.items (start.sealed context.now.spec.now (branch kept context.now.parent) b)) }
 {
-    let header = header_after(alloc, spec, tree, parent, &NOTHING)?;
+    let header = header_after(alloc, context.spec, context.tree, context.parent, &NOTHING)?;
     let open = block_row(alloc, &header, transactions, ids)?;
     let block = BlockView::from_encoding(&open);
-    let commitments = commitments_of(alloc, spec, tree, parent, &block, interest, freed)?;
-    let header = header_after(alloc, spec, tree, parent, &commitments)?;
+    let commitments = commitments_of(alloc, context, &block, interest, freed)?;
+    let header = header_after(
+        alloc,
+        context.spec,
+        context.tree,
+        context.parent,
+        &commitments,
+    )?;
     block_row(alloc, &header, transactions, ids)
 }

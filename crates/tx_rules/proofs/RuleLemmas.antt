@@ -25,8 +25,8 @@ use Rattle.rule_defs.specs.Capacity.{makes_good_cells, balances}
 use Rattle.rule_defs.specs.TransactionRules.{has_form}
 use Rattle.tx_rules.specs.At.{AtValue, IsSiteOf, place_of_height, found_row, find_row, named_rows, input_rows, spends_rows}
 use Rattle.tx_rules.specs.Copying.{row_in}
-use Rattle.tx_rules.specs.Outcome.{IsTried, rules_to_27}
-use Rattle.tx_rules.specs.Steps.{spending_rules, naming_rules, using_rules, finding_rules, paying_rules, StopsAt, AnswersBy, Stops}
+use Rattle.tx_rules.specs.Outcome.{IsTried}
+use Rattle.tx_rules.specs.Steps.{spending_rules, naming_rules, using_rules, paying_rules, StopsAt, Stops}
 use Rattle.tx_rules.specs.declared.resolving.TxStop.{TxStop}
 use Rattle.tx_rules.specs.declared.resolving.TxStop.TheVariants.{Broken, Read}
 use Rattle.tx_rules.proofs.AllThere.{all_there-back}
@@ -180,12 +180,6 @@ stops-back front back (Read DiskFault) none is = tt
 stops-back front back (Read NoMemory) none is = tt
 stops-back front back (Read (Damaged damage)) none is = is
 
--- ---- All of them
-
-pub all-rules : (proposed : Bool) (site : Site) (t : Transaction)
-    → first_failing (rules_to_27 proposed site t) ≡ first_failing (finding_rules proposed site t ++ paying_rules site t)
-all-rules proposed site t = refl
-
 -- both groups are kept
 pub keeps-all : (front back : List (ℕ × Bool)) → first_failing front ≡ None → first_failing back ≡ None → first_failing (front ++ back) ≡ None
 keeps-all front back none later = first_failing-append-holds front back ((finds_none front).0 none) ∙ later
@@ -201,16 +195,6 @@ spent-inputs stored at rows site t spent is some =
 pub tried-of : {T : Type 0} (proposed : Bool) (result : Result T TxStop) (rule : Rule) → Stops proposed result → result ≡ Err (Broken rule)
     → IsTried proposed (rule_number rule)
 tried-of {T = T} proposed result rule stops same = subst (λ (r : Result T TxStop). Stops proposed r) same stops
-
-pub broken-of : {T : Type 0} (proposed : Bool) (site : Site) (t : Transaction) (result : Result T TxStop) (rule : Rule)
-    → AnswersBy (finding_rules proposed site t ++ paying_rules site t) result → result ≡ Err (Broken rule)
-    → first_failing (rules_to_27 proposed site t) ≡ Some (rule_number rule)
-broken-of {T = T} proposed site t result rule tells same =
-    all-rules proposed site t ∙ subst (λ (r : Result T TxStop). AnswersBy (finding_rules proposed site t ++ paying_rules site t) r) same tells
-
-pub undamaged-of : {T : Type 0} (rules : List (ℕ × Bool)) (result : Result T TxStop) (damage : Damage) → AnswersBy rules result
-    → result ≡ Err (Read (Damaged damage)) → ⊥
-undamaged-of {T = T} rules result damage tells same = subst (λ (r : Result T TxStop). AnswersBy rules r) same tells
 
 -- the rows that are spent are those that are named
 pub rows-named : (rows : OutPoint → Option Row) (t : Transaction) (spent : List (OutPoint × Row)) → input_rows rows t ≡ Some spent

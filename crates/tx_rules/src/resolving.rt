@@ -11,17 +11,15 @@ ghost use Rattle.chain_tree.specs.Entries.{place_of_hash};
 ghost use Rattle.chain_tree.specs.Told.{Stored, blocks_of};
 ghost use Rattle.chain_tree.specs.Reading.{HasRead};
 ghost use Rattle.rule_defs.specs.Site.{Site};
-ghost use Rattle.chain_defs.specs.First.{first_failing};
 ghost use Rattle.rule_defs.specs.RuleNumber.{rule_number};
 ghost use Rattle.rule_defs.specs.TransactionRules as defs;
-ghost use Rattle.rule_defs.specs.Capacity as rules;
 ghost use Rattle.rule_defs.specs.Resolving.{inputs, deps, heights};
 ghost use Rattle.tx_rules.specs.At.{AtValue, IsPlaced, IsSiteOf, found_row, input_rows};
-ghost use Rattle.tx_rules.specs.Steps.{spending_rules, naming_rules, using_rules, finding_rules, paying_rules, AnswersBy, Stops, StopsLater, IsLater, AreFound, Pays};
+ghost use Rattle.tx_rules.specs.Steps.{spending_rules, naming_rules, using_rules, finding_rules, paying_rules, AnswersBy, AnswersWith, Stops, StopsLater, IsLater, AreNamed, AreFound, AreCopied, Pays, ResolvesTo};
 ghost use Rattle.tx_rules.specs.declared.resolving.TxStop.TheVariants.{Read};
 ghost use Rattle.tx_rules.specs.Reading.{read_stop, read_stop_of};
 ghost use Rattle.tx_rules.specs.Copying.{row_in, CopiesItsRow, HoldsOutput};
-ghost use Rattle.tx_rules.specs.Outcome.{Copies, FollowsRows, IsFormed, IsResolved, IsTried, rules_to_27};
+ghost use Rattle.tx_rules.specs.Outcome.{Copies, FollowsRows, IsFormed, IsTried, rules_to_27};
 
 use crate::age::{are_mature, meets_each_since};
 use crate::at::TxAt;
@@ -137,12 +135,8 @@ fn named_rows<C: Cells, B: Blocks>(
     requires counts { B.count blocks.old ≡ length at.now.entries }
     ensures read { HasRead B.told B.count B.loans_of B.faults B.damages blocks.old blocks.new (read_stop_of result) }
     ensures later { StopsLater result }
-    ensures judged { (stored : List Stored) (site : Site) → B.told blocks.old ≡ Some stored → IsSiteOf stored at.now (C.rows cells.now) site
-        → AnswersBy (naming_rules site tx.now) result }
-    ensures cells { (stored : List Stored) (site : Site) → B.told blocks.old ≡ Some stored → IsSiteOf stored at.now (C.rows cells.now) site
-        → IfOk result (λ named. named.0.items ≡ map (found_row (blocks_of stored) at.now.parent) (deps site tx.now)) }
-    ensures places { (stored : List Stored) (site : Site) → B.told blocks.old ≡ Some stored → IsSiteOf stored at.now (C.rows cells.now) site
-        → IfOk result (λ named. named.1.items ≡ map (slice_index (branch_places (blocks_of stored) at.now.parent)) (heights site tx.now)) }
+    ensures exact { (stored : List Stored) (site : Site) → B.told blocks.old ≡ Some stored → IsSiteOf stored at.now (C.rows cells.now) site
+        → AnswersWith (naming_rules site tx.now) (λ named. AreNamed (blocks_of stored) at.now.parent site tx.now named.0.items named.1.items) result }
     ensures headers { IfOk result (λ named. AllZip (λ hash place. place_of_hash at.now.entries hash ≡ Some place) tx.now.raw.header_deps named.1.items) }
 {
     let rows = match resolved_deps(alloc, tx, at, cells, blocks) {
@@ -209,12 +203,10 @@ fn paid_by(
     ensures fits { IfOk result (λ balance. nat_abs balance.interest < 2 ^ 96) }
     ensures later { StopsLater result }
     ensures unread { result ≡ Err (Read DiskFault) → ⊥ }
-    ensures judged { (stored : List Stored) (rows : OutPoint → Option Row) (site : Site) → IsSiteOf stored at.now rows site
+    ensures exact { (stored : List Stored) (rows : OutPoint → Option Row) (site : Site) → IsSiteOf stored at.now rows site
         → AllZip (Copies (blocks_of stored) at.now.parent) (inputs site tx.now) copies.now
-        → places.now ≡ map (slice_index (branch_places (blocks_of stored) at.now.parent)) (heights site tx.now) → AnswersBy (paying_rules site tx.now) result }
-    ensures paid { (stored : List Stored) (rows : OutPoint → Option Row) (site : Site) → IsSiteOf stored at.now rows site
-        → AllZip (Copies (blocks_of stored) at.now.parent) (inputs site tx.now) copies.now
-        → places.now ≡ map (slice_index (branch_places (blocks_of stored) at.now.parent)) (heights site tx.now) → IfOk result (Pays site tx.now) }
+        → places.now ≡ map (slice_index (branch_places (blocks_of stored) at.now.parent)) (heights site tx.now)
+        → AnswersWith (paying_rules site tx.now) (Pays site tx.now) result }
 {
     match names_deposits(alloc, tx, at, copies, places) {
         Ok(true) => {}
@@ -256,10 +248,9 @@ fn find<C: Cells, B: Blocks>(
     ensures read { HasRead B.told B.count B.loans_of B.faults B.damages blocks.old blocks.new (read_stop_of result) }
     ensures stops { Stops proposed result }
     ensures by_rows { FollowsRows proposed (C.rows cells.now) tx.now result }
-    ensures judged { (stored : List Stored) (site : Site) → B.told blocks.old ≡ Some stored → IsSiteOf stored at.now (C.rows cells.now) site
-        → AnswersBy (finding_rules proposed site tx.now) result }
-    ensures found { (stored : List Stored) (site : Site) → B.told blocks.old ≡ Some stored → IsSiteOf stored at.now (C.rows cells.now) site
-        → IfOk result (λ it. AreFound (blocks_of stored) at.now.parent site tx.now it.spent.items it.named.items it.places.items) }
+    ensures exact { (stored : List Stored) (site : Site) → B.told blocks.old ≡ Some stored → IsSiteOf stored at.now (C.rows cells.now) site
+        → AnswersWith (finding_rules proposed site tx.now)
+        (λ it. AreFound (blocks_of stored) at.now.parent site tx.now it.spent.items it.named.items it.places.items) result }
     ensures form { IfOk result (λ _. IsTrue (defs.has_form tx.now)) }
     ensures spent { IfOk result (λ it. input_rows (C.rows cells.now) tx.now ≡ Some it.spent.items) }
     ensures headers { IfOk result (λ it. AllZip (λ hash place. place_of_hash at.now.entries hash ≡ Some place) tx.now.raw.header_deps it.places.items) }
@@ -299,18 +290,10 @@ fn copy_cells<B: Blocks>(
     ensures read { HasRead B.told B.count B.loans_of B.faults B.damages blocks.old blocks.new (read_stop_of result) }
     ensures fits { IfOk result (λ it. nat_abs it.balance.interest < 2 ^ 96) }
     ensures later { StopsLater result }
-    ensures judged { (stored : List Stored) (rows : OutPoint → Option Row) (site : Site) → B.told blocks.old ≡ Some stored → IsSiteOf stored at.now rows site
+    ensures exact { (stored : List Stored) (rows : OutPoint → Option Row) (site : Site) → B.told blocks.old ≡ Some stored → IsSiteOf stored at.now rows site
         → AreFound (blocks_of stored) at.now.parent site tx.now finding.now.spent.items finding.now.named.items finding.now.places.items
-        → AnswersBy (paying_rules site tx.now) result }
-    ensures inputs { (stored : List Stored) (rows : OutPoint → Option Row) (site : Site) → B.told blocks.old ≡ Some stored → IsSiteOf stored at.now rows site
-        → AreFound (blocks_of stored) at.now.parent site tx.now finding.now.spent.items finding.now.named.items finding.now.places.items
-        → IfOk result (λ it. AllZip (Copies (blocks_of stored) at.now.parent) (inputs site tx.now) it.inputs.items) }
-    ensures deps { (stored : List Stored) (rows : OutPoint → Option Row) (site : Site) → B.told blocks.old ≡ Some stored → IsSiteOf stored at.now rows site
-        → AreFound (blocks_of stored) at.now.parent site tx.now finding.now.spent.items finding.now.named.items finding.now.places.items
-        → IfOk result (λ it. AllZip (Copies (blocks_of stored) at.now.parent) (deps site tx.now) it.deps.items) }
-    ensures paid { (stored : List Stored) (rows : OutPoint → Option Row) (site : Site) → B.told blocks.old ≡ Some stored → IsSiteOf stored at.now rows site
-        → AreFound (blocks_of stored) at.now.parent site tx.now finding.now.spent.items finding.now.named.items finding.now.places.items
-        → IfOk result (λ it. Pays site tx.now it.balance) }
+        → AnswersWith (paying_rules site tx.now)
+        (λ it. AreCopied (blocks_of stored) at.now.parent site tx.now it.inputs.items it.deps.items it.balance) result }
     ensures rows { IfOk result (λ it. map row_in it.inputs.items ≡ finding.now.spent.items) }
     ensures outputs { IfOk result (λ it. All HoldsOutput (it.inputs.items ++ it.deps.items)) }
     ensures of_rows { IfOk result (λ it. All (CopiesItsRow (B.told blocks.old) at.now) (it.inputs.items ++ it.deps.items)) }
@@ -359,19 +342,9 @@ pub fn resolve<'a, C: Cells, B: Blocks>(
     // It has below 2^32 inputs, each of which counts and holds below 2^64 shannons.
     ensures fits { IfOk result (λ ok. nat_abs ok.interest < 2 ^ 96) }
 
-    // Over kept blocks that are known, at the site of the transaction: the first rule that is broken, or none.
-    ensures broken { (stored : List Stored) (site : Site) → B.told blocks.old ≡ Some stored → IsSiteOf stored at.now (C.rows cells.now) site
-        → (rule : Rule) → result ≡ Err (TxStop.Broken rule) → first_failing (rules_to_27 proposed site tx.now) ≡ Some (rule_number rule) }
-    ensures unbroken { (stored : List Stored) (site : Site) → B.told blocks.old ≡ Some stored → IsSiteOf stored at.now (C.rows cells.now) site
-        → IfOk result (λ _. first_failing (rules_to_27 proposed site tx.now) ≡ None) }
-    ensures resolved { (stored : List Stored) (site : Site) → B.told blocks.old ≡ Some stored → IsSiteOf stored at.now (C.rows cells.now) site
-        → IfOk result (λ ok. IsResolved (blocks_of stored) at.now.parent site tx.now ok.resolved) }
-    ensures fee { (stored : List Stored) (site : Site) → B.told blocks.old ≡ Some stored → IsSiteOf stored at.now (C.rows cells.now) site
-        → IfOk result (λ ok. ok.fee ≡ rules.fee site tx.now) }
-    ensures interest { (stored : List Stored) (site : Site) → B.told blocks.old ≡ Some stored → IsSiteOf stored at.now (C.rows cells.now) site
-        → IfOk result (λ ok. ok.interest ≡ rules.interest site tx.now) }
-    ensures undamaged { (stored : List Stored) (site : Site) → B.told blocks.old ≡ Some stored → IsSiteOf stored at.now (C.rows cells.now) site
-        → (damage : Damage) → result ≡ Err (TxStop.Read (Damaged damage)) → ⊥ }
+    // Over kept blocks that are known, at the site of the transaction: the first rule that is broken, or what it resolves to. Nothing is damaged.
+    ensures exact { (stored : List Stored) (site : Site) → B.told blocks.old ≡ Some stored → IsSiteOf stored at.now (C.rows cells.now) site
+        → AnswersWith (rules_to_27 proposed site tx.now) (ResolvesTo (blocks_of stored) at.now.parent site tx.now) result }
 {
     let found = match find(alloc, tx, hash, at, proposed, cells, blocks) {
         Ok(found) => found,

@@ -9,6 +9,7 @@ pub mod ScriptRules
 pub mod Transactions
 pub mod Rules
 pub mod Ext
+pub mod Judged
 pub mod Verdict
 pub mod Chain
 pub mod Trial

@@ -1,13 +1,9 @@
 -- All rules on a block, as rows of a list, in the order in which they are tried. A row has the rule's number and whether the block keeps it
 -- (docs/RULES.md, "A block").
-use Rattle.std.specs.Prelude.{ℕ, Bool, List, [], ◌∷◌, ◌++◌, Option}
-use Rattle.chain_defs.specs.Schema.{Transaction, Block}
+use Rattle.std.specs.Prelude.{ℕ, Bool, List, ◌++◌, Option}
+use Rattle.chain_defs.specs.Schema.{Block}
 use Rattle.chain_defs.specs.First.{first_failing}
 use Rattle.chain_defs.specs.Specification.{Specification}
-use Rattle.rule_defs.specs.Site.{site_after}
-use Rattle.rule_defs.specs.TransactionRules.{form_rules, cell_rules}
-use Rattle.verdict_defs.specs.Scene.{scene_of}
-use Rattle.verdict_defs.specs.ScriptRules.{script_rules}
 use Rattle.rule_defs.specs.Header.{header_rules}
 use Rattle.rule_defs.specs.Body.{body_rules}
 use Rattle.rule_defs.specs.FamilyRules.{uncle_and_cellbase_rules, uncle_and_cellbase_rules_over, no_cell}
@@ -33,13 +29,3 @@ sight_rules spec branch b = header_rules spec branch b ++ (body_rules spec b ++ 
 -- The first of these that it breaks.
 unfoldable pub broken_at_sight : Specification → List Block → Block → Option ℕ
 broken_at_sight spec branch b = first_failing (sight_rules spec branch b)
-
--- ---- A dry run
-
--- The rules on it, with all cycles of a block: neither a proposal nor a block is asked for.
-abbrev pub dry_run_rules : Specification → List Block → Transaction → List (ℕ × Bool)
-dry_run_rules spec branch t =
-    form_rules t ++ (cell_rules (site_after spec branch) t ++ script_rules (scene_of (site_after spec branch) t) spec.max_cycles)
-
-unfoldable pub broken_in_dry_run : Specification → List Block → Transaction → Option ℕ
-broken_in_dry_run spec branch t = first_failing (dry_run_rules spec branch t)

@@ -1,43 +1,34 @@
-use Rattle.std.proofs.Common.{◌≡◌, ℕ, ◌-◌, ◌≤◌, pos, List, Some, refl, ap, ◌∙◌, [], length, arith, rules}
+use Rattle.std.proofs.Common.{◌≡◌, ℕ, ◌-◌, ◌≤◌, Some, Err, refl, ap, ◌∙◌, length, arith, rules}
 use Rattle.std.specs.Int.{w128}
 use Rattle.std.proofs.lemmas.Int.{to_z-of_z}
 use Rattle.chain_defs.specs.Branch.{branch}
-use Rattle.chain_defs.specs.Schema.{Block}
-use Rattle.chain_tree.specs.Told.{Stored, blocks_of}
-use Rattle.rule_defs.specs.Site.{Site, site_at}
+use Rattle.chain_tree.specs.Told.{blocks_of}
 use Rattle.tx_rules.specs.At.{AtValue}
-use Rattle.rule_defs.specs.RuleNumber.{rule_number}
+use Rattle.verdict_defs.specs.Judged.{judged_transactions}
 use Rattle.block_judge.specs.BlockCells.{rows_in}
-use Rattle.block_judge.specs.Standing.{Stands}
-use Rattle.block_judge.proofs.MovedLemmas.{can-move-none, moved-none, moved-more, moved-all}
+use Rattle.block_judge.proofs.AnswerLemmas.{stops-read}
+use Rattle.block_judge.proofs.MovedLemmas.{can-move-none}
 use Rattle.chain_tree.proofs.ReadLemmas.{unread, read_on, read_short}
-use Rattle.block_judge.proofs.Exits.{as_step, as_read, no_error, no_rule, no_damage}
+use Rattle.block_judge.proofs.Exits.{as_step, no_error, no_rule}
 use Rattle.block_judge.proofs.SiteLemmas.{rows-after_none, rows-after_more, site-in_block}
-use Rattle.block_judge.proofs.NextLemmas.{proposed-here, judged-none, judged-breaks, judged-more, judged-all, judged-ext}
+use Rattle.block_judge.proofs.NextLemmas.{proposed-here, passed-none, passed-breaks, passed-more, passed-all}
 use Rattle.block_judge.proofs.all_transactions.judge_transactions.Goals as goal
+
+pub judge_next-requires-clause-few : goal.judge_next-requires-clause-few
+judge_next-requires-clause-few g c =
+    record { few = omega (arith, c.later-test.true, c.transactions_count-count.ensures.value); left_fits = c.later.invariant.left; moves = c.later.invariant.moves }
 
 pub returns-then-count-eq1 : goal.returns-then-count-eq1
 returns-then-count-eq1 g c =
-    let alone : 1 ≡ length c.args.block.now.transactions = omega (arith, c.if-count-eq1.true, c.transactions_count-count.ensures.value) in
-    let moved = λ (on : List Block).
-    moved-all c.args.context.now.spec.now on c.args.block.now 1 (pos 0) 0 (moved-none c.args.context.now.spec.now on c.args.block.now (pos 0) 0 refl refl) (omega (arith, alone)) in record {
+    let alone : 1 ≡ length c.args.block.now.transactions = omega (arith, c.if-count-eq1.true, c.transactions_count-count.ensures.value) in record {
       read = unread _;
       rule = λ rule same. absurd (no_error same);
       fees = ap length c.new.ensures.items ∙ ap (λ (n : ℕ). n - 1) alone;
-      broken = λ stored tells stands rule same. absurd (no_error same);
-      unbroken = λ stored tells stands.
-          judged-all c.args.context.now.spec.now (blocks_of stored) c.args.context.now.parent c.args.block.now 1 c.args.context.now.spec.now.max_cycles (record { fees = []; spent = [] })
-          (judged-none c.args.context.now.spec.now (blocks_of stored) c.args.context.now.parent c.args.block.now c.args.context.now.spec.now.max_cycles (record { fees = []; spent = [] }) refl refl refl)
-          (omega (arith, alone));
-      ext = λ stored tells stands.
-          judged-ext c.args.context.now.spec.now (blocks_of stored) c.args.context.now.parent c.args.block.now 1 c.args.context.now.spec.now.max_cycles
-          (record { fees = c.new.result.items; spent = c.new-then-count-eq1.result.items })
-          (judged-none c.args.context.now.spec.now (blocks_of stored) c.args.context.now.parent c.args.block.now c.args.context.now.spec.now.max_cycles
-          (record { fees = c.new.result.items; spent = c.new-then-count-eq1.result.items }) refl c.new.ensures.items c.new-then-count-eq1.ensures.items)
-          (omega (arith, alone));
-      interest = λ stored tells stands. (moved (branch (blocks_of stored) c.args.context.now.parent)).interest_is;
-      freed = λ stored tells stands. (moved (branch (blocks_of stored) c.args.context.now.parent)).freed_is;
-      undamaged = λ stored tells stands damage same. no_error same;
+      exact = λ stored tells stands.
+          passed-all c.args.context.now.spec.now (blocks_of stored) c.args.context.now.parent c.args.block.now 1 c.args.context.now.spec.now.max_cycles _ _ _
+          (passed-none c.args.context.now.spec.now (blocks_of stored) c.args.context.now.parent c.args.block.now c.args.context.now.spec.now.max_cycles
+          (record { fees = c.new.result.items; spent = c.new-then-count-eq1.result.items }) _ _ refl c.new.ensures.items c.new-then-count-eq1.ensures.items refl refl)
+          _ (omega (arith, alone)) refl refl refl;
     }
 
 pub returns-in-Err : goal.returns-in-Err
@@ -45,12 +36,9 @@ returns-in-Err g c = record {
   read = c.in-Err.ensures.read;
   rule = λ rule same. absurd (no_rule same);
   fees = tt;
-  broken = λ stored tells stands rule same. absurd (no_rule same);
-  unbroken = λ stored tells stands. tt;
-  ext = λ stored tells stands. tt;
-  interest = λ stored tells stands. tt;
-  freed = λ stored tells stands. tt;
-  undamaged = λ stored tells stands damage same. c.in-Err.ensures.undamaged stored tells stands.indexed damage (as_read same);
+  exact = λ stored tells stands.
+      stops-read (judged_transactions c.args.context.now.spec.now (blocks_of stored) c.args.context.now.parent c.args.block.now) c.in-Err.stop
+      (λ damage same. c.in-Err.ensures.undamaged stored tells stands.indexed damage (ap Err same));
 }
 
 pub returns-in-Err-after_cellbase : goal.returns-in-Err-after_cellbase
@@ -58,12 +46,7 @@ returns-in-Err-after_cellbase g c = record {
   read = read_short c.in-Ok.ensures.read;
   rule = λ rule same. absurd (no_rule same);
   fees = tt;
-  broken = λ stored tells stands rule same. absurd (no_rule same);
-  unbroken = λ stored tells stands. tt;
-  ext = λ stored tells stands. tt;
-  interest = λ stored tells stands. tt;
-  freed = λ stored tells stands. tt;
-  undamaged = λ stored tells stands damage same. no_damage same;
+  exact = λ stored tells stands. tt;
 }
 
 pub later-init : goal.later-init
@@ -77,11 +60,9 @@ later-init g c = record {
       (rows-after_none _ c.args.block.now (g.C.Cells.rows c.args.context.now.cells.now) (g.C.Cells.rows c.args.context.now.cells.now) (λ o. refl)) c.transactions_item-cellbase.ensures
       (λ height o above. c.in-Ok-after_cellbase.ensures.rows height o above);
   judged = λ stored tells stands.
-      judged-none c.args.context.now.spec.now (blocks_of stored) c.args.context.now.parent c.args.block.now c.in-Ok-after_cellbase.progress.left c.in-Ok-after_cellbase.progress.ext
-      c.in-Ok-after_cellbase.ensures.left c.in-Ok-after_cellbase.ensures.fees c.in-Ok-after_cellbase.ensures.spent;
-  moved = λ stored tells stands.
-      moved-none c.args.context.now.spec.now (branch (blocks_of stored) c.args.context.now.parent) c.args.block.now c.in-Ok-after_cellbase.progress.interest c.in-Ok-after_cellbase.progress.freed
-      c.in-Ok-after_cellbase.ensures.interest c.in-Ok-after_cellbase.ensures.freed;
+      passed-none c.args.context.now.spec.now (blocks_of stored) c.args.context.now.parent c.args.block.now c.in-Ok-after_cellbase.progress.left c.in-Ok-after_cellbase.progress.ext
+      c.in-Ok-after_cellbase.progress.interest c.in-Ok-after_cellbase.progress.freed c.in-Ok-after_cellbase.ensures.left c.in-Ok-after_cellbase.ensures.fees
+      c.in-Ok-after_cellbase.ensures.spent c.in-Ok-after_cellbase.ensures.interest c.in-Ok-after_cellbase.ensures.freed;
 }
 
 pub later-preserved : goal.later-preserved
@@ -96,76 +77,38 @@ later-preserved g c = record {
       c.later.invariant.rows c.transactions_item-tx.ensures (λ height o above. c.in-Ok-judge_next.ensures.rows height o above);
   judged = λ stored tells stands.
       let at : AtValue = record { spec = c.args.context.now.spec.now; entries = c.args.context.now.tree.now.entries; parent = c.args.context.now.parent; block = Some c.of_block.result } in
-      let site : Site = site_at c.args.context.now.spec.now (branch (blocks_of stored) c.args.context.now.parent) c.args.block.now c.later.place in
-      let is = site-in_block stored at c.args.block.now c.later.place (g.C.Cells.rows c.args.context.now.cells.now)
-      (rows_in g.C.Cells.rows c.later.progress.cells)
+      let is = site-in_block stored at c.args.block.now c.later.place (g.C.Cells.rows c.args.context.now.cells.now) (rows_in g.C.Cells.rows c.later.progress.cells)
       (ap Some (c.of_block.ensures ∙ c.from_encoding.ensures c.args.block.now c.bytes.ensures)) c.requires.placed.parent stands c.later.invariant.rows in
       let proposed = proposed-here c.args.context.now.spec.now (branch (blocks_of stored) c.args.context.now.parent) c.in-Ok.proposed c.height.result
-      (c.in-Ok.ensures.proposed stored tells stands.indexed) (c.height.ensures.height stored _ site is) in
-      judged-more c.args.context.now.spec.now (blocks_of stored) c.args.context.now.parent c.args.block.now c.later.place c.later.progress.left c.judge_next.new.self.left
-      c.later.progress.ext c.judge_next.new.self.ext c.transactions_item-tx.result (c.later.invariant.judged stored tells stands) c.transactions_item-tx.ensures
-      (c.in-Ok-judge_next.ensures.unbroken stored site (c.later.invariant.read.told ∙ tells) is proposed)
-      (c.in-Ok-judge_next.ensures.cycles stored site (c.later.invariant.read.told ∙ tells) is)
-      (c.in-Ok-judge_next.ensures.fee stored site (c.later.invariant.read.told ∙ tells) is)
-      (c.in-Ok-judge_next.ensures.spends stored site (c.later.invariant.read.told ∙ tells) is);
-  moved = λ stored tells stands.
-      let at : AtValue = record { spec = c.args.context.now.spec.now; entries = c.args.context.now.tree.now.entries; parent = c.args.context.now.parent; block = Some c.of_block.result } in
-      let site : Site = site_at c.args.context.now.spec.now (branch (blocks_of stored) c.args.context.now.parent) c.args.block.now c.later.place in
-      let is = site-in_block stored at c.args.block.now c.later.place (g.C.Cells.rows c.args.context.now.cells.now)
-      (rows_in g.C.Cells.rows c.later.progress.cells)
-      (ap Some (c.of_block.ensures ∙ c.from_encoding.ensures c.args.block.now c.bytes.ensures)) c.requires.placed.parent stands c.later.invariant.rows in
-      moved-more c.args.context.now.spec.now (branch (blocks_of stored) c.args.context.now.parent) c.args.block.now c.later.place c.transactions_item-tx.result
-      c.later.progress.interest c.judge_next.new.self.interest c.later.progress.freed c.judge_next.new.self.freed (c.later.invariant.moved stored tells stands)
-      c.transactions_item-tx.ensures (c.in-Ok-judge_next.ensures.interest stored site (c.later.invariant.read.told ∙ tells) is)
-      (c.in-Ok-judge_next.ensures.freed stored site (c.later.invariant.read.told ∙ tells) is);
+      (c.in-Ok.ensures.proposed stored tells stands.indexed) (c.height.ensures.height stored _ _ is) in
+      passed-more c.args.context.now.spec.now (blocks_of stored) c.args.context.now.parent c.args.block.now c.later.place c.later.progress.left c.later.progress.ext
+      c.later.progress.interest c.later.progress.freed (c.later.invariant.judged stored tells stands) c.transactions_item-tx.result c.later.progress c.judge_next.new.self
+      c.transactions_item-tx.ensures refl refl refl refl (c.in-Ok-judge_next.ensures.exact stored _ (c.later.invariant.read.told ∙ tells) is proposed);
 }
 
 pub returns-in-Err-judge_next : goal.returns-in-Err-judge_next
-returns-in-Err-judge_next g c =
-    let at : AtValue = record { spec = c.args.context.now.spec.now; entries = c.args.context.now.tree.now.entries; parent = c.args.context.now.parent; block = Some c.of_block.result } in record {
-      read = read_on c.later.invariant.read c.in-Err-judge_next.ensures.read;
-      rule = λ rule same. c.in-Err-judge_next.ensures.rule rule (as_step same);
-      fees = tt;
-      broken = λ stored tells stands rule same.
-          let site : Site = site_at c.args.context.now.spec.now (branch (blocks_of stored) c.args.context.now.parent) c.args.block.now c.later.place in
-          let is = site-in_block stored at c.args.block.now c.later.place (g.C.Cells.rows c.args.context.now.cells.now)
-          (rows_in g.C.Cells.rows c.later.progress.cells)
-          (ap Some (c.of_block.ensures ∙ c.from_encoding.ensures c.args.block.now c.bytes.ensures)) c.requires.placed.parent stands c.later.invariant.rows in
-          let proposed = proposed-here c.args.context.now.spec.now (branch (blocks_of stored) c.args.context.now.parent) c.in-Ok.proposed c.height.result
-          (c.in-Ok.ensures.proposed stored tells stands.indexed) (c.height.ensures.height stored _ site is) in
-          judged-breaks c.args.context.now.spec.now (blocks_of stored) c.args.context.now.parent c.args.block.now c.later.place c.later.progress.left c.later.progress.ext
-          c.transactions_item-tx.result (rule_number rule) (c.later.invariant.judged stored tells stands) c.transactions_item-tx.ensures
-          (c.in-Err-judge_next.ensures.broken stored site (c.later.invariant.read.told ∙ tells) is proposed rule (as_step same));
-      unbroken = λ stored tells stands. tt;
-      ext = λ stored tells stands. tt;
-      interest = λ stored tells stands. tt;
-      freed = λ stored tells stands. tt;
-      undamaged = λ stored tells stands damage same.
-          let site : Site = site_at c.args.context.now.spec.now (branch (blocks_of stored) c.args.context.now.parent) c.args.block.now c.later.place in
-          let is = site-in_block stored at c.args.block.now c.later.place (g.C.Cells.rows c.args.context.now.cells.now)
-          (rows_in g.C.Cells.rows c.later.progress.cells)
-          (ap Some (c.of_block.ensures ∙ c.from_encoding.ensures c.args.block.now c.bytes.ensures)) c.requires.placed.parent stands c.later.invariant.rows in
-          c.in-Err-judge_next.ensures.undamaged stored site (c.later.invariant.read.told ∙ tells) is damage (as_step same);
-    }
+returns-in-Err-judge_next g c = record {
+  read = read_on c.later.invariant.read c.in-Err-judge_next.ensures.read;
+  rule = λ rule same. c.in-Err-judge_next.ensures.rule rule (as_step same);
+  fees = tt;
+  exact = λ stored tells stands.
+      let at : AtValue = record { spec = c.args.context.now.spec.now; entries = c.args.context.now.tree.now.entries; parent = c.args.context.now.parent; block = Some c.of_block.result } in
+      let is = site-in_block stored at c.args.block.now c.later.place (g.C.Cells.rows c.args.context.now.cells.now) (rows_in g.C.Cells.rows c.later.progress.cells)
+      (ap Some (c.of_block.ensures ∙ c.from_encoding.ensures c.args.block.now c.bytes.ensures)) c.requires.placed.parent stands c.later.invariant.rows in
+      let proposed = proposed-here c.args.context.now.spec.now (branch (blocks_of stored) c.args.context.now.parent) c.in-Ok.proposed c.height.result
+      (c.in-Ok.ensures.proposed stored tells stands.indexed) (c.height.ensures.height stored _ _ is) in
+      passed-breaks c.args.context.now.spec.now (blocks_of stored) c.args.context.now.parent c.args.block.now c.later.place c.later.progress.left c.later.progress.ext
+      c.later.progress.interest c.later.progress.freed (c.later.invariant.judged stored tells stands) c.transactions_item-tx.result c.in-Err-judge_next.stop
+      c.transactions_item-tx.ensures (c.in-Err-judge_next.ensures.exact stored _ (c.later.invariant.read.told ∙ tells) is proposed);
+}
 
 pub returns : goal.returns
 returns g c =
-    let past : length c.args.block.now.transactions ≤ c.later.place = omega (arith, c.later-test.false, c.transactions_count-count.ensures.value) in
-    let moved = λ (stored : List Stored) (tells : g.B.Blocks.told c.args.blocks.now ≡ Some stored)
-    (stands : Stands stored c.args.context.now.tree.now.entries c.args.context.now.parent (g.C.Cells.rows c.args.context.now.cells.now)).
-    moved-all c.args.context.now.spec.now (branch (blocks_of stored) c.args.context.now.parent) c.args.block.now c.later.place c.later.progress.interest c.later.progress.freed
-    (c.later.invariant.moved stored tells stands) past in record {
+    let past : length c.args.block.now.transactions ≤ c.later.place = omega (arith, c.later-test.false, c.transactions_count-count.ensures.value) in record {
       read = c.later.invariant.read;
       rule = λ rule same. absurd (no_error same);
       fees = omega (arith, c.later.invariant.fees, c.later.invariant.within, past);
-      broken = λ stored tells stands rule same. absurd (no_error same);
-      unbroken = λ stored tells stands.
-          judged-all c.args.context.now.spec.now (blocks_of stored) c.args.context.now.parent c.args.block.now c.later.place c.later.progress.left c.later.progress.ext
-          (c.later.invariant.judged stored tells stands) past;
-      ext = λ stored tells stands.
-          judged-ext c.args.context.now.spec.now (blocks_of stored) c.args.context.now.parent c.args.block.now c.later.place c.later.progress.left c.later.progress.ext
-          (c.later.invariant.judged stored tells stands) past;
-      interest = λ stored tells stands. to_z-of_z w128 c.later.progress.interest (search rules) ∙ (moved stored tells stands).interest_is;
-      freed = λ stored tells stands. (moved stored tells stands).freed_is;
-      undamaged = λ stored tells stands damage same. no_error same;
+      exact = λ stored tells stands.
+          passed-all c.args.context.now.spec.now (blocks_of stored) c.args.context.now.parent c.args.block.now c.later.place c.later.progress.left c.later.progress.ext
+          c.later.progress.interest c.later.progress.freed (c.later.invariant.judged stored tells stands) _ past refl (to_z-of_z w128 c.later.progress.interest (search rules)) refl;
     }

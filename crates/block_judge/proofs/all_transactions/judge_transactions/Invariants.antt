@@ -1,13 +1,11 @@
 use Rattle.std.proofs.Common.{◌≡◌, ◌+◌, ◌^◌, ◌≤◌, List, length, Some, None}
-use Rattle.chain_defs.specs.Branch.{branch}
 use Rattle.chain_tree.specs.Told.{Stored, blocks_of}
 use Rattle.chain_tree.specs.Reading.{HasRead}
 use Rattle.block_judge.specs.Progress.{CanMove}
 use Rattle.block_judge.specs.BlockCells.{rows_in}
 use Rattle.block_judge.specs.Standing.{Stands}
 use Rattle.block_judge.proofs.SiteLemmas.{AreRowsAfter}
-use Rattle.block_judge.proofs.MovedLemmas.{IsMovedTo}
-use Rattle.block_judge.proofs.NextLemmas.{IsJudgedTo}
+use Rattle.block_judge.proofs.NextLemmas.{IsPassedTo}
 use Rattle.block_judge.proofs.all_transactions.judge_transactions.Given as goal
 
 -- the cells are those after the transactions so far, and the rest of them is what is left to judge and to move; the ext has a fee for each
@@ -21,7 +19,5 @@ invariant-later g l = record {
   fees : length l.progress.ext.fees + 1 ≡ l.place;
   rows : AreRowsAfter (length l.context.tree.now.entries) l.block l.place (g.C.Cells.rows l.context.cells.now) (rows_in g.C.Cells.rows l.progress.cells);
   judged : (stored : List Stored) → g.B.Blocks.told l.fn.blocks ≡ Some stored → Stands stored l.context.tree.now.entries l.context.parent (g.C.Cells.rows l.context.cells.now)
-      → IsJudgedTo l.context.spec.now (blocks_of stored) l.context.parent l.block l.place l.progress.left l.progress.ext;
-  moved : (stored : List Stored) → g.B.Blocks.told l.fn.blocks ≡ Some stored → Stands stored l.context.tree.now.entries l.context.parent (g.C.Cells.rows l.context.cells.now)
-      → IsMovedTo l.context.spec.now (branch (blocks_of stored) l.context.parent) l.block l.place l.progress.interest l.progress.freed;
+      → IsPassedTo l.context.spec.now (blocks_of stored) l.context.parent l.block l.place l.progress.left l.progress.ext l.progress.interest l.progress.freed;
 }

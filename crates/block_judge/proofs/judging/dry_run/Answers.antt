@@ -1,15 +1,16 @@
-use Rattle.std.proofs.Common.{◌≤◌, Some, None, refl, ap, ◌∙◌, subst}
+use Rattle.std.proofs.Common.{◌≤◌, ℕ, Result, None, refl, ap, ◌∙◌, subst}
+use Rattle.std.specs.Prelude.{IsOkAnd}
 use Rattle.chain_defs.specs.Specification.{Specification}
 use Rattle.chain_defs.specs.Branch.{branch}
 use Rattle.chain_tree.specs.Told.{blocks_of}
 use Rattle.tx_rules.specs.At.{AtValue}
-use Rattle.verdict_defs.specs.ScriptRules.{cycles_of}
-use Rattle.verdict_defs.specs.Scene.{scene_of}
 use Rattle.rule_defs.specs.Site.{site_after}
-use Rattle.rule_defs.specs.RuleNumber.{rule_number}
+use Rattle.verdict_defs.specs.Judged.{Passed, judged_alone}
+use Rattle.verdict_defs.proofs.JudgedLemmas.{judged-unasked}
+use Rattle.block_judge.specs.Answers.{IsPassed, StopsAs}
+use Rattle.block_judge.proofs.AnswerLemmas.{pays-and-takes}
 use Rattle.block_judge.proofs.Exits.{as_step, no_error}
 use Rattle.block_judge.proofs.SiteLemmas.{site-alone}
-use Rattle.block_judge.proofs.NextLemmas.{alone-judged}
 use Rattle.block_judge.proofs.judging.dry_run.Goals as goal
 
 pub returns-in-Err : goal.returns-in-Err
@@ -19,14 +20,11 @@ returns-in-Err g c =
       tried = λ rule same. c.in-Err.ensures.alone refl rule (as_step same);
       by_rows = c.in-Err.ensures.by_rows refl;
       within = tt;
-      broken = λ stored tells stands rule same.
-          alone-judged c.args.context.now.spec.now (branch (blocks_of stored) c.args.context.now.parent) c.args.tx.now _ (Some (rule_number rule)) (ap (λ (s : Specification). s.max_cycles) c.spec.view_is)
-          (c.in-Err.ensures.broken stored _ tells (site-alone stored at (g.C.Cells.rows c.args.context.now.cells.now) stands) rule (as_step same));
-      unbroken = λ stored tells stands. tt;
-      fee = λ stored tells stands. tt;
-      cycles = λ stored tells stands. tt;
-      undamaged = λ stored tells stands damage same.
-          c.in-Err.ensures.undamaged stored _ tells (site-alone stored at (g.C.Cells.rows c.args.context.now.cells.now) stands) damage (as_step same);
+      exact = λ stored tells stands.
+          let site = site_after c.args.context.now.spec.now (branch (blocks_of stored) c.args.context.now.parent) in
+          subst (λ (comes : Result Passed ℕ). StopsAs comes c.in-Err.stop)
+          (judged-unasked site _ c.args.tx.now ∙ ap (λ (s : Specification). judged_alone site s.max_cycles c.args.tx.now) c.spec.view_is)
+          (c.in-Err.ensures.exact stored site tells (site-alone stored at (g.C.Cells.rows c.args.context.now.cells.now) stands));
     }
 
 pub returns-in-Ok : goal.returns-in-Ok
@@ -35,15 +33,11 @@ returns-in-Ok g c =
       read = c.in-Ok.ensures.read;
       tried = λ rule same. absurd (no_error same);
       by_rows = c.in-Ok.ensures.by_rows refl;
-      within = subst (λ (s : Specification). c.in-Ok.passed.cycles ≤ s.max_cycles) c.spec.view_is c.in-Ok.ensures.within;
-      broken = λ stored tells stands rule same. absurd (no_error same);
-      unbroken = λ stored tells stands.
-          alone-judged c.args.context.now.spec.now (branch (blocks_of stored) c.args.context.now.parent) c.args.tx.now _ None (ap (λ (s : Specification). s.max_cycles) c.spec.view_is)
-          (c.in-Ok.ensures.unbroken stored _ tells (site-alone stored at (g.C.Cells.rows c.args.context.now.cells.now) stands));
-      fee = λ stored tells stands. c.in-Ok.ensures.fee stored _ tells (site-alone stored at (g.C.Cells.rows c.args.context.now.cells.now) stands);
-      cycles = λ stored tells stands.
-          c.in-Ok.ensures.cycles stored _ tells (site-alone stored at (g.C.Cells.rows c.args.context.now.cells.now) stands)
-          ∙ ap (λ (s : Specification). cycles_of (scene_of (site_after c.args.context.now.spec.now (branch (blocks_of stored) c.args.context.now.parent)) c.args.tx.now) s.max_cycles)
-          c.spec.view_is;
-      undamaged = λ stored tells stands damage same. no_error same;
+      within = subst (λ (s : Specification). c.in-Ok.passed.cycles ≤ s.max_cycles) c.spec.view_is c.in-Ok.ensures.fits.within;
+      exact = λ stored tells stands.
+          let site = site_after c.args.context.now.spec.now (branch (blocks_of stored) c.args.context.now.parent) in
+          pays-and-takes (blocks_of stored) c.args.context.now.parent (judged_alone site c.args.context.now.spec.now.max_cycles c.args.tx.now) c.in-Ok.passed
+          (subst (λ (comes : Result Passed ℕ). IsOkAnd comes (λ passes. IsPassed (blocks_of stored) c.args.context.now.parent passes c.in-Ok.passed))
+          (judged-unasked site _ c.args.tx.now ∙ ap (λ (s : Specification). judged_alone site s.max_cycles c.args.tx.now) c.spec.view_is)
+          (c.in-Ok.ensures.exact stored site tells (site-alone stored at (g.C.Cells.rows c.args.context.now.cells.now) stands)));
     }

@@ -1,11 +1,10 @@
-use Rattle.std.proofs.Common.{◌≡◌, refl, inl, ap, sym, ◌∙◌, Some, Err, arith}
+use Rattle.std.proofs.Common.{◌≡◌, refl, inl, ap, sym, ◌∙◌, Err, arith}
 use Rattle.rule_defs.specs.RuleNumber.{rule_number}
-use Rattle.chain_defs.specs.Branch.{branch}
-use Rattle.cell_defs.specs.Events.{live_cell}
-use Rattle.chain_tree.specs.Told.{blocks_of}
 use Rattle.chain_tree.proofs.ReadLemmas.{unread, read_on}
-use Rattle.block_judge.proofs.Exits.{same_rule, as_step, no_error, no_read}
-use Rattle.block_judge.proofs.SightLemmas.{live-there, passed, first-cellbase, first-transaction, at-end, stops-after}
+use Rattle.block_judge.specs.Standing.{seen}
+use Rattle.block_judge.proofs.Exits.{same_rule, as_step, no_error}
+use Rattle.block_judge.proofs.LeftLemmas.{judges-formless, judges-broken, judges-ended, judges-passed}
+use Rattle.block_judge.proofs.SightLemmas.{stops-after}
 use Rattle.block_judge.proofs.judging.judge.Goals as goal
 
 pub returns-then-not-forms_cellbase : goal.returns-then-not-forms_cellbase
@@ -15,19 +14,7 @@ returns-then-not-forms_cellbase g c = record {
   by_rows = λ live tell. inl (refl, sym (c.if-not-forms_cellbase.ensures live tell));
   fees = tt;
   rated = tt;
-  broken_left = λ stored tells whole rule same.
-      first-cellbase c.args.context.now.spec.now (branch (blocks_of stored) c.args.context.now.parent) c.args.block.now
-      (sym (c.if-not-forms_cellbase.ensures (live_cell (branch (blocks_of stored) c.args.context.now.parent))
-      (λ o. live-there (blocks_of stored) c.args.context.now.parent o _ (whole.stands.live o)))) ∙ ap Some (same_rule same);
-  unbroken_left = λ stored tells whole. tt;
-  broken = λ stored tells whole sight rule same.
-      passed c.args.context.now.spec.now (branch (blocks_of stored) c.args.context.now.parent) c.args.block.now sight
-      ∙ first-cellbase c.args.context.now.spec.now (branch (blocks_of stored) c.args.context.now.parent) c.args.block.now
-      (sym (c.if-not-forms_cellbase.ensures (live_cell (branch (blocks_of stored) c.args.context.now.parent))
-      (λ o. live-there (blocks_of stored) c.args.context.now.parent o _ (whole.stands.live o)))) ∙ ap Some (same_rule same);
-  unbroken = λ stored tells whole sight. tt;
-  ext = λ stored tells whole. tt;
-  undamaged = λ stored tells whole damage same. no_read same;
+  exact = λ stored tells whole. judges-formless stored (seen g.C.Cells.rows c.args.context.now) c.args.block.now whole c.if-not-forms_cellbase.ensures;
 }
 
 pub returns-in-Err : goal.returns-in-Err
@@ -39,21 +26,9 @@ returns-in-Err g c = record {
       (λ rule same. let its = c.in-Err.ensures.rule rule (ap Err same) in omega (arith, its.0));
   fees = tt;
   rated = tt;
-  broken_left = λ stored tells whole rule same.
-      first-transaction c.args.context.now.spec.now (branch (blocks_of stored) c.args.context.now.parent) c.args.block.now _
-      (sym (c.if-not-forms_cellbase.ensures (live_cell (branch (blocks_of stored) c.args.context.now.parent))
-      (λ o. live-there (blocks_of stored) c.args.context.now.parent o _ (whole.stands.live o))))
-      (c.in-Err.ensures.broken stored tells whole.stands rule (as_step same));
-  unbroken_left = λ stored tells whole. tt;
-  broken = λ stored tells whole sight rule same.
-      passed c.args.context.now.spec.now (branch (blocks_of stored) c.args.context.now.parent) c.args.block.now sight
-      ∙ first-transaction c.args.context.now.spec.now (branch (blocks_of stored) c.args.context.now.parent) c.args.block.now _
-      (sym (c.if-not-forms_cellbase.ensures (live_cell (branch (blocks_of stored) c.args.context.now.parent))
-      (λ o. live-there (blocks_of stored) c.args.context.now.parent o _ (whole.stands.live o))))
-      (c.in-Err.ensures.broken stored tells whole.stands rule (as_step same));
-  unbroken = λ stored tells whole sight. tt;
-  ext = λ stored tells whole. tt;
-  undamaged = λ stored tells whole damage same. c.in-Err.ensures.undamaged stored tells whole.stands damage (as_step same);
+  exact = λ stored tells whole.
+      judges-broken stored (seen g.C.Cells.rows c.args.context.now) c.args.block.now whole c.if-not-forms_cellbase.ensures c.in-Err.stop
+      (c.in-Err.ensures.exact stored tells whole.stands);
 }
 
 pub returns-in-Err-judge_end : goal.returns-in-Err-judge_end
@@ -65,32 +40,11 @@ returns-in-Err-judge_end g c = record {
       (λ rule same. let its = c.in-Err-judge_end.ensures.tried rule (ap Err same) in omega (arith, its.0));
   fees = tt;
   rated = tt;
-  broken_left = λ stored tells whole rule same.
-      at-end c.args.context.now.spec.now (branch (blocks_of stored) c.args.context.now.parent) c.args.block.now
-      (sym (c.if-not-forms_cellbase.ensures (live_cell (branch (blocks_of stored) c.args.context.now.parent))
-      (λ o. live-there (blocks_of stored) c.args.context.now.parent o _ (whole.stands.live o))))
-      (c.in-Ok.ensures.unbroken stored tells whole.stands)
-      ∙ c.in-Err-judge_end.ensures.broken stored (c.judge_transactions.ensures.read.told ∙ tells) whole.stands.indexed whole.fees
-      (record {
-        interest_is = c.in-Ok.ensures.interest stored tells whole.stands;
-        freed_is = c.in-Ok.ensures.freed stored tells whole.stands;
-      }) rule (as_step same);
-  unbroken_left = λ stored tells whole. tt;
-  broken = λ stored tells whole sight rule same.
-      passed c.args.context.now.spec.now (branch (blocks_of stored) c.args.context.now.parent) c.args.block.now sight
-      ∙ at-end c.args.context.now.spec.now (branch (blocks_of stored) c.args.context.now.parent) c.args.block.now
-      (sym (c.if-not-forms_cellbase.ensures (live_cell (branch (blocks_of stored) c.args.context.now.parent))
-      (λ o. live-there (blocks_of stored) c.args.context.now.parent o _ (whole.stands.live o))))
-      (c.in-Ok.ensures.unbroken stored tells whole.stands)
-      ∙ c.in-Err-judge_end.ensures.broken stored (c.judge_transactions.ensures.read.told ∙ tells) whole.stands.indexed whole.fees
-      (record {
-        interest_is = c.in-Ok.ensures.interest stored tells whole.stands;
-        freed_is = c.in-Ok.ensures.freed stored tells whole.stands;
-      }) rule (as_step same);
-  unbroken = λ stored tells whole sight. tt;
-  ext = λ stored tells whole. tt;
-  undamaged = λ stored tells whole damage same.
-      c.in-Err-judge_end.ensures.undamaged stored (c.judge_transactions.ensures.read.told ∙ tells) whole.stands.indexed whole.fees damage (as_step same);
+  exact = λ stored tells whole.
+      judges-ended stored (seen g.C.Cells.rows c.args.context.now) c.args.block.now whole c.if-not-forms_cellbase.ensures c.in-Ok.outcome
+      (c.in-Ok.ensures.exact stored tells whole.stands) c.in-Err-judge_end.stop
+      (λ moved rule same. c.in-Err-judge_end.ensures.broken stored (c.judge_transactions.ensures.read.told ∙ tells) whole.stands.indexed whole.fees moved rule (ap Err same))
+      (λ damage same. c.in-Err-judge_end.ensures.undamaged stored (c.judge_transactions.ensures.read.told ∙ tells) whole.stands.indexed whole.fees damage (ap Err same));
 }
 
 pub returns-in-Ok-judge_end : goal.returns-in-Ok-judge_end
@@ -100,29 +54,8 @@ returns-in-Ok-judge_end g c = record {
   by_rows = λ live tell. sym (c.if-not-forms_cellbase.ensures live tell);
   fees = c.in-Ok.ensures.fees;
   rated = c.in-Ok-judge_end.ensures.rated;
-  broken_left = λ stored tells whole rule same. absurd (no_error same);
-  unbroken_left = λ stored tells whole.
-      at-end c.args.context.now.spec.now (branch (blocks_of stored) c.args.context.now.parent) c.args.block.now
-      (sym (c.if-not-forms_cellbase.ensures (live_cell (branch (blocks_of stored) c.args.context.now.parent))
-      (λ o. live-there (blocks_of stored) c.args.context.now.parent o _ (whole.stands.live o))))
-      (c.in-Ok.ensures.unbroken stored tells whole.stands)
-      ∙ c.in-Ok-judge_end.ensures.unbroken stored (c.judge_transactions.ensures.read.told ∙ tells) whole.stands.indexed whole.fees
-      (record {
-        interest_is = c.in-Ok.ensures.interest stored tells whole.stands;
-        freed_is = c.in-Ok.ensures.freed stored tells whole.stands;
-      });
-  broken = λ stored tells whole sight rule same. absurd (no_error same);
-  unbroken = λ stored tells whole sight.
-      passed c.args.context.now.spec.now (branch (blocks_of stored) c.args.context.now.parent) c.args.block.now sight
-      ∙ at-end c.args.context.now.spec.now (branch (blocks_of stored) c.args.context.now.parent) c.args.block.now
-      (sym (c.if-not-forms_cellbase.ensures (live_cell (branch (blocks_of stored) c.args.context.now.parent))
-      (λ o. live-there (blocks_of stored) c.args.context.now.parent o _ (whole.stands.live o))))
-      (c.in-Ok.ensures.unbroken stored tells whole.stands)
-      ∙ c.in-Ok-judge_end.ensures.unbroken stored (c.judge_transactions.ensures.read.told ∙ tells) whole.stands.indexed whole.fees
-      (record {
-        interest_is = c.in-Ok.ensures.interest stored tells whole.stands;
-        freed_is = c.in-Ok.ensures.freed stored tells whole.stands;
-      });
-  ext = λ stored tells whole. c.in-Ok.ensures.ext stored tells whole.stands;
-  undamaged = λ stored tells whole damage same. no_error same;
+  exact = λ stored tells whole.
+      judges-passed stored (seen g.C.Cells.rows c.args.context.now) c.args.block.now whole c.if-not-forms_cellbase.ensures c.in-Ok.outcome
+      (c.in-Ok.ensures.exact stored tells whole.stands)
+      (c.in-Ok-judge_end.ensures.unbroken stored (c.judge_transactions.ensures.read.told ∙ tells) whole.stands.indexed whole.fees);
 }

@@ -1,11 +1,10 @@
 use Rattle.std.proofs.Common.{Err, ap, subst}
-use Rattle.outside.specs.declared.disk.ReadStop.TheVariants.{Damaged}
 use Rattle.tx_rules.specs.At.{AtValue}
 use Rattle.verdict_defs.specs.Scene.{scene_of}
 use Rattle.block_judge.specs.Stops.{AnswersRunning}
 use Rattle.block_judge.proofs.Exits.{same_stop, no_error, read_as, running-stop}
 use Rattle.block_judge.proofs.SceneLemmas.{scene-told}
-use Rattle.block_judge.proofs.ScriptLemmas.{scripts-keep, scripts-break, script-rule, reads-running}
+use Rattle.block_judge.proofs.ScriptLemmas.{scripts-keep, scripts-stop, script-rule}
 use Rattle.block_judge.proofs.scripts.run_scripts.Goals as goal
 
 pub returns-in-Ok : goal.returns-in-Ok
@@ -13,11 +12,9 @@ returns-in-Ok g c = record {
   read = c.in-Ok.ensures.read;
   within = c.in-Ok.ensures.within;
   rule = λ rule same. absurd (no_error same);
-  broken = λ stored rows site told is resolves rule same. absurd (no_error same);
-  unbroken = λ stored rows site told is resolves.
+  exact = λ stored rows site told is resolves.
       scripts-keep (scene_of site c.args.resolved.now.tx) c.args.left c.in-Ok.cycles (c.in-Ok.ensures.exact stored (scene_of site c.args.resolved.now.tx) told
       (scene-told stored c.args.at.now rows site c.at.inside.spec.now c.args.resolved.now is c.requires.formed resolves (ap (λ (at : AtValue). at.spec) c.at.view_is)));
-  undamaged = λ stored rows site told is resolves damage same. no_error same;
 }
 
 pub returns-in-Err : goal.returns-in-Err
@@ -25,13 +22,9 @@ returns-in-Err g c = record {
   read = read_as (running-stop c.in-Err.stop c.stopped.result c.stopped.ensures) c.in-Err.ensures.read;
   within = tt;
   rule = λ rule same. script-rule c.in-Err.stop rule (subst (AnswersRunning c.in-Err.stop) (same_stop same) c.stopped.ensures);
-  broken = λ stored rows site told is resolves rule same.
-      scripts-break (scene_of site c.args.resolved.now.tx) c.args.left rule c.in-Err.stop (c.in-Err.ensures.exact stored (scene_of site c.args.resolved.now.tx) told
-      (scene-told stored c.args.at.now rows site c.at.inside.spec.now c.args.resolved.now is c.requires.formed resolves (ap (λ (at : AtValue). at.spec) c.at.view_is)))
-      (subst (AnswersRunning c.in-Err.stop) (same_stop same) c.stopped.ensures);
-  unbroken = λ stored rows site told is resolves. tt;
-  undamaged = λ stored rows site told is resolves damage same.
-      c.in-Err.ensures.undamaged stored (scene_of site c.args.resolved.now.tx) told
-      (scene-told stored c.args.at.now rows site c.at.inside.spec.now c.args.resolved.now is c.requires.formed resolves (ap (λ (at : AtValue). at.spec) c.at.view_is))
-      damage (ap Err (reads-running c.in-Err.stop (Damaged damage) (subst (AnswersRunning c.in-Err.stop) (same_stop same) c.stopped.ensures)));
+  exact = λ stored rows site told is resolves.
+      let shows = scene-told stored c.args.at.now rows site c.at.inside.spec.now c.args.resolved.now is c.requires.formed resolves (ap (λ (at : AtValue). at.spec) c.at.view_is) in
+      scripts-stop (scene_of site c.args.resolved.now.tx) c.args.left c.in-Err.stop c.stopped.result
+      (c.in-Err.ensures.exact stored (scene_of site c.args.resolved.now.tx) told shows)
+      (λ damage same. c.in-Err.ensures.undamaged stored (scene_of site c.args.resolved.now.tx) told shows damage (ap Err same)) c.stopped.ensures;
 }

@@ -9,7 +9,7 @@ use Rattle.store_defs.specs.Store.{IsJoined}
 use Rattle.rule_defs.specs.RuleNumber.{rule_number}
 use Rattle.node_store.specs.Kept.{KeptValue, AreOfTip}
 use Rattle.node_store.proofs.EntryLemmas.{kept-parent}
-use Rattle.node_core.proofs.DecidingLemmas.{stands-tip, trial-refused, trial-passes-else}
+use Rattle.node_core.proofs.DecidingLemmas.{stands-tip, trial-refused, trial-passes, trial-undamaged}
 use Rattle.node_store.proofs.KeptSources.{told-stored, counts-entries}
 use Rattle.node_core.proofs.deciding.check.Goals as goal
 
@@ -34,9 +34,7 @@ returns-clause-passes g c tells live =
     c.tip.result c.kept.invariant (subst (λ (v : KeptValue). AreOfTip v.chain.blocks (rows c.args.state.now)) (sym c.kept.view_is) live)
     (subst (λ (v : KeptValue). IsJoined v.chain) (sym c.kept.view_is) tells.joined.joined) is c.tip.ensures.within in
     subst (λ (v : KeptValue). IfOk c.dry_run.result (λ it. trial_on v.chain.spec (best_branch v.chain.blocks) c.args.tx.now ≡ Passes it.0 it.1)) c.kept.view_is
-    (trial-passes-else c.kept.inside.spec (blocks_of stored) c.args.tx.now c.tip.result c.dry_run.result is
-    (c.dry_run.ensures.unbroken stored told stands) (c.dry_run.ensures.fee stored told stands)
-    (c.dry_run.ensures.cycles stored told stands))
+    (trial-passes c.kept.inside.spec (blocks_of stored) c.args.tx.now c.tip.result is c.dry_run.result (c.dry_run.ensures.exact stored told stands))
 
 pub returns-clause-broken : goal.returns-clause-broken
 returns-clause-broken g c tells live rule broken =
@@ -47,8 +45,7 @@ returns-clause-broken g c tells live rule broken =
     c.tip.result c.kept.invariant (subst (λ (v : KeptValue). AreOfTip v.chain.blocks (rows c.args.state.now)) (sym c.kept.view_is) live)
     (subst (λ (v : KeptValue). IsJoined v.chain) (sym c.kept.view_is) tells.joined.joined) is c.tip.ensures.within in
     subst (λ (v : KeptValue). trial_on v.chain.spec (best_branch v.chain.blocks) c.args.tx.now ≡ Refused (rule_number rule)) c.kept.view_is
-    (trial-refused c.kept.inside.spec (blocks_of stored) c.args.tx.now c.tip.result is (rule_number rule)
-    (c.dry_run.ensures.broken stored told stands rule broken))
+    (trial-refused c.kept.inside.spec (blocks_of stored) c.args.tx.now c.tip.result is c.dry_run.result rule (c.dry_run.ensures.exact stored told stands) broken)
 
 pub returns-clause-undamaged : goal.returns-clause-undamaged
 returns-clause-undamaged g c tells live damage =
@@ -58,4 +55,4 @@ returns-clause-undamaged g c tells live damage =
     let stands = stands-tip c.kept.inside.spec stored c.kept.inside.tree.entries c.kept.inside.uncles (rows c.args.state.now)
     c.tip.result c.kept.invariant (subst (λ (v : KeptValue). AreOfTip v.chain.blocks (rows c.args.state.now)) (sym c.kept.view_is) live)
     (subst (λ (v : KeptValue). IsJoined v.chain) (sym c.kept.view_is) tells.joined.joined) is c.tip.ensures.within in
-    c.dry_run.ensures.undamaged stored told stands damage
+    trial-undamaged c.kept.inside.spec (blocks_of stored) c.args.tx.now c.tip.result is c.dry_run.result damage (c.dry_run.ensures.exact stored told stands)

@@ -1,10 +1,14 @@
 use Rattle.std.proofs.Common.{◌≡◌, None, Some, refl, ap, ◌∙◌, subst, sym}
-use Rattle.std.specs.Prelude.{Err, length}
+use Rattle.std.specs.Prelude.{length}
 use Rattle.outside.proofs.Endings.{no_answer}
 use Rattle.chain_defs.specs.Branch.{branch}
 use Rattle.chain_defs.proofs.KeptLaws.{place_of-below}
 use Rattle.chain_tree.specs.Told.{blocks_of}
 use Rattle.chain_tree.proofs.ReadLemmas.{read_so}
+use Rattle.verdict_defs.specs.Judged.{judged_block}
+use Rattle.verdict_defs.proofs.JudgedLemmas.{block-breaks-first, block-passes-by}
+use Rattle.block_judge.specs.Answers.{IsExt, StopsAs}
+use Rattle.block_judge.specs.Standing.{judged_left}
 use Rattle.block_judge.specs.Stops.{stop_in}
 use Rattle.block_judge.specs.declared.stop.JudgeStop.TheVariants.{Read}
 use Rattle.verdict_defs.specs.Ext.{ext_of}
@@ -49,7 +53,9 @@ returns-in-Err-Broken-clause-decided g c tells live =
     ap Refused (c.number.ensures ∙ ap rule_number c.in-Err-Broken.rule-is)
     ∙ verdict-refused c.args.kept.now.chain.spec c.args.kept.now.chain.blocks c.args.block.now c.args.entry c.requires.entry (rule_number c.in-Err-Broken.rule)
     (subst (λ (v : Chain). first_broken v.spec (branch v.blocks c.args.entry.parent) c.args.block.now ≡ Some (rule_number c.in-Err-Broken.rule)) whole
-    (c.in-Err-Broken.ensures.broken stored told stands passes c.in-Err-Broken.rule (ap Err c.in-Err-Broken.field-0-is)))
+    (block-breaks-first c.kept.inside.spec (blocks_of stored) c.args.entry.parent c.args.block.now (rule_number c.in-Err-Broken.rule)
+    (subst (StopsAs (judged_block c.kept.inside.spec (blocks_of stored) c.args.entry.parent c.args.block.now)) c.in-Err-Broken.field-0-is
+    ((c.in-Err-Broken.ensures.exact stored told stands).all passes))))
 
 pub returns-in-Err-Broken-clause-undamaged : goal.returns-in-Err-Broken-clause-undamaged
 returns-in-Err-Broken-clause-undamaged g c = λ _ _ _ was. no_answer _ _ was
@@ -66,7 +72,8 @@ returns-in-Err-Read-clause-undamaged g c tells live damage was =
     let told = told-stored c.kept.inside.spec stored c.kept.inside.tree.entries c.args.kept.now _ c.kept.view_is tells in
     let stands = whole-at-hand c.kept.inside.spec stored c.kept.inside.tree.entries c.kept.inside.uncles
     c.args.state.now c.args.kept.now c.args.block.now c.args.entry c.kept.view_is c.kept.invariant c.requires.entry tells.joined live in
-    c.in-Err-Read.ensures.undamaged stored told stands damage (ap Err (c.in-Err-Read.field-0-is ∙ ap Read (sym c.in-Err-Read.stop-is ∙ same_stop _ _ was)))
+    subst (StopsAs (judged_left c.kept.inside.spec (blocks_of stored) c.args.entry.parent c.args.block.now))
+    (c.in-Err-Read.field-0-is ∙ ap Read (sym c.in-Err-Read.stop-is ∙ same_stop _ _ was)) (c.in-Err-Read.ensures.exact stored told stands).left
 
 -- ---- Room
 
@@ -89,13 +96,15 @@ returns-then-has_room-clause-decided g c tells live =
     let stands = whole-at-hand c.kept.inside.spec stored c.kept.inside.tree.entries c.kept.inside.uncles
     c.args.state.now c.args.kept.now c.args.block.now c.args.entry c.kept.view_is c.kept.invariant c.requires.entry tells.joined live in
     let passes = subst (λ (v : Chain). broken_at_sight v.spec (branch v.blocks c.args.entry.parent) c.args.block.now ≡ None) (sym whole) c.requires.passed.sight in
+    let judged = block-passes-by c.kept.inside.spec (blocks_of stored) c.args.entry.parent c.args.block.now (λ is. IsExt is c.in-Ok.ext)
+    ((c.in-Ok.ensures.exact stored told stands).all passes) in
     is-judged c.args.kept.now.chain c.args.block.now (record { entry = c.args.entry; ext = c.in-Ok.ext; hashes = c.args.hashes }) c.requires.entry
     (subst (λ (v : Chain). first_broken v.spec (branch v.blocks c.args.entry.parent) c.args.block.now ≡ None) whole
-    (c.in-Ok.ensures.unbroken stored told stands passes))
+    judged.0)
     (room-for c.len.result _ c.has_room.result c.has_room.ensures c.if-has_room.true
     (c.len.ensures.of_blocks (blocks_of stored) c.kept.invariant.indexed ∙ ap (λ (v : Chain). length v.blocks) whole))
     (subst (λ (v : Chain). c.in-Ok.ext ≡ ext_of v.spec v.blocks c.args.entry.parent c.args.block.now) whole
-    (c.in-Ok.ensures.ext stored told stands))
+    judged.1)
 
 pub returns-then-has_room-clause-undamaged : goal.returns-then-has_room-clause-undamaged
 returns-then-has_room-clause-undamaged g c = λ _ _ _ was. no_answer _ _ was
@@ -114,9 +123,11 @@ returns-clause-decided g c tells live =
     let stands = whole-at-hand c.kept.inside.spec stored c.kept.inside.tree.entries c.kept.inside.uncles
     c.args.state.now c.args.kept.now c.args.block.now c.args.entry c.kept.view_is c.kept.invariant c.requires.entry tells.joined live in
     let passes = subst (λ (v : Chain). broken_at_sight v.spec (branch v.blocks c.args.entry.parent) c.args.block.now ≡ None) (sym whole) c.requires.passed.sight in
+    let judged = block-passes-by c.kept.inside.spec (blocks_of stored) c.args.entry.parent c.args.block.now (λ is. IsExt is c.in-Ok.ext)
+    ((c.in-Ok.ensures.exact stored told stands).all passes) in
     verdict-full c.args.kept.now.chain.spec c.args.kept.now.chain.blocks c.args.block.now c.args.entry c.requires.entry c.len.result c.has_room.result
     (subst (λ (v : Chain). first_broken v.spec (branch v.blocks c.args.entry.parent) c.args.block.now ≡ None) whole
-    (c.in-Ok.ensures.unbroken stored told stands passes))
+    judged.0)
     c.has_room.ensures c.if-has_room.false
     (c.len.ensures.of_blocks (blocks_of stored) c.kept.invariant.indexed ∙ ap (λ (v : Chain). length v.blocks) whole)
 

@@ -21,6 +21,9 @@ assemble-requires-clause-counts g c =
     counts-entries (blocks_of c.kept.inside.blocks.stored) c.args.kept.now.chain.blocks c.kept.inside.tree.entries _
     (ap (λ (v : KeptValue). v.chain.blocks) c.kept.view_is) c.kept.invariant.indexed c.requires.counts
 
+pub assemble-requires-clause-small : goal.assemble-requires-clause-small
+assemble-requires-clause-small g c = record { items_fit = c.requires.items; bytes_fit = c.requires.bytes; witness_fits = c.requires.witness }
+
 pub returns-clause-read : goal.returns-clause-read
 returns-clause-read g c = c.assemble.ensures.read
 

@@ -10,6 +10,15 @@ use Rattle.tx_pool.specs.declared.assembling.Assembled.{Assembled}
 use Rattle.tx_pool.proofs.AssemblingLemmas.{answer-breaks, answer-is, answer-joins, answer-on, bytes-as, founded}
 use Rattle.tx_pool.proofs.assembling.assemble.Goals as goal
 
+pub make_block-requires-clause-items : goal.make_block-requires-clause-items
+make_block-requires-clause-items g c = c.requires.small.items_fit
+
+pub make_block-requires-clause-bytes : goal.make_block-requires-clause-bytes
+make_block-requires-clause-bytes g c = c.requires.small.bytes_fit
+
+pub make_block-requires-clause-witness : goal.make_block-requires-clause-witness
+make_block-requires-clause-witness g c = c.requires.small.witness_fits
+
 pub returns-clause-assembled_on : goal.returns-clause-assembled_on
 returns-clause-assembled_on g c stored tells stands =
     let answer : Assembled = record { lines = c.in-Ok.made.0; block = c.in-Ok.made.1; broken = c.in-Ok-broken_by.broken } in

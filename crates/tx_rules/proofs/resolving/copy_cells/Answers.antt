@@ -1,13 +1,10 @@
-use Rattle.std.proofs.Common.{◌≡◌, true, List, Option, Some, Err, map, length, ap, subst, sym, ◌∙◌}
-use Rattle.std.specs.Prelude.{slice_index}
+use Rattle.std.proofs.Common.{List, Option, Some, Err, length, ap, subst, sym, ◌∙◌}
 use Rattle.std.specs.List.{All, AllZip}
 use Rattle.std.proofs.lemmas.List.{length-map}
 use Rattle.std.proofs.lemmas.List.Elements.{All-append}
 use Rattle.cell_model.specs.Copies.{ResolvedValue}
-use Rattle.chain_defs.specs.Branch.{branch_places}
 use Rattle.chain_tree.specs.Told.{Stored, blocks_of}
-use Rattle.rule_defs.specs.Resolving.{inputs, deps, heights}
-use Rattle.tx_rules.specs.At.{found_row}
+use Rattle.rule_defs.specs.Resolving.{inputs, deps}
 use Rattle.tx_rules.specs.Copying.{row_in, CopiesItsRow, HoldsOutput}
 use Rattle.tx_rules.specs.Outcome.{Copies}
 use Rattle.tx_rules.specs.Steps.{paying_rules}
@@ -27,13 +24,10 @@ returns-in-Err g c = record {
   read = c.in-Err.ensures.read;
   fits = tt;
   later = later-read c.in-Err.stop (λ damage same. c.in-Err.ensures.read.damage damage (ap Some same));
-  judged = λ stored rows site told is found.
-      let spent : c.deref.result.now ≡ map (found_row (blocks_of stored) c.args.at.now.parent) (inputs site c.args.tx.now) = c.deref.ensures.value ∙ found.spent_are in
+  exact = λ stored rows site told is found.
       read-stops (paying_rules site c.args.tx.now) c.in-Err.stop
-      (λ damage same. c.in-Err.ensures.undamaged stored rows site (inputs site c.args.tx.now) told is (inputs-seen site c.args.tx.now) spent damage (ap Err same));
-  inputs = λ stored rows site told is found. tt;
-  deps = λ stored rows site told is found. tt;
-  paid = λ stored rows site told is found. tt;
+      (λ damage same. c.in-Err.ensures.undamaged stored rows site (inputs site c.args.tx.now) told is (inputs-seen site c.args.tx.now) (c.deref.ensures.value ∙ found.spent_are)
+      damage (ap Err same));
   rows = tt;
   outputs = tt;
   of_rows = tt;
@@ -44,17 +38,11 @@ returns-in-Err-paid_by g c = record {
   read = read_on c.in-Ok.ensures.read c.report.ensures.read;
   fits = tt;
   later = c.in-Err-paid_by.ensures.later;
-  judged = λ stored rows site told is found.
-      let spent : c.deref.result.now ≡ map (found_row (blocks_of stored) c.args.at.now.parent) (inputs site c.args.tx.now) = c.deref.ensures.value ∙ found.spent_are in
-      let copied : AllZip (Copies (blocks_of stored) c.args.at.now.parent) (inputs site c.args.tx.now) c.in-Ok.inputs.items =
-      c.in-Ok.ensures.copied stored rows site (inputs site c.args.tx.now) told is (inputs-seen site c.args.tx.now) spent in
-      let copies : AllZip (Copies (blocks_of stored) c.args.at.now.parent) (inputs site c.args.tx.now) c.deref-2.result.now =
-      subst (λ (cs : List ResolvedValue). AllZip (Copies (blocks_of stored) c.args.at.now.parent) (inputs site c.args.tx.now) cs) (sym c.deref-2.ensures.value) copied in
-      let places : c.deref-3.result.now ≡ map (slice_index (branch_places (blocks_of stored) c.args.at.now.parent)) (heights site c.args.tx.now) = c.deref-3.ensures.value ∙ found.places_are in
-      c.in-Err-paid_by.ensures.judged stored rows site is copies places;
-  inputs = λ stored rows site told is found. tt;
-  deps = λ stored rows site told is found. tt;
-  paid = λ stored rows site told is found. tt;
+  exact = λ stored rows site told is found.
+      let copied = c.in-Ok.ensures.copied stored rows site (inputs site c.args.tx.now) told is (inputs-seen site c.args.tx.now) (c.deref.ensures.value ∙ found.spent_are) in
+      c.in-Err-paid_by.ensures.exact stored rows site is
+      (subst (λ (cs : List ResolvedValue). AllZip (Copies (blocks_of stored) c.args.at.now.parent) (inputs site c.args.tx.now) cs) (sym c.deref-2.ensures.value) copied)
+      (c.deref-3.ensures.value ∙ found.others.places_are);
   rows = tt;
   outputs = tt;
   of_rows = tt;
@@ -65,14 +53,10 @@ returns-in-Err-fetch_all g c = record {
   read = read_on c.in-Ok.ensures.read c.in-Err-fetch_all.ensures.read;
   fits = tt;
   later = later-read c.in-Err-fetch_all.stop (λ damage same. c.in-Err-fetch_all.ensures.read.damage damage (ap Some same));
-  judged = λ stored rows site told is found.
-      let named : c.deref-4.result.now ≡ map (found_row (blocks_of stored) c.args.at.now.parent) (deps site c.args.tx.now) = c.deref-4.ensures.value ∙ found.named_are in
+  exact = λ stored rows site told is found.
       read-stops (paying_rules site c.args.tx.now) c.in-Err-fetch_all.stop
-      (λ damage same. c.in-Err-fetch_all.ensures.undamaged stored rows site (deps site c.args.tx.now) (c.in-Ok.ensures.read.told ∙ told) is (deps-seen site c.args.tx.now) named
-      damage (ap Err same));
-  inputs = λ stored rows site told is found. tt;
-  deps = λ stored rows site told is found. tt;
-  paid = λ stored rows site told is found. tt;
+      (λ damage same. c.in-Err-fetch_all.ensures.undamaged stored rows site (deps site c.args.tx.now) (c.in-Ok.ensures.read.told ∙ told) is (deps-seen site c.args.tx.now)
+      (c.deref-4.ensures.value ∙ found.others.named_are) damage (ap Err same));
   rows = tt;
   outputs = tt;
   of_rows = tt;
@@ -83,28 +67,20 @@ returns-in-Ok-fetch_all g c = record {
   read = read_on c.in-Ok.ensures.read c.in-Ok-fetch_all.ensures.read;
   fits = c.in-Ok-paid_by.ensures.fits;
   later = tt;
-  judged = λ stored rows site told is found.
-      let spent : c.deref.result.now ≡ map (found_row (blocks_of stored) c.args.at.now.parent) (inputs site c.args.tx.now) = c.deref.ensures.value ∙ found.spent_are in
-      let copied : AllZip (Copies (blocks_of stored) c.args.at.now.parent) (inputs site c.args.tx.now) c.in-Ok.inputs.items =
-      c.in-Ok.ensures.copied stored rows site (inputs site c.args.tx.now) told is (inputs-seen site c.args.tx.now) spent in
-      let copies : AllZip (Copies (blocks_of stored) c.args.at.now.parent) (inputs site c.args.tx.now) c.deref-2.result.now =
-      subst (λ (cs : List ResolvedValue). AllZip (Copies (blocks_of stored) c.args.at.now.parent) (inputs site c.args.tx.now) cs) (sym c.deref-2.ensures.value) copied in
-      let places : c.deref-3.result.now ≡ map (slice_index (branch_places (blocks_of stored) c.args.at.now.parent)) (heights site c.args.tx.now) = c.deref-3.ensures.value ∙ found.places_are in
-      c.in-Ok-paid_by.ensures.judged stored rows site is copies places;
-  inputs = λ stored rows site told is found.
-      let spent : c.deref.result.now ≡ map (found_row (blocks_of stored) c.args.at.now.parent) (inputs site c.args.tx.now) = c.deref.ensures.value ∙ found.spent_are in
-      c.in-Ok.ensures.copied stored rows site (inputs site c.args.tx.now) told is (inputs-seen site c.args.tx.now) spent;
-  deps = λ stored rows site told is found.
-      let named : c.deref-4.result.now ≡ map (found_row (blocks_of stored) c.args.at.now.parent) (deps site c.args.tx.now) = c.deref-4.ensures.value ∙ found.named_are in
-      c.in-Ok-fetch_all.ensures.copied stored rows site (deps site c.args.tx.now) (c.in-Ok.ensures.read.told ∙ told) is (deps-seen site c.args.tx.now) named;
-  paid = λ stored rows site told is found.
-      let spent : c.deref.result.now ≡ map (found_row (blocks_of stored) c.args.at.now.parent) (inputs site c.args.tx.now) = c.deref.ensures.value ∙ found.spent_are in
-      let copied : AllZip (Copies (blocks_of stored) c.args.at.now.parent) (inputs site c.args.tx.now) c.in-Ok.inputs.items =
-      c.in-Ok.ensures.copied stored rows site (inputs site c.args.tx.now) told is (inputs-seen site c.args.tx.now) spent in
-      let copies : AllZip (Copies (blocks_of stored) c.args.at.now.parent) (inputs site c.args.tx.now) c.deref-2.result.now =
-      subst (λ (cs : List ResolvedValue). AllZip (Copies (blocks_of stored) c.args.at.now.parent) (inputs site c.args.tx.now) cs) (sym c.deref-2.ensures.value) copied in
-      let places : c.deref-3.result.now ≡ map (slice_index (branch_places (blocks_of stored) c.args.at.now.parent)) (heights site c.args.tx.now) = c.deref-3.ensures.value ∙ found.places_are in
-      c.in-Ok-paid_by.ensures.paid stored rows site is copies places;
+  exact = λ stored rows site told is found.
+      let copied = c.in-Ok.ensures.copied stored rows site (inputs site c.args.tx.now) told is (inputs-seen site c.args.tx.now) (c.deref.ensures.value ∙ found.spent_are) in
+      let pays = c.in-Ok-paid_by.ensures.exact stored rows site is
+      (subst (λ (cs : List ResolvedValue). AllZip (Copies (blocks_of stored) c.args.at.now.parent) (inputs site c.args.tx.now) cs) (sym c.deref-2.ensures.value) copied)
+      (c.deref-3.ensures.value ∙ found.others.places_are) in (
+        pays.0,
+        record {
+          inputs_are = copied;
+          deps_are =
+              c.in-Ok-fetch_all.ensures.copied stored rows site (deps site c.args.tx.now) (c.in-Ok.ensures.read.told ∙ told) is (deps-seen site c.args.tx.now)
+              (c.deref-4.ensures.value ∙ found.others.named_are);
+          paid = pays.1;
+        },
+      );
   rows = c.in-Ok.ensures.rows ∙ c.deref.ensures.value;
   outputs = All-append HoldsOutput c.in-Ok.inputs.items c.in-Ok-fetch_all.deps.items c.in-Ok.ensures.outputs c.in-Ok-fetch_all.ensures.outputs;
   of_rows =

@@ -1,8 +1,6 @@
-use Rattle.std.proofs.Common.{◌≡◌, ◌++◌, length, map, ap, ◌∙◌}
+use Rattle.std.proofs.Common.{◌++◌, length, ap, ◌∙◌}
 use Rattle.chain_defs.specs.Schema.{CellInput}
-use Rattle.chain_tree.specs.Told.{blocks_of}
-use Rattle.rule_defs.specs.Resolving.{inputs, deps}
-use Rattle.tx_rules.specs.At.{find_row, found_row}
+use Rattle.tx_rules.specs.At.{find_row}
 use Rattle.tx_rules.specs.Steps.{spending_rules, naming_rules, using_rules}
 use Rattle.tx_rules.proofs.AllThere.{all_there-long}
 use Rattle.chain_tree.proofs.ReadLemmas.{unread, read_on}
@@ -22,10 +20,9 @@ returns-in-Err g c = record {
   read = read_stopped c.in-Err.stop c.in-Err.ensures.undamaged c.in-Err.ensures.unread (unread c.args.blocks.now);
   stops = c.in-Err.ensures.stops;
   by_rows = follows-on c.args.proposed (g.C.Cells.rows c.args.cells.now) c.args.tx.now c.in-Err.stop c.in-Err.ensures.by_rows;
-  judged = λ stored site told is.
+  exact = λ stored site told is.
       stops-front (spending_rules c.args.proposed site c.args.tx.now) (naming_rules site c.args.tx.now ++ using_rules site c.args.tx.now) c.in-Err.stop
       (c.in-Err.ensures.judged stored c.args.at.now site is);
-  found = λ stored site told is. tt;
   form = tt;
   spent = tt;
   headers = tt;
@@ -36,11 +33,10 @@ returns-in-Err-named_rows g c = record {
   read = c.in-Err-named_rows.ensures.read;
   stops = later-stops c.args.proposed c.in-Err-named_rows.stop c.in-Err-named_rows.ensures.later;
   by_rows = follows-behind c.args.proposed (g.C.Cells.rows c.args.cells.now) c.args.tx.now c.in-Ok.spent _ c.in-Ok.ensures.by_rows c.in-Err-named_rows.ensures.later;
-  judged = λ stored site told is.
+  exact = λ stored site told is.
       stops-back (spending_rules c.args.proposed site c.args.tx.now) (naming_rules site c.args.tx.now ++ using_rules site c.args.tx.now) c.in-Err-named_rows.stop
       (c.in-Ok.ensures.judged stored c.args.at.now site is)
-      (stops-front (naming_rules site c.args.tx.now) (using_rules site c.args.tx.now) c.in-Err-named_rows.stop (c.in-Err-named_rows.ensures.judged stored site told is));
-  found = λ stored site told is. tt;
+      (stops-front (naming_rules site c.args.tx.now) (using_rules site c.args.tx.now) c.in-Err-named_rows.stop (c.in-Err-named_rows.ensures.exact stored site told is));
   form = tt;
   spent = tt;
   headers = tt;
@@ -51,16 +47,13 @@ returns-in-Err-try_cells g c = record {
   read = read_on c.in-Ok-named_rows.ensures.read c.report.ensures.read;
   stops = later-stops c.args.proposed c.in-Err-try_cells.stop c.in-Err-try_cells.ensures.later;
   by_rows = follows-behind c.args.proposed (g.C.Cells.rows c.args.cells.now) c.args.tx.now c.in-Ok.spent _ c.in-Ok.ensures.by_rows c.in-Err-try_cells.ensures.later;
-  judged = λ stored site told is.
-      let named : c.deref-2.result.now ≡ map (found_row (blocks_of stored) c.args.at.now.parent) (deps site c.args.tx.now) =
-      c.deref-2.ensures.value ∙ c.in-Ok-named_rows.ensures.cells stored site told is in
-      let spent : c.deref.result.now ≡ map (found_row (blocks_of stored) c.args.at.now.parent) (inputs site c.args.tx.now) =
-      c.deref.ensures.value ∙ spent-inputs stored c.args.at.now (g.C.Cells.rows c.args.cells.now) site c.args.tx.now c.in-Ok.spent.items is c.in-Ok.ensures.rows in
+  exact = λ stored site told is.
+      let names = c.in-Ok-named_rows.ensures.exact stored site told is in
+      let spent = spent-inputs stored c.args.at.now (g.C.Cells.rows c.args.cells.now) site c.args.tx.now c.in-Ok.spent.items is c.in-Ok.ensures.rows in
       stops-back (spending_rules c.args.proposed site c.args.tx.now) (naming_rules site c.args.tx.now ++ using_rules site c.args.tx.now) c.in-Err-try_cells.stop
       (c.in-Ok.ensures.judged stored c.args.at.now site is)
-      (stops-back (naming_rules site c.args.tx.now) (using_rules site c.args.tx.now) c.in-Err-try_cells.stop (c.in-Ok-named_rows.ensures.judged stored site told is)
-      (c.in-Err-try_cells.ensures.judged stored site is spent named));
-  found = λ stored site told is. tt;
+      (stops-back (naming_rules site c.args.tx.now) (using_rules site c.args.tx.now) c.in-Err-try_cells.stop names.0
+      (c.in-Err-try_cells.ensures.judged stored site is (c.deref.ensures.value ∙ spent) (c.deref-2.ensures.value ∙ names.1.named_are)));
   form = tt;
   spent = tt;
   headers = tt;
@@ -71,19 +64,14 @@ returns-in-Ok-try_cells g c = record {
   read = c.in-Ok-named_rows.ensures.read;
   stops = tt;
   by_rows = follows-behind c.args.proposed (g.C.Cells.rows c.args.cells.now) c.args.tx.now c.in-Ok.spent _ c.in-Ok.ensures.by_rows tt;
-  judged = λ stored site told is.
-      let named : c.deref-2.result.now ≡ map (found_row (blocks_of stored) c.args.at.now.parent) (deps site c.args.tx.now) =
-      c.deref-2.ensures.value ∙ c.in-Ok-named_rows.ensures.cells stored site told is in
-      let spent : c.deref.result.now ≡ map (found_row (blocks_of stored) c.args.at.now.parent) (inputs site c.args.tx.now) =
-      c.deref.ensures.value ∙ spent-inputs stored c.args.at.now (g.C.Cells.rows c.args.cells.now) site c.args.tx.now c.in-Ok.spent.items is c.in-Ok.ensures.rows in
-      keeps-all (spending_rules c.args.proposed site c.args.tx.now) (naming_rules site c.args.tx.now ++ using_rules site c.args.tx.now) (c.in-Ok.ensures.judged stored c.args.at.now site is)
-      (keeps-all (naming_rules site c.args.tx.now) (using_rules site c.args.tx.now) (c.in-Ok-named_rows.ensures.judged stored site told is)
-      (c.in-Ok-try_cells.ensures.judged stored site is spent named));
-  found = λ stored site told is. record {
-    spent_are = spent-inputs stored c.args.at.now (g.C.Cells.rows c.args.cells.now) site c.args.tx.now c.in-Ok.spent.items is c.in-Ok.ensures.rows;
-    named_are = c.in-Ok-named_rows.ensures.cells stored site told is;
-    places_are = c.in-Ok-named_rows.ensures.places stored site told is;
-  };
+  exact = λ stored site told is.
+      let names = c.in-Ok-named_rows.ensures.exact stored site told is in
+      let spent = spent-inputs stored c.args.at.now (g.C.Cells.rows c.args.cells.now) site c.args.tx.now c.in-Ok.spent.items is c.in-Ok.ensures.rows in (
+        keeps-all (spending_rules c.args.proposed site c.args.tx.now) (naming_rules site c.args.tx.now ++ using_rules site c.args.tx.now) (c.in-Ok.ensures.judged stored c.args.at.now site is)
+            (keeps-all (naming_rules site c.args.tx.now) (using_rules site c.args.tx.now) names.0
+            (c.in-Ok-try_cells.ensures.judged stored site is (c.deref.ensures.value ∙ spent) (c.deref-2.ensures.value ∙ names.1.named_are))),
+        record { spent_are = spent; others = names.1 },
+      );
   form = c.in-Ok.ensures.form;
   spent = c.in-Ok.ensures.rows;
   headers = c.in-Ok-named_rows.ensures.headers;

@@ -13,9 +13,8 @@ returns-in-Ok-false c = record {
   fits = tt;
   later = later-26;
   unread = broken_unread DiskFault;
-  judged = λ stored rows site is copies places.
+  exact = λ stored rows site is copies places.
       names-badly site c.args.tx.now (sym (c.in-Ok-false.ensures.named stored rows site is copies places) ∙ c.in-Ok-false.field-0-test);
-  paid = λ stored rows site is copies places. tt;
 }
 
 pub returns-in-Err : goal.returns-in-Err
@@ -23,9 +22,8 @@ returns-in-Err c = record {
   fits = tt;
   later = later-read c.in-Err.stop (λ damage same. c.in-Err.ensures.damage damage (ap Err same));
   unread = λ same. c.in-Err.ensures.no_fault (fault_read c.in-Err.stop same);
-  judged = λ stored rows site is copies places.
+  exact = λ stored rows site is copies places.
       read-stops (paying_rules site c.args.tx.now) c.in-Err.stop (λ damage same. c.in-Err.ensures.undamaged stored rows site is copies places damage (ap Err same));
-  paid = λ stored rows site is copies places. tt;
 }
 
 pub returns-in-Ok-Some : goal.returns-in-Ok-Some
@@ -33,14 +31,10 @@ returns-in-Ok-Some c = record {
   fits = rw c.in-Ok-Some.field-0-is at c.in-Ok-Some.ensures.fits;
   later = tt;
   unread = no_answer _ _;
-  judged = λ stored rows site is copies places.
+  exact = λ stored rows site is copies places.
       let named : names_deposits site c.args.tx.now ≡ true = sym (c.in-Ok-true.ensures.named stored rows site is copies places) ∙ c.in-Ok-true.field-0-test in
       let balance = rw c.in-Ok-Some.field-0-is at (c.in-Ok-Some.ensures.balance stored rows site is copies places named) in
-      pays-well site c.args.tx.now named balance.0;
-  paid = λ stored rows site is copies places.
-      let named : names_deposits site c.args.tx.now ≡ true = sym (c.in-Ok-true.ensures.named stored rows site is copies places) ∙ c.in-Ok-true.field-0-test in
-      let balance = rw c.in-Ok-Some.field-0-is at (c.in-Ok-Some.ensures.balance stored rows site is copies places named) in
-      record { fee_is = balance.1; interest_is = balance.2 };
+      (pays-well site c.args.tx.now named balance.0, record { fee_is = balance.1; interest_is = balance.2 });
 }
 
 pub returns-in-Ok-None : goal.returns-in-Ok-None
@@ -48,10 +42,9 @@ returns-in-Ok-None c = record {
   fits = tt;
   later = later-27;
   unread = broken_unread DiskFault;
-  judged = λ stored rows site is copies places.
+  exact = λ stored rows site is copies places.
       let named : names_deposits site c.args.tx.now ≡ true = sym (c.in-Ok-true.ensures.named stored rows site is copies places) ∙ c.in-Ok-true.field-0-test in
       pays-badly site c.args.tx.now named (rw c.in-Ok-None.field-0-is at (c.in-Ok-None.ensures.balance stored rows site is copies places named));
-  paid = λ stored rows site is copies places. tt;
 }
 
 pub returns-in-Err-balance_of : goal.returns-in-Err-balance_of
@@ -59,8 +52,7 @@ returns-in-Err-balance_of c = record {
   fits = tt;
   later = c.in-Err-balance_of.ensures.damage c.in-Err-balance_of.damage refl;
   unread = damage_unread c.in-Err-balance_of.damage;
-  judged = λ stored rows site is copies places.
+  exact = λ stored rows site is copies places.
       let named : names_deposits site c.args.tx.now ≡ true = sym (c.in-Ok-true.ensures.named stored rows site is copies places) ∙ c.in-Ok-true.field-0-test in
       c.in-Err-balance_of.ensures.undamaged stored rows site is copies places named c.in-Err-balance_of.damage refl;
-  paid = λ stored rows site is copies places. tt;
 }

@@ -1,9 +1,8 @@
-use Rattle.std.proofs.Common.{◌≡◌, ◌<◌, ◌^◌, ℤ, nat_abs, ◌++◌, List, Option, subst, sym, ◌∙◌, rules}
+use Rattle.std.proofs.Common.{◌<◌, ◌^◌, ℤ, nat_abs, ◌++◌, List, Option, subst, sym, ◌∙◌, rules}
 use Rattle.std.specs.Int.{w128}
 use Rattle.std.specs.List.{All}
 use Rattle.std.proofs.lemmas.Int.{to_z-of_z}
 use Rattle.chain_defs.specs.Schema.{CellInput}
-use Rattle.rule_defs.specs.Capacity.{interest}
 use Rattle.chain_tree.specs.Told.{Stored}
 use Rattle.tx_rules.specs.At.{find_row}
 use Rattle.tx_rules.specs.Copying.{CopiesItsRow}
@@ -11,7 +10,7 @@ use Rattle.tx_rules.proofs.AllThere.{all_there-long}
 use Rattle.tx_rules.specs.Steps.{finding_rules, paying_rules}
 use Rattle.outside.proofs.Endings.{no_answer}
 use Rattle.chain_tree.proofs.ReadLemmas.{read_on}
-use Rattle.tx_rules.proofs.RuleLemmas.{rows-named, stops-front, stops-back, tried-of, broken-of, undamaged-of, all-rules, keeps-all, copied-inputs}
+use Rattle.tx_rules.proofs.RuleLemmas.{rows-named, stops-front, stops-back, tried-of, keeps-all, copied-inputs}
 use Rattle.tx_rules.proofs.RowRuleLemmas.{later-stops, follows-on, follows-behind}
 use Rattle.tx_rules.proofs.resolving.resolve.Goals as goal
 
@@ -31,16 +30,8 @@ returns-in-Err g c = record {
   tried = λ rule same. tried-of c.args.proposed _ rule c.in-Err.ensures.stops same;
   by_rows = follows-on c.args.proposed (g.C.Cells.rows c.args.cells.now) c.args.tx.now c.in-Err.stop c.in-Err.ensures.by_rows;
   fits = tt;
-  broken = λ stored site told is rule same.
-      broken-of c.args.proposed site c.args.tx.now _ rule
-      (stops-front (finding_rules c.args.proposed site c.args.tx.now) (paying_rules site c.args.tx.now) c.in-Err.stop (c.in-Err.ensures.judged stored site told is)) same;
-  unbroken = λ stored site told is. tt;
-  resolved = λ stored site told is. tt;
-  fee = λ stored site told is. tt;
-  interest = λ stored site told is. tt;
-  undamaged = λ stored site told is damage same.
-      undamaged-of (finding_rules c.args.proposed site c.args.tx.now ++ paying_rules site c.args.tx.now) _ damage
-      (stops-front (finding_rules c.args.proposed site c.args.tx.now) (paying_rules site c.args.tx.now) c.in-Err.stop (c.in-Err.ensures.judged stored site told is)) same;
+  exact = λ stored site told is.
+      stops-front (finding_rules c.args.proposed site c.args.tx.now) (paying_rules site c.args.tx.now) c.in-Err.stop (c.in-Err.ensures.exact stored site told is);
 }
 
 pub returns-in-Err-copy_cells : goal.returns-in-Err-copy_cells
@@ -51,18 +42,10 @@ returns-in-Err-copy_cells g c = record {
   tried = λ rule same. tried-of c.args.proposed _ rule (later-stops c.args.proposed c.in-Err-copy_cells.stop c.in-Err-copy_cells.ensures.later) same;
   by_rows = follows-behind c.args.proposed (g.C.Cells.rows c.args.cells.now) c.args.tx.now c.in-Ok.found _ c.in-Ok.ensures.by_rows c.in-Err-copy_cells.ensures.later;
   fits = tt;
-  broken = λ stored site told is rule same.
-      broken-of c.args.proposed site c.args.tx.now _ rule
-      (stops-back (finding_rules c.args.proposed site c.args.tx.now) (paying_rules site c.args.tx.now) c.in-Err-copy_cells.stop (c.in-Ok.ensures.judged stored site told is)
-      (c.in-Err-copy_cells.ensures.judged stored (g.C.Cells.rows c.args.cells.now) site (c.in-Ok.ensures.read.told ∙ told) is (c.in-Ok.ensures.found stored site told is))) same;
-  unbroken = λ stored site told is. tt;
-  resolved = λ stored site told is. tt;
-  fee = λ stored site told is. tt;
-  interest = λ stored site told is. tt;
-  undamaged = λ stored site told is damage same.
-      undamaged-of (finding_rules c.args.proposed site c.args.tx.now ++ paying_rules site c.args.tx.now) _ damage
-      (stops-back (finding_rules c.args.proposed site c.args.tx.now) (paying_rules site c.args.tx.now) c.in-Err-copy_cells.stop (c.in-Ok.ensures.judged stored site told is)
-      (c.in-Err-copy_cells.ensures.judged stored (g.C.Cells.rows c.args.cells.now) site (c.in-Ok.ensures.read.told ∙ told) is (c.in-Ok.ensures.found stored site told is))) same;
+  exact = λ stored site told is.
+      let found = c.in-Ok.ensures.exact stored site told is in
+      stops-back (finding_rules c.args.proposed site c.args.tx.now) (paying_rules site c.args.tx.now) c.in-Err-copy_cells.stop found.0
+      (c.in-Err-copy_cells.ensures.exact stored (g.C.Cells.rows c.args.cells.now) site (c.in-Ok.ensures.read.told ∙ told) is found.1);
 }
 
 pub returns : goal.returns
@@ -83,20 +66,14 @@ returns g c = record {
   by_rows = follows-behind c.args.proposed (g.C.Cells.rows c.args.cells.now) c.args.tx.now c.in-Ok.found _ c.in-Ok.ensures.by_rows tt;
   fits =
       subst (λ (z : ℤ). nat_abs z < 2 ^ 96) (sym (to_z-of_z w128 c.in-Ok-copy_cells.copied.balance.interest (search rules))) c.in-Ok-copy_cells.ensures.fits;
-  broken = λ stored site told is rule same. absurd (no_answer _ _ same);
-  unbroken = λ stored site told is.
-      all-rules c.args.proposed site c.args.tx.now ∙ keeps-all (finding_rules c.args.proposed site c.args.tx.now) (paying_rules site c.args.tx.now) (c.in-Ok.ensures.judged stored site told is)
-      (c.in-Ok-copy_cells.ensures.judged stored (g.C.Cells.rows c.args.cells.now) site (c.in-Ok.ensures.read.told ∙ told) is (c.in-Ok.ensures.found stored site told is));
-  resolved = λ stored site told is. record {
-    inputs_are = c.in-Ok-copy_cells.ensures.inputs stored (g.C.Cells.rows c.args.cells.now) site (c.in-Ok.ensures.read.told ∙ told) is (c.in-Ok.ensures.found stored site told is);
-    deps_are = c.in-Ok-copy_cells.ensures.deps stored (g.C.Cells.rows c.args.cells.now) site (c.in-Ok.ensures.read.told ∙ told) is (c.in-Ok.ensures.found stored site told is);
-    headers_are = (c.in-Ok.ensures.found stored site told is).places_are;
-  };
-  fee = λ stored site told is.
-      (c.in-Ok-copy_cells.ensures.paid stored (g.C.Cells.rows c.args.cells.now) site (c.in-Ok.ensures.read.told ∙ told) is (c.in-Ok.ensures.found stored site told is)).fee_is;
-  interest = λ stored site told is.
-      let paid : c.in-Ok-copy_cells.copied.balance.interest ≡ interest site c.args.tx.now =
-      (c.in-Ok-copy_cells.ensures.paid stored (g.C.Cells.rows c.args.cells.now) site (c.in-Ok.ensures.read.told ∙ told) is (c.in-Ok.ensures.found stored site told is)).interest_is in
-      to_z-of_z w128 c.in-Ok-copy_cells.copied.balance.interest (search rules) ∙ paid;
-  undamaged = λ stored site told is damage same. no_answer _ _ same;
+  exact = λ stored site told is.
+      let found = c.in-Ok.ensures.exact stored site told is in
+      let copied = c.in-Ok-copy_cells.ensures.exact stored (g.C.Cells.rows c.args.cells.now) site (c.in-Ok.ensures.read.told ∙ told) is found.1 in (
+        keeps-all (finding_rules c.args.proposed site c.args.tx.now) (paying_rules site c.args.tx.now) found.0 copied.0,
+        record {
+          resolved = record { inputs_are = copied.1.inputs_are; deps_are = copied.1.deps_are; headers_are = found.1.others.places_are };
+          fee_is = copied.1.paid.fee_is;
+          interest_is = to_z-of_z w128 c.in-Ok-copy_cells.copied.balance.interest (search rules) ∙ copied.1.paid.interest_is;
+        },
+      );
 }
