@@ -1,4 +1,4 @@
--- What a session leaves of a store, and what sessions leave that follow one another (docs/PROVED.md, "Sessions").
+-- What a session leaves of a store, and what sessions leave that follow one another (crates/made_chain/README.md, "Sessions").
 use Rattle.std.specs.Prelude.{◌≡◌, Bool, true, false, ℕ, ◌+◌, ◌<◌, ◌≤◌, ◌^◌, List, [], ◌∷◌, All, map, length, take, Option, None}
 use Rattle.std.specs.List.{filter}
 use Rattle.std.specs.declared.alloc.Global.{Global}

@@ -176,7 +176,8 @@ fn count_made<J: Judging, L: Ledger>(
 
 /// What is counted where the blocks of a seed, so many of them, at most 20,000, are imported one after the other over their genesis.
 /// They are kept on a disk in memory, and steps are counted for no one. `Err` is want of memory, also where the disk meets it.
-/// That nothing else gives it rests on the generated genesis keeping its rules, which is tested.
+/// That nothing else gives it rests on the rules that the generated genesis keeps (`genesis_laws` of gen_defs), and on the sizes of
+/// the blocks, which are only tested.
 pub fn counts_of<J: Judging>(
     alloc: Global,
     judge: &J,

@@ -4,13 +4,14 @@ use Rattle.std.specs.Prelude.{Result, Ok, Err, IfOk, IfSome, IsTrue, IsSomeAnd, 
 use Rattle.std.proofs.lemmas.Bool.Decides.{Decides-eqb}
 use Rattle.std.proofs.lemmas.List.{append-nil, append_assoc, length_push, length-map, map-append}
 use Rattle.std.proofs.lemmas.Option.{slice_get_within, same_Some}
-use Rattle.chain_defs.specs.Shape.{decoded}
+use Rattle.chain_defs.specs.Shape.{IsA, decoded}
 use Rattle.chain_defs.specs.Schema.{OutPoint, Block, block}
 use Rattle.chain_defs.specs.Specification.{Specification}
 use Rattle.chain_defs.specs.Kept.{block_hash, block_at, StandsOn, IsKept, follows, kept_limit}
 use Rattle.chain_defs.specs.Branch.{branch}
 use Rattle.std.specs.Option.{option_and_then}
 use Rattle.chain_defs.specs.Tip.{tip, tip_place}
+use Rattle.chain_defs.proofs.ShapeLaws.{IsA-decoded}
 use Rattle.chain_defs.proofs.KeptLaws.{slice_get-below, slice_get-pushed, place_of-below, place_of-there, IsKept-push}
 use Rattle.chain_defs.proofs.BranchLaws.{branch-last}
 use Rattle.chain_defs.proofs.TipLaws.{tip_place-there, tip_place-below, tip_place-push}
@@ -253,6 +254,11 @@ fits-on chain b joining may ready =
 pub ready-for : (kept : List Block) (item : List ℕ) (b : Block) (joining : Joining) → ((x : Block) × (decoded block item ≡ Some x) × IsReady kept x joining)
     → decoded block item ≡ Some b → IsReady kept b joining
 ready-for kept item b joining (x, is, ready) found = subst (λ (y : Block). IsReady kept y joining) (same_Some x b (sym is ∙ found)) ready
+
+-- and what is seen of it is that block
+pub seen-block : (kept : List Block) (item : List ℕ) (seen : Block) (joining : Joining) → ((x : Block) × (decoded block item ≡ Some x) × IsReady kept x joining)
+    → ((x : Block) → IsA block item x → seen ≡ x) → decoded block item ≡ Some seen
+seen-block kept item seen joining (x, is, ready) same = is ∙ ap Some (sym (same x (IsA-decoded block item x is)))
 
 -- an entry with the record's name
 pub describes-named : (b : Block) (entry named : Entry) → Describes b entry → named.hash ≡ entry.hash → named.number ≡ entry.number

@@ -31,4 +31,5 @@ pub mod RecordedLemmas
 pub mod SnapshotLemmas
 pub mod SourceLemmas
 pub mod StayingLemmas
+pub mod ImportedLemmas
 pub mod WritingLemmas

@@ -18,6 +18,7 @@ use Rattle.store_defs.specs.Store.{StandsFor, IsJoined, HaveOwnExts}
 use Rattle.store_defs.proofs.JoinedLemmas.{joined_after}
 use Rattle.node_store.specs.Held.{CacheValue}
 use Rattle.node_store.specs.Kept.{KeptValue, AreOfTip}
+use Rattle.node_store.specs.Import.{LeavesEither}
 use Rattle.node_store.specs.Node.{NodeValue, node_of, IsReadBy, IsOf, IsItsOwn, IsSoundNode, IsSoundOn, IsOnlyImage, IsOn, IsLeftByImport}
 use Rattle.node_store.proofs.KeepingLemmas.{left_there}
 
@@ -84,6 +85,13 @@ of-told node chain reads images only own = subst (λ (o : Option Image). IfSome 
 
 pub sound-on : (node : NodeValue) (reads : Option Image) (images : Image → Type 0) → IsOn node reads images → IsSoundOn node reads
 sound-on node reads images on = record { sound = on.sound; told = subst IsSome (sym on.image.told) refl }
+
+-- what a crash leaves of a node that is on its disk, while an item is imported
+pub moments-on : {S : Type 0} {reads_as : S → Option Image} {images : S → Image → Type 0} {moment : S → ℕ} {left_since : S → ℕ → Image → Type 0} {old new : S}
+    (node : NodeValue) (item : List ℕ) → LeavesEither reads_as images moment left_since old new (IsSoundOn node (reads_as old)) node item
+    → IsOn node (reads_as old) (images old)
+    → LeavesOnly moment left_since old new (λ image. StandsFor node.chain image ⊎ StandsFor (chain_after node.chain item) image)
+moments-on {reads_as = reads_as} {images = images} {old = old} node item left on = left.moments (sound-on node (reads_as old) (images old) on) on.image
 
 -- a node with one more block
 pub sound-joined : (chain : Chain) (item : List ℕ) (next : NodeValue) → next.chain ≡ chain_after chain item → IsJoined chain → HaveOwnExts next.chain next.exts

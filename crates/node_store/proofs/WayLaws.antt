@@ -2,7 +2,7 @@
 use Rattle.std.proofs.Common.{◌≡◌, ◌<◌, List, length, map, take, Some, sym, ap, ◌∙◌, subst, arith}
 use Rattle.std.specs.Prelude.{slice_get}
 use Rattle.std.specs.Option.{option_map, option_and_then}
-use Rattle.std.proofs.lemmas.Option.{slice_get-map, same_Some}
+use Rattle.std.proofs.lemmas.Option.{slice_get-map, slice_get_within, same_Some}
 use Rattle.chain_defs.specs.Schema.{Block}
 use Rattle.chain_defs.specs.Kept.{block_at, place_of, parent_place}
 use Rattle.chain_defs.specs.Branch.{branch}
@@ -14,6 +14,7 @@ use Rattle.verdict_defs.specs.Ext.{ext_of}
 use Rattle.store_defs.specs.Store.{first_of, own_ext, ext_on}
 use Rattle.store_defs.proofs.KeptLaws.{kept-exts-take-back}
 use Rattle.cell_state.specs.Moves.{CanBeTakenBack}
+use Rattle.cell_state.proofs.RowLemmas.{branch-some}
 use Rattle.node_store.specs.ReorgLaws.{JoinedCanBeTakenBack}
 use Rattle.node_store.proofs.FitLaws.{joined-exts-fit}
 
@@ -21,6 +22,7 @@ pub joined-can-be-taken-back : JoinedCanBeTakenBack
 joined-can-be-taken-back chain stored same are canonical place parent it found named =
     subst (λ (kept : List Block). CanBeTakenBack it.block it.ext (live_row kept place) (live_row kept parent)) (sym same) (record {
       height = length (branch chain.blocks parent);
+      above = let within = slice_get_within chain.blocks place it.block there in branch-some chain.blocks parent (omega (arith, below, within));
       ext = own;
       fits = joined-exts-fit chain are.joined canonical place parent it.block there on;
       bytes_are = bytes;

@@ -7,6 +7,7 @@ pub mod Judging
 pub mod Steps
 pub mod Queries
 pub mod Node
+pub mod Import
 pub mod Gathering
 pub mod Opening
 pub mod Snapshot

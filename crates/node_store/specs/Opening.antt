@@ -1,5 +1,5 @@
 -- What opening a store leaves of its disk, and what it reads there.
-use Rattle.std.specs.Prelude.{◌≡◌, ◌≢◌, ◌⊎◌, ℕ, List, drop, slice_index, Option, Some}
+use Rattle.std.specs.Prelude.{◌≡◌, ◌≢◌, ◌⊎◌, ℕ, List, drop, slice_index, Option, Some, IfSome}
 use Rattle.outside.specs.declared.disk.Area.{Area}
 use Rattle.outside.specs.declared.disk.Area.TheVariants.{Log, SnapA, SnapB}
 use Rattle.outside.specs.declared.disk.Damage.{Damage}
@@ -14,9 +14,10 @@ use Rattle.log_file.specs.Opening.{IsOpened}
 use Rattle.disk_defs.specs.Snapshot.{Snapshot, Holds}
 use Rattle.snapshots.specs.Reading.{IsDamaged, IsOfTree, damage_in}
 use Rattle.chain_tree.specs.Damages.{IsOfBlock}
+use Rattle.chain_tree.specs.Reading.{nothing_found}
 use Rattle.verdict_defs.specs.Chain.{Chain}
 use Rattle.store_defs.specs.Store.{Keeps, store_of, IsSound, AreJoined}
-use Rattle.node_store.specs.Node.{NodeValue, IsOf, IsLeftByOpening}
+use Rattle.node_store.specs.Node.{NodeValue, IsOf, IsItsOwn, IsSoundNode, IsOn, IsLeftByOpening}
 use Rattle.node_store.specs.Gathering.{IsUnfitFrom}
 use Rattle.node_store.specs.Snapshot.{newest}
 
@@ -86,3 +87,15 @@ pub record IsReadFrom (node : NodeValue) (reads : Option Image) (images : Image 
   pub settled : IsSettled node.place (records_of (drop 8 image.log)) reads images
   pub of : IsOf node reads images
   pub joined : IsSound image → AreJoined node.chain node.exts
+
+-- A node is opened on a disk: it has the chain that the store keeps, a damaged snapshot was not passed over, the disk is its own and settled with the
+-- records that it had; it is sound where the store was, and on the disk where each image was sound. No damage was found, and it holds so many blocks.
+pub record IsOpenedNode (node : NodeValue) (held : ℕ) (reads_old reads_new : Option Image) (old new : Image → Type 0) : Type 0 where
+  pub kept : IfSome reads_old (λ now. store_of now ≡ Keeps node.chain)
+  pub whole : IfSome reads_old (HasNewestOf node.entries)
+  pub own : IsItsOwn node reads_new new
+  pub settled : IfSome reads_old (λ now. IsSettled node.place (records_of (drop 8 now.log)) reads_new new)
+  pub on : ((image : Image) → old image → IsSound image) → IfSome reads_old (λ _. IsOn node reads_new new)
+  pub sound : (now : Image) → reads_old ≡ Some now → IsSound now → IsSoundNode node
+  pub found : node.damages ≡ nothing_found
+  pub room : node.most ≡ held

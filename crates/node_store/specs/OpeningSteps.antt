@@ -1,4 +1,4 @@
--- How many steps the live cells take as a store is opened (docs/PROVED.md, "node_store").
+-- How many steps the live cells take as a store is opened (crates/node_store/README.md).
 use Rattle.std.specs.Prelude.{ℕ, ◌+◌, List, Option, Some, None}
 use Rattle.chain_defs.specs.Schema.{Block}
 use Rattle.chain_defs.specs.Branch.{distance}

@@ -1,4 +1,4 @@
--- How many steps the live cells take for an item: a step takes the events of a block, or takes a block back (docs/PROVED.md, "node_store").
+-- How many steps the live cells take for an item: a step takes the events of a block, or takes a block back (crates/node_store/README.md).
 use Rattle.std.specs.Prelude.{ℕ, ◌+◌, ◌*◌, List, [], ◌∷◌, Option, Some, None, is_some, if◌then◌else◌}
 use Rattle.chain_defs.specs.Shape.{decoded}
 use Rattle.chain_defs.specs.Schema.{Block, block}

@@ -163,10 +163,7 @@ impl Kept {
         ensures reads { result ≢ Err DiskFault }
         ensures most { steps.new ≤ steps.old + 1 }
     {
-        let Some(block) = BlockView::read(item) else {
-            drop((self, state));
-            return Err(ReadStop::NoMemory);
-        };
+        let block = BlockView::from_encoding(item);
         let Kept {
             spec,
             mut blocks,

@@ -28,9 +28,10 @@ ghost use Rattle.store_defs.specs.Store.{Keeps, store_of, StandsFor, IsSound};
 ghost use Rattle.node_store.specs.Held.{held_at};
 ghost use Rattle.log_file.specs.declared.stop.LogStop.TheVariants as log_stops;
 ghost use Rattle.log_file.specs.Stops.{OfDamage, IsInLog};
-ghost use Rattle.node_store.specs.Node.{node_of, IsItsOwn, IsSoundNode, IsSoundOn, IsOnlyImage, IsOn, LeavesAll, IsLeftByImport, IsSettledAfter};
+ghost use Rattle.node_store.specs.Import.{IsImported, LeavesEither, IsLogged, TakesSteps, IsDecidedOn};
+ghost use Rattle.node_store.specs.Node.{node_of, IsItsOwn, IsSoundNode, IsSoundOn, IsOnlyImage, IsOn, LeavesAll};
 ghost use Rattle.node_store.specs.Kept.{AreOfTip, AreOfKept};
-ghost use Rattle.node_store.specs.Opening.{LeavesStore, IsReadFrom, NameItsBodies, IsNoneFrom, IsNoStoreAt, HasNewestOf};
+ghost use Rattle.node_store.specs.Opening.{LeavesStore, IsReadFrom, IsOpenedNode, NameItsBodies, IsNoneFrom, IsNoStoreAt};
 ghost use Rattle.outside.specs.declared.disk.WriteStop.TheVariants as write_stops;
 ghost use Rattle.node_store.specs.Snapshot.{snapshot_at, OthersReadBut, HasSnapshot, LacksSnapshot};
 ghost use Rattle.node_store.specs.Steps.{moves_for};
@@ -171,23 +172,13 @@ impl Node {
         steps: &mut Steps<L>,
     ) -> Result<Node, LogStop>
         requires { 1 ≤ held }
-        ensures kept { IfOk result (λ node. IfSome (D.reads_as disk.old) (λ now. store_of now ≡ Keeps node.chain)) }
+        ensures opened { IfOk result (λ node. IsOpenedNode node held (D.reads_as disk.old) (D.reads_as disk.new) (D.images disk.old) (D.images disk.new)) }
         ensures not_a_store { IfErr result (OfDamage (λ _. IfSome (D.reads_as disk.old) (λ now. IsSound now → ⊥))) }
         ensures damage { IfErr result (OfDamage (λ damage. IfSome (D.reads_as disk.old) (λ now. IsNoStoreAt now damage))) }
-        // A damaged snapshot is not passed over.
-        ensures whole { IfOk result (λ node. IfSome (D.reads_as disk.old) (HasNewestOf node.entries)) }
         ensures left { LeavesStore D.reads_as D.images D.moment D.left_since disk.old disk.new }
-        ensures own { IfOk result (λ node. IsItsOwn node (D.reads_as disk.new) (D.images disk.new)) }
-        ensures settled { IfOk result (λ node. IfSome (D.reads_as disk.old) (λ now.
-            IsSettled node.place (records_of (drop 8 now.log)) (D.reads_as disk.new) (D.images disk.new))) }
         ensures one_image { OnOk result (HasOneImage (D.reads_as disk.new) (D.images disk.new)) }
-        ensures on { ((image : Image) → D.images disk.old image → IsSound image)
-            → IfOk result (λ node. IfSome (D.reads_as disk.old) (λ _. IsOn node (D.reads_as disk.new) (D.images disk.new))) }
-        ensures sound { (now : Image) → D.reads_as disk.old ≡ Some now → IsSound now → IfOk result IsSoundNode }
         ensures moments { (now : Image) (chain : Chain) → D.reads_as disk.old ≡ Some now → store_of now ≡ Keeps chain → ((image : Image) → D.images disk.old image → IsSound image)
             → LeavesOnly D.moment D.left_since disk.old disk.new (λ image. D.images disk.old image ⊎ StandsFor chain image) }
-        ensures found { IfOk result (λ node. node.damages ≡ nothing_found) }
-        ensures room { IfOk result (λ node. node.most ≡ held) }
         ensures cause { CountsFault (D.faults disk.old) (D.faults disk.new) (result ≡ Err LogStop.DiskFault) }
         ensures most { (now : Image) → D.reads_as disk.old ≡ Some now → steps.new ≤ steps.old + moves_to_open now }
     {
@@ -235,52 +226,31 @@ impl Node {
     ) -> Result<(Node, Verdict), ReadStop>
         requires size { length item.now < 2 ^ 31 }
         requires own { IsItsOwn self (D.reads_as disk.old) (D.images disk.old) }
-        ensures own { IfOk result (λ answer. IsItsOwn answer.0 (D.reads_as disk.new) (D.images disk.new)) }
-        ensures verdict { IsSoundOn self (D.reads_as disk.old) → IfOk result (λ answer. answer.1 ≡ verdict_over self.chain item.now) }
-        ensures kept { IsSoundOn self (D.reads_as disk.old) → IfOk result (λ answer. answer.0.chain ≡ chain_after self.chain item.now) }
-        ensures sound { IsSoundOn self (D.reads_as disk.old) → IfOk result (λ answer. IsSoundNode answer.0) }
-        ensures on { IsOn self (D.reads_as disk.old) (D.images disk.old) → IfOk result (λ answer. IsOn answer.0 (D.reads_as disk.new) (D.images disk.new)) }
-        ensures moments { IsOn self (D.reads_as disk.old) (D.images disk.old)
-            → LeavesOnly D.moment D.left_since disk.old disk.new (λ image. StandsFor self.chain image ⊎ StandsFor (chain_after self.chain item.now) image) }
-        ensures settled { (records : List Record) → IsSettled self.place records (D.reads_as disk.old) (D.images disk.old)
-            → IfOk result (λ answer. IsSettledAfter records item.now answer.1 answer.0.place (D.reads_as disk.new) (D.images disk.new)) }
-        ensures keeps { (records : List Record) → IsSettled self.place records (D.reads_as disk.old) (D.images disk.old)
-            → LeavesOnly D.moment D.left_since disk.old disk.new (IsLeftByImport self.place records item.now (D.images disk.old)) }
-        // No area but LOG reads otherwise, and no area of a snapshot unless one is due, and then its own alone.
-        ensures others { OthersReadBut (snapshot_at (length self.chain.blocks)) (D.reads_as disk.old) (D.reads_as disk.new) }
-        // Where one is due, it is there before the answer: that of the new tip.
-        ensures snapshot { (number : ℕ) → IsSoundOn self (D.reads_as disk.old) → joins (verdict_over self.chain item.now) ≡ true
-            → snapshot_at (length self.chain.blocks) ≡ Some number
-            → IfOk result (λ answer. IfSome (D.reads_as disk.new) (HasSnapshot answer.0.chain.blocks number)) }
-        ensures still { IsSoundOn self (D.reads_as disk.old) → joins (verdict_over self.chain item.now) ≡ false
-            → D.content_of disk.new ≡ D.content_of disk.old }
-        ensures unwritten { IfOk result (λ answer. joins answer.1 ≡ false → D.content_of disk.new ≡ D.content_of disk.old) }
-        // Without a fault the disk is as it was, but where memory was wanted for a snapshot: then the block's record is there.
-        ensures untouched { IfErr result (λ stop. stop ≢ DiskFault → (D.content_of disk.new ≡ D.content_of disk.old)
-            ⊎ LacksSnapshot (length self.chain.blocks) self.place item.now stop (D.reads_as disk.old) (D.reads_as disk.new) (D.images disk.old) (D.images disk.new)) }
+        ensures imported { IfOk result (λ answer. IsImported self answer.0 item.now answer.1 (D.reads_as disk.old) (D.reads_as disk.new) (D.images disk.old) (D.images disk.new)) }
+        ensures left { LeavesEither D.reads_as D.images D.moment D.left_since disk.old disk.new (IsSoundOn self (D.reads_as disk.old)) self item.now }
+        ensures logged { IsLogged self item.now result (D.content_of disk.old) (D.content_of disk.new) (D.reads_as disk.old) (D.reads_as disk.new) (D.images disk.old) (D.images disk.new) }
+        ensures stepped { TakesSteps self item.now result steps.old steps.new }
         ensures undamaged { IsSoundOn self (D.reads_as disk.old) → (damage : Damage) → result ≡ Err (Damaged damage) → ⊥ }
         ensures damage { (damage : Damage) → result ≡ Err (Damaged damage) → damage.area ≡ log_area }
-        ensures found { IfOk result (λ answer. answer.0.damages ≡ self.damages) }
-        ensures room { IfOk result (λ answer. answer.0.most ≡ self.most) }
         ensures cause { CountsFault (D.faults disk.old) (D.faults disk.new) (result ≡ Err DiskFault) }
-        ensures spec { IfOk result (λ answer. answer.0.chain.spec ≡ self.chain.spec) }
-        ensures holds { IfOk result (λ answer. joins answer.1 ≡ true → IsSome (held_at answer.0.held (length self.chain.blocks))) }
-        ensures sight { moves_for self.chain item.now ≡ 0 → disk.new ≡ disk.old }
         ensures asked { result ≡ Err ReadStop.NoMemory → MayWantMemory self.chain item.now }
-        ensures steps { (b : Block) → decoded schema.block item.now ≡ Some b
-            → place_of self.chain.blocks b.header.parent_hash ≡ tip_place self.chain.blocks → steps.new ≤ steps.old + 1 }
-        ensures most { steps.new ≤ steps.old + moves_for self.chain item.now }
-        ensures stays { IfOk result (λ answer. joins answer.1 ≡ false → steps.new ≤ steps.old + (moves_for self.chain item.now - 1)) }
+        ensures sight { moves_for self.chain item.now ≡ 0 → disk.new ≡ disk.old }
     {
         // as many as joined once it does: all that are kept but the genesis
-        let joined = self.kept.tree().len();
-        let (next, verdict) = match self.import_block(alloc, disk, judge, item, steps) {
-            Ok(answer) => answer,
+        let joined = self.tree().len();
+        let (node, decision) = match self.decide(alloc, disk, judge, item, steps) {
+            Ok(decided) => decided,
             Err(stop) => return Err(stop),
         };
-        if !verdict.joins() {
-            return Ok((next, verdict));
-        }
+        let joining = match decision {
+            Decision::Stays(verdict) => return Ok((node, verdict)),
+            Decision::Joins(joining) => joining,
+        };
+        let verdict = Verdict::Joined(joining.entry.number, joining.entry.hash);
+        let next = match join(node, alloc, disk, item, joining, steps) {
+            Ok(next) => next,
+            Err(stop) => return Err(stop),
+        };
         match take_snapshot(alloc, disk, joined, &next.kept, &next.state) {
             Ok(()) => Ok((next, verdict)),
             Err(stop) => {
@@ -290,47 +260,24 @@ impl Node {
         }
     }
 
-    /// Judges an item over the kept blocks, and where it joins keeps it and puts its record on the disk. No snapshot is taken.
-    fn import_block<D: Disk, J: Judging, L: Ledger>(
+    /// Asks a judge what is to become of an item. The live cells then stand where it goes on from.
+    fn decide<D: Disk, J: Judging, L: Ledger>(
         self,
         alloc: Global,
         disk: &mut D,
         judge: &J,
         item: &[u8],
         steps: &mut Steps<L>,
-    ) -> Result<(Node, Verdict), ReadStop>
-        requires size { length item.now < 2 ^ 31 }
+    ) -> Result<(Node, Decision), ReadStop>
         requires own { IsItsOwn self (D.reads_as disk.old) (D.images disk.old) }
-        ensures own { IfOk result (λ answer. IsItsOwn answer.0 (D.reads_as disk.new) (D.images disk.new)) }
-        ensures verdict { IsSoundOn self (D.reads_as disk.old) → IfOk result (λ answer. answer.1 ≡ verdict_over self.chain item.now) }
-        ensures kept { IsSoundOn self (D.reads_as disk.old) → IfOk result (λ answer. answer.0.chain ≡ chain_after self.chain item.now) }
-        ensures sound { IsSoundOn self (D.reads_as disk.old) → IfOk result (λ answer. IsSoundNode answer.0) }
-        ensures on { IsOn self (D.reads_as disk.old) (D.images disk.old) → IfOk result (λ answer. IsOn answer.0 (D.reads_as disk.new) (D.images disk.new)) }
-        ensures moments { IsOn self (D.reads_as disk.old) (D.images disk.old)
-            → LeavesOnly D.moment D.left_since disk.old disk.new (λ image. StandsFor self.chain image ⊎ StandsFor (chain_after self.chain item.now) image) }
-        ensures settled { (records : List Record) → IsSettled self.place records (D.reads_as disk.old) (D.images disk.old)
-            → IfOk result (λ answer. IsSettledAfter records item.now answer.1 answer.0.place (D.reads_as disk.new) (D.images disk.new)) }
-        ensures keeps { (records : List Record) → IsSettled self.place records (D.reads_as disk.old) (D.images disk.old)
-            → LeavesOnly D.moment D.left_since disk.old disk.new (IsLeftByImport self.place records item.now (D.images disk.old)) }
-        ensures others { OthersRead log_area (D.reads_as disk.old) (D.reads_as disk.new) }
-        ensures still { IsSoundOn self (D.reads_as disk.old) → joins (verdict_over self.chain item.now) ≡ false
-            → D.content_of disk.new ≡ D.content_of disk.old }
-        ensures unwritten { IfOk result (λ answer. joins answer.1 ≡ false → D.content_of disk.new ≡ D.content_of disk.old) }
-        ensures untouched { IfErr result (λ stop. stop ≢ DiskFault → D.content_of disk.new ≡ D.content_of disk.old) }
+        ensures decided { IfOk result (λ it. IsDecidedOn self it.0 item.now it.1 (D.reads_as disk.old) (D.reads_as disk.new) (D.images disk.new)) }
+        ensures content { D.content_of disk.new ≡ D.content_of disk.old }
         ensures undamaged { IsSoundOn self (D.reads_as disk.old) → (damage : Damage) → result ≡ Err (Damaged damage) → ⊥ }
         ensures damage { (damage : Damage) → result ≡ Err (Damaged damage) → damage.area ≡ log_area }
-        ensures found { IfOk result (λ answer. answer.0.damages ≡ self.damages) }
-        ensures room { IfOk result (λ answer. answer.0.most ≡ self.most) }
         ensures cause { CountsFault (D.faults disk.old) (D.faults disk.new) (result ≡ Err DiskFault) }
-        ensures spec { IfOk result (λ answer. answer.0.chain.spec ≡ self.chain.spec) }
-        ensures holds { IfOk result (λ answer. joins answer.1 ≡ true → IsSome (held_at answer.0.held (length self.chain.blocks))) }
-        ensures sight { moves_for self.chain item.now ≡ 0 → disk.new ≡ disk.old }
         ensures asked { result ≡ Err ReadStop.NoMemory → MayWantMemory self.chain item.now }
-        ensures new { IfOk result (λ answer. joins answer.1 ≡ true → MayWantMemory self.chain item.now × (1 ≤ moves_for self.chain item.now)) }
-        ensures steps { (b : Block) → decoded schema.block item.now ≡ Some b
-            → place_of self.chain.blocks b.header.parent_hash ≡ tip_place self.chain.blocks → steps.new ≤ steps.old + 1 }
-        ensures most { steps.new ≤ steps.old + moves_for self.chain item.now }
-        ensures stays { IfOk result (λ answer. joins answer.1 ≡ false → steps.new ≤ steps.old + (moves_for self.chain item.now - 1)) }
+        ensures sight { moves_for self.chain item.now ≡ 0 → disk.new ≡ disk.old }
+        ensures most { steps.new ≤ steps.old + (moves_for self.chain item.now - 1) }
     {
         let Node {
             kept,
@@ -339,16 +286,8 @@ impl Node {
             body,
             mut cache,
         } = self;
-        let decided = over_disk::decide(alloc, disk, &mut cache, judge, &kept, state, item, steps);
-        let (state, decision) = match decided {
-            Ok(decided) => decided,
-            Err(stop) => {
-                drop((kept, log, body, cache));
-                return Err(stop);
-            }
-        };
-        match decision {
-            Decision::Stays(verdict) => {
+        match over_disk::decide(alloc, disk, &mut cache, judge, &kept, state, item, steps) {
+            Ok((state, decision)) => {
                 let node = Node {
                     kept,
                     state,
@@ -356,16 +295,11 @@ impl Node {
                     body,
                     cache,
                 };
-                Ok((node, verdict))
+                Ok((node, decision))
             }
-            Decision::Joins(joining) => {
-                let verdict = Verdict::Joined(joining.entry.number, joining.entry.hash);
-                match join(
-                    alloc, disk, kept, state, log, body, cache, item, joining, steps,
-                ) {
-                    Ok(next) => Ok((next, verdict)),
-                    Err(stop) => Err(stop),
-                }
+            Err(stop) => {
+                drop((kept, log, body, cache));
+                Err(stop)
             }
         }
     }

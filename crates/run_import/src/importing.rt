@@ -6,7 +6,7 @@ ghost use Rattle.outside.specs.Image.{Image};
 ghost use Rattle.disk_defs.specs.Log.{Record, end_of_log};
 ghost use Rattle.disk_defs.specs.Rest.{IsSettled};
 ghost use Rattle.verdict_defs.specs.Verdict.{joins};
-ghost use Rattle.verdict_defs.specs.Chain.{Chain, verdict_over, chain_after};
+ghost use Rattle.verdict_defs.specs.Chain.{Chain, verdict_over};
 ghost use Rattle.store_defs.specs.Store.{Keeps, store_of, StandsFor};
 ghost use Rattle.report_defs.specs.Items.{split_of};
 ghost use Rattle.report_defs.specs.Report as reports;
@@ -16,7 +16,8 @@ ghost use Rattle.report_defs.specs.Promise.{import_statuses};
 ghost use Rattle.report_defs.specs.Survival.{NoneJoins, GoesOn, KeepsRecords};
 ghost use Rattle.report_defs.specs.declared.command.Command.TheVariants.{Import};
 ghost use Rattle.run_text.specs.Items.{Gave, IsNext};
-ghost use Rattle.node_store.specs.Node.{IsItsOwn, IsSoundNode, IsSoundOn, IsOn, IsLeftByImport, IsSettledAfter};
+ghost use Rattle.node_store.specs.Import.{IsImported, LeavesEither};
+ghost use Rattle.node_store.specs.Node.{IsItsOwn, IsSoundOn, IsOn, IsSettledAfter};
 ghost use Rattle.node_store.specs.OpeningSteps.{moves_to_open};
 ghost use Rattle.node_store.specs.Steps.{moves_for, steps_over};
 ghost use Rattle.run_text.specs.Output.{Took, Transfers};
@@ -81,20 +82,13 @@ fn import_item<K: Sink, D: Disk, L: Ledger>(
 ) -> Result<(Node, Verdict), Status>
     requires size { length item.now < 2 ^ 31 }
     requires own { IsItsOwn node (D.reads_as disk.old) (D.images disk.old) }
-    ensures verdict { IsSoundOn node (D.reads_as disk.old) → IfOk result (λ answer. answer.1 ≡ verdict_over node.chain item.now) }
-    ensures kept { IsSoundOn node (D.reads_as disk.old) → IfOk result (λ answer. answer.0.chain ≡ chain_after node.chain item.now) }
-    ensures sound { IsSoundOn node (D.reads_as disk.old) → IfOk result (λ answer. IsSoundNode answer.0) }
+    ensures imported { IfOk result (λ answer. IsImported node answer.0 item.now answer.1 (D.reads_as disk.old) (D.reads_as disk.new) (D.images disk.old) (D.images disk.new)) }
+    ensures left { LeavesEither D.reads_as D.images D.moment D.left_since disk.old disk.new (IsSoundOn node (D.reads_as disk.old)) node item.now }
     ensures written { Took (K.taken out.old) (K.taken out.new) (λ taken. IsSoundOn node (D.reads_as disk.old) → IsAnswered (line_over node.chain item.now) result taken) }
     ensures status { (status : Status) → result ≡ Err status → IsOneOf item_stops status }
     ensures told { IsKnownAsBefore (D.reads_as disk.old) (D.reads_as disk.new) }
-    ensures own { IfOk result (λ answer. IsItsOwn answer.0 (D.reads_as disk.new) (D.images disk.new)) }
-    ensures on { IsOn node (D.reads_as disk.old) (D.images disk.old) → IfOk result (λ answer. IsOn answer.0 (D.reads_as disk.new) (D.images disk.new)) }
-    ensures moments { IsOn node (D.reads_as disk.old) (D.images disk.old)
-        → LeavesOnly D.moment D.left_since disk.old disk.new (λ image. StandsFor node.chain image ⊎ StandsFor (chain_after node.chain item.now) image) }
     ensures settled { (records : List Record) → IsSettled node.place records (D.reads_as disk.old) (D.images disk.old)
         → IfOk result (λ answer. IsSettledAfter records item.now answer.1 answer.0.place (D.reads_as disk.new) (D.images disk.new)) }
-    ensures keeps { (records : List Record) → IsSettled node.place records (D.reads_as disk.old) (D.images disk.old)
-        → LeavesOnly D.moment D.left_since disk.old disk.new (IsLeftByImport node.place records item.now (D.images disk.old)) }
     ensures still { IsSoundOn node (D.reads_as disk.old) → joins (verdict_over node.chain item.now) ≡ false → D.content_of disk.new ≡ D.content_of disk.old }
     ensures out_faults { CountsFault (K.faults out.old) (K.faults out.new) (result ≡ Err Status.SinkFault) }
     ensures disk_faults { CountsFault (D.faults disk.old) (D.faults disk.new) (result ≡ Err Status.DiskFault) }

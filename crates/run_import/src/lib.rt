@@ -2,7 +2,7 @@
 //!
 //! [`import`] opens the store, judges each item that the source gives, keeps what joins, and writes the item's line before it
 //! reads the next. Its contract says by the report of `report_defs` what is written, what a stop at any moment leaves of the
-//! store and of its records, and how many steps it takes. Judging and keeping are left to `node_core`.
+//! store and of its records, and how many steps it takes. Judging is left to `node_core`, keeping to `node_store`.
 #![tactic(auto)]
 
 mod importing;

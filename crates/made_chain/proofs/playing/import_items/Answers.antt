@@ -3,6 +3,7 @@ use Rattle.std.specs.Prelude.{Err}
 use Rattle.outside.proofs.Endings.{counts-as, after_still, no_answer}
 use Rattle.verdict_defs.specs.Chain.{Chain}
 use Rattle.node_store.specs.Steps.{steps_over}
+use Rattle.node_store.proofs.StayingLemmas.{moments-on}
 use Rattle.made_chain.specs.Sessions.{items_in, KeepsPrefix}
 use Rattle.made_chain.proofs.ItemLemmas.{only_stands, all_keep, same_error, on_sound, one_in, as_many, chain_more, steps_left, stopped_import}
 use Rattle.made_chain.proofs.playing.import_items.Goals as goal
@@ -16,7 +17,7 @@ returns-in-Err-clause-kept g c =
     one_in items c.importing.i c.index-items-i.result item (omega (arith, c.importing-test.true)) c.index-items-i.is c.deref.ensures.value in
     stopped_import g.D.Disk.images g.D.Disk.moment g.D.Disk.left_since g.met.D.Disk.counts_now c.importing.disk c.import.new.disk
     c.args.opened.chain c.importing.node.chain (items_in items) c.importing.i item within at c.importing.invariant.kept
-    (c.in-Err.ensures.moments c.importing.invariant.on)
+    (moments-on _ _ c.in-Err.ensures.left c.importing.invariant.on)
 
 pub returns-in-Err-clause-steps : goal.returns-in-Err-clause-steps
 returns-in-Err-clause-steps g c =
@@ -26,7 +27,7 @@ returns-in-Err-clause-steps g c =
     let at : get_or (items_in items) c.importing.i item ≡ item =
     one_in items c.importing.i c.index-items-i.result item (omega (arith, c.importing-test.true)) c.index-items-i.is c.deref.ensures.value in
     let left = steps_left (items_in items) c.importing.i item within at c.importing.node.chain in
-    omega (arith, c.in-Err.ensures.most, left, c.importing.invariant.left)
+    omega (arith, c.in-Err.ensures.stepped.most, left, c.importing.invariant.left)
 
 pub importing-preserved : goal.importing-preserved
 importing-preserved g c =
@@ -37,14 +38,14 @@ importing-preserved g c =
     one_in items c.importing.i c.index-items-i.result item (omega (arith, c.importing-test.true)) c.index-items-i.is c.deref.ensures.value in
     let now = c.importing.node.chain in
     let sound = on_sound c.importing.node (g.D.Disk.reads_as c.importing.disk) (g.D.Disk.images c.importing.disk) c.importing.invariant.on in
-    let kept = c.in-Ok.ensures.kept sound in
+    let kept = c.in-Ok.ensures.imported.kept sound in
     let left = steps_left (items_in items) c.importing.i item within at now in
     let same = ap (λ (k : Chain). steps_over k (drop (c.importing.i + 1) (items_in items))) kept in
     record {
-      on = c.in-Ok.ensures.on c.importing.invariant.on;
+      on = c.in-Ok.ensures.imported.on c.importing.invariant.on;
       kept = kept ∙ chain_more (items_in items) c.importing.i item within at c.args.opened.chain now c.importing.invariant.kept;
       unchanged = c.in-Ok.ensures.cause.unchanged (no_answer _ _) ∙ c.importing.invariant.unchanged;
-      left = omega (arith, c.in-Ok.ensures.most, left, same, c.importing.invariant.left);
+      left = omega (arith, c.in-Ok.ensures.stepped.most, left, same, c.importing.invariant.left);
       within = omega (arith, c.importing-test.true);
     }
 

@@ -14,12 +14,12 @@ import_items-requires-clause-on g c =
     let reads = g.D.Disk.reads_as c.args.disk.now in
     let images = g.D.Disk.images c.args.disk.now in
     only_if_told store.0 reads images store.1 (IsOn c.in-Ok.node (g.D.Disk.reads_as c.open.new.disk) (g.D.Disk.images c.open.new.disk))
-    (c.in-Ok.ensures.on (only_sound store.0 reads images store.1))
+    (c.in-Ok.ensures.opened.on (only_sound store.0 reads images store.1))
 
 pub returns-in-Ok-clause-kept : goal.returns-in-Ok-clause-kept
 returns-in-Ok-clause-kept g c = λ chain only image left.
     subst (λ (k : Chain). KeepsPrefix k (items_in c.args.items.now) c.import_items.result.0 image)
-    (only_opened chain (g.D.Disk.reads_as c.args.disk.now) (g.D.Disk.images c.args.disk.now) only c.in-Ok.node.chain c.in-Ok.ensures.kept)
+    (only_opened chain (g.D.Disk.reads_as c.args.disk.now) (g.D.Disk.images c.args.disk.now) only c.in-Ok.node.chain c.in-Ok.ensures.opened.kept)
     (c.import_items.ensures.kept image left)
 
 pub returns-in-Ok-clause-fault : goal.returns-in-Ok-clause-fault
@@ -27,7 +27,7 @@ returns-in-Ok-clause-fault g c = after_still (c.in-Ok.ensures.cause.unchanged (n
 
 pub returns-in-Ok-clause-steps : goal.returns-in-Ok-clause-steps
 returns-in-Ok-clause-steps g c = λ chain only.
-    let same = only_opened chain (g.D.Disk.reads_as c.args.disk.now) (g.D.Disk.images c.args.disk.now) only c.in-Ok.node.chain c.in-Ok.ensures.kept in
+    let same = only_opened chain (g.D.Disk.reads_as c.args.disk.now) (g.D.Disk.images c.args.disk.now) only c.in-Ok.node.chain c.in-Ok.ensures.opened.kept in
     let moves = ap (λ (k : Chain). steps_over k (items_in c.args.items.now)) same in
     omega (arith, c.in-Ok.ensures.most only.now only.told, c.import_items.ensures.steps, moves)
 

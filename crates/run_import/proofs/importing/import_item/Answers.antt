@@ -17,15 +17,6 @@ use Rattle.run_import.proofs.importing.import_item.Goals as goal
 
 -- ---- The import was stopped
 
-pub returns-in-Err-clause-verdict : goal.returns-in-Err-clause-verdict
-returns-in-Err-clause-verdict g c = λ joined. tt
-
-pub returns-in-Err-clause-kept : goal.returns-in-Err-clause-kept
-returns-in-Err-clause-kept g c = λ joined. tt
-
-pub returns-in-Err-clause-sound : goal.returns-in-Err-clause-sound
-returns-in-Err-clause-sound g c = λ joined. tt
-
 pub returns-in-Err-clause-written : goal.returns-in-Err-clause-written
 returns-in-Err-clause-written g c = (
   [],
@@ -41,15 +32,6 @@ pub returns-in-Err-clause-status : goal.returns-in-Err-clause-status
 returns-in-Err-clause-status g c = λ status e.
     subst (λ s. IsOneOf item_stops s) (same_stop _ _ e) (item_stopped c.status_of_reading.result c.status_of_reading.ensures.one_of)
 
-pub returns-in-Err-clause-own : goal.returns-in-Err-clause-own
-returns-in-Err-clause-own g c = tt
-
-pub returns-in-Err-clause-on : goal.returns-in-Err-clause-on
-returns-in-Err-clause-on g c = λ on. tt
-
-pub returns-in-Err-clause-moments : goal.returns-in-Err-clause-moments
-returns-in-Err-clause-moments g c = c.in-Err.ensures.moments
-
 pub returns-in-Err-clause-out_faults : goal.returns-in-Err-clause-out_faults
 returns-in-Err-clause-out_faults g c =
     no_fault _ _ refl (λ e. opening_no_sink c.status_of_reading.result c.status_of_reading.ensures.one_of (same_stop _ _ e))
@@ -62,34 +44,16 @@ returns-in-Err-clause-disk_faults g c =
 
 -- ---- The line was written
 
-pub returns-in-Ok-write_verdict-clause-verdict : goal.returns-in-Ok-write_verdict-clause-verdict
-returns-in-Ok-write_verdict-clause-verdict g c = c.in-Ok.ensures.verdict
-
-pub returns-in-Ok-write_verdict-clause-kept : goal.returns-in-Ok-write_verdict-clause-kept
-returns-in-Ok-write_verdict-clause-kept g c = c.in-Ok.ensures.kept
-
-pub returns-in-Ok-write_verdict-clause-sound : goal.returns-in-Ok-write_verdict-clause-sound
-returns-in-Ok-write_verdict-clause-sound g c = c.in-Ok.ensures.sound
-
 pub returns-in-Ok-write_verdict-clause-written : goal.returns-in-Ok-write_verdict-clause-written
 returns-in-Ok-write_verdict-clause-written g c =
     let written = c.in-Ok-write_verdict.ensures.written in (
       written.0,
       written.1,
-      λ joined. written.2 ∙ ap (λ (v : Verdict). line v) (c.in-Ok.ensures.verdict joined),
+      λ joined. written.2 ∙ ap (λ (v : Verdict). line v) (c.in-Ok.ensures.imported.verdict joined),
     )
 
 pub returns-in-Ok-write_verdict-clause-status : goal.returns-in-Ok-write_verdict-clause-status
 returns-in-Ok-write_verdict-clause-status g c = λ status e. absurd (no_answer _ _ e)
-
-pub returns-in-Ok-write_verdict-clause-own : goal.returns-in-Ok-write_verdict-clause-own
-returns-in-Ok-write_verdict-clause-own g c = c.in-Ok.ensures.own
-
-pub returns-in-Ok-write_verdict-clause-on : goal.returns-in-Ok-write_verdict-clause-on
-returns-in-Ok-write_verdict-clause-on g c = c.in-Ok.ensures.on
-
-pub returns-in-Ok-write_verdict-clause-moments : goal.returns-in-Ok-write_verdict-clause-moments
-returns-in-Ok-write_verdict-clause-moments g c = c.in-Ok.ensures.moments
 
 pub returns-in-Ok-write_verdict-clause-out_faults : goal.returns-in-Ok-write_verdict-clause-out_faults
 returns-in-Ok-write_verdict-clause-out_faults g c = no_fault _ _ (c.in-Ok-write_verdict.ensures.faults.unchanged (no_answer _ _)) (no_answer _ _)
@@ -99,35 +63,17 @@ returns-in-Ok-write_verdict-clause-disk_faults g c = no_fault _ _ (c.in-Ok.ensur
 
 -- ---- The line was stopped
 
-pub returns-in-Err-write_verdict-clause-verdict : goal.returns-in-Err-write_verdict-clause-verdict
-returns-in-Err-write_verdict-clause-verdict g c = λ joined. tt
-
-pub returns-in-Err-write_verdict-clause-kept : goal.returns-in-Err-write_verdict-clause-kept
-returns-in-Err-write_verdict-clause-kept g c = λ joined. tt
-
-pub returns-in-Err-write_verdict-clause-sound : goal.returns-in-Err-write_verdict-clause-sound
-returns-in-Err-write_verdict-clause-sound g c = λ joined. tt
-
 pub returns-in-Err-write_verdict-clause-written : goal.returns-in-Err-write_verdict-clause-written
 returns-in-Err-write_verdict-clause-written g c =
     let written = c.in-Err-write_verdict.ensures.written in (
       written.0,
       written.1,
-      λ joined. subst (λ text. IsCutShort text c.in-Err-write_verdict.status written.0) (ap (λ (v : Verdict). line v) (c.in-Ok.ensures.verdict joined)) written.2,
+      λ joined. subst (λ text. IsCutShort text c.in-Err-write_verdict.status written.0) (ap (λ (v : Verdict). line v) (c.in-Ok.ensures.imported.verdict joined)) written.2,
     )
 
 pub returns-in-Err-write_verdict-clause-status : goal.returns-in-Err-write_verdict-clause-status
 returns-in-Err-write_verdict-clause-status g c = λ status e.
     subst (λ s. IsOneOf item_stops s) (same_stop _ _ e) (line_stopped c.in-Err-write_verdict.status (c.in-Err-write_verdict.ensures.status c.in-Err-write_verdict.status refl))
-
-pub returns-in-Err-write_verdict-clause-own : goal.returns-in-Err-write_verdict-clause-own
-returns-in-Err-write_verdict-clause-own g c = tt
-
-pub returns-in-Err-write_verdict-clause-on : goal.returns-in-Err-write_verdict-clause-on
-returns-in-Err-write_verdict-clause-on g c = λ on. tt
-
-pub returns-in-Err-write_verdict-clause-moments : goal.returns-in-Err-write_verdict-clause-moments
-returns-in-Err-write_verdict-clause-moments g c = c.in-Ok.ensures.moments
 
 pub returns-in-Err-write_verdict-clause-out_faults : goal.returns-in-Err-write_verdict-clause-out_faults
 returns-in-Err-write_verdict-clause-out_faults g c =
@@ -139,46 +85,55 @@ returns-in-Err-write_verdict-clause-disk_faults g c =
     no_fault _ _ (c.in-Ok.ensures.cause.unchanged (no_answer _ _)) (λ e. never (same_stop _ _ e))
 
 pub returns-in-Err-clause-most : goal.returns-in-Err-clause-most
-returns-in-Err-clause-most g c = c.in-Err.ensures.most
+returns-in-Err-clause-most g c = c.in-Err.ensures.stepped.most
 
 pub returns-in-Ok-write_verdict-clause-most : goal.returns-in-Ok-write_verdict-clause-most
-returns-in-Ok-write_verdict-clause-most g c = c.in-Ok.ensures.most
+returns-in-Ok-write_verdict-clause-most g c = c.in-Ok.ensures.stepped.most
 
 pub returns-in-Err-write_verdict-clause-most : goal.returns-in-Err-write_verdict-clause-most
-returns-in-Err-write_verdict-clause-most g c = c.in-Ok.ensures.most
+returns-in-Err-write_verdict-clause-most g c = c.in-Ok.ensures.stepped.most
 
 pub returns-in-Err-clause-told : goal.returns-in-Err-clause-told
-returns-in-Err-clause-told g c = tells_but (snapshot_at (length c.args.node.chain.blocks)) _ _ c.in-Err.ensures.others
+returns-in-Err-clause-told g c = tells_but (snapshot_at (length c.args.node.chain.blocks)) _ _ c.in-Err.ensures.logged.others
 
 pub returns-in-Ok-write_verdict-clause-told : goal.returns-in-Ok-write_verdict-clause-told
-returns-in-Ok-write_verdict-clause-told g c = tells_but (snapshot_at (length c.args.node.chain.blocks)) _ _ c.in-Ok.ensures.others
+returns-in-Ok-write_verdict-clause-told g c = tells_but (snapshot_at (length c.args.node.chain.blocks)) _ _ c.in-Ok.ensures.logged.others
 
 pub returns-in-Err-write_verdict-clause-told : goal.returns-in-Err-write_verdict-clause-told
-returns-in-Err-write_verdict-clause-told g c = tells_but (snapshot_at (length c.args.node.chain.blocks)) _ _ c.in-Ok.ensures.others
+returns-in-Err-write_verdict-clause-told g c = tells_but (snapshot_at (length c.args.node.chain.blocks)) _ _ c.in-Ok.ensures.logged.others
 
 pub returns-in-Err-clause-still : goal.returns-in-Err-clause-still
-returns-in-Err-clause-still g c = c.in-Err.ensures.still
+returns-in-Err-clause-still g c = c.in-Err.ensures.logged.still
 
 pub returns-in-Ok-write_verdict-clause-still : goal.returns-in-Ok-write_verdict-clause-still
-returns-in-Ok-write_verdict-clause-still g c = c.in-Ok.ensures.still
+returns-in-Ok-write_verdict-clause-still g c = c.in-Ok.ensures.logged.still
 
 pub returns-in-Err-write_verdict-clause-still : goal.returns-in-Err-write_verdict-clause-still
-returns-in-Err-write_verdict-clause-still g c = c.in-Ok.ensures.still
+returns-in-Err-write_verdict-clause-still g c = c.in-Ok.ensures.logged.still
 
 pub returns-in-Err-clause-settled : goal.returns-in-Err-clause-settled
 returns-in-Err-clause-settled g c = λ _ _. tt
 
 pub returns-in-Ok-write_verdict-clause-settled : goal.returns-in-Ok-write_verdict-clause-settled
-returns-in-Ok-write_verdict-clause-settled g c = c.in-Ok.ensures.settled
+returns-in-Ok-write_verdict-clause-settled g c = c.in-Ok.ensures.logged.settled
 
 pub returns-in-Err-write_verdict-clause-settled : goal.returns-in-Err-write_verdict-clause-settled
 returns-in-Err-write_verdict-clause-settled g c = λ _ _. tt
 
-pub returns-in-Err-clause-keeps : goal.returns-in-Err-clause-keeps
-returns-in-Err-clause-keeps g c = c.in-Err.ensures.keeps
+pub returns-in-Err-clause-imported : goal.returns-in-Err-clause-imported
+returns-in-Err-clause-imported g c = tt
 
-pub returns-in-Ok-write_verdict-clause-keeps : goal.returns-in-Ok-write_verdict-clause-keeps
-returns-in-Ok-write_verdict-clause-keeps g c = c.in-Ok.ensures.keeps
+pub returns-in-Ok-write_verdict-clause-imported : goal.returns-in-Ok-write_verdict-clause-imported
+returns-in-Ok-write_verdict-clause-imported g c = c.in-Ok.ensures.imported
 
-pub returns-in-Err-write_verdict-clause-keeps : goal.returns-in-Err-write_verdict-clause-keeps
-returns-in-Err-write_verdict-clause-keeps g c = c.in-Ok.ensures.keeps
+pub returns-in-Err-write_verdict-clause-imported : goal.returns-in-Err-write_verdict-clause-imported
+returns-in-Err-write_verdict-clause-imported g c = tt
+
+pub returns-in-Err-clause-left : goal.returns-in-Err-clause-left
+returns-in-Err-clause-left g c = c.in-Err.ensures.left
+
+pub returns-in-Ok-write_verdict-clause-left : goal.returns-in-Ok-write_verdict-clause-left
+returns-in-Ok-write_verdict-clause-left g c = c.in-Ok.ensures.left
+
+pub returns-in-Err-write_verdict-clause-left : goal.returns-in-Err-write_verdict-clause-left
+returns-in-Err-write_verdict-clause-left g c = c.in-Ok.ensures.left

@@ -22,6 +22,7 @@ use Rattle.run_text.proofs.Limits.{item_limit-is}
 use Rattle.run_store.proofs.DiskLemmas.{sound_after, sound_on}
 use Rattle.run_import.proofs.RecordLemmas.{HasGrown, grown_none, grown_more, grown_moments, goes_more}
 use Rattle.run_import.proofs.CountLemmas.{counted_to_part, counted_to_stop, counted_to_item, part_also, stop_also, item_also, none-push, stays_there}
+use Rattle.node_store.proofs.StayingLemmas.{moments-on}
 use Rattle.run_import.proofs.importing.import_items.Goals as goal
 use Rattle.run_import.proofs.importing.import_items.Goals.{then-refused, else-refused}
 
@@ -118,11 +119,11 @@ returns-in-Err-import_item-clause-imported g c =
     (g.D.Disk.images c.import_item.new.disk) (LeavesOnly g.D.Disk.moment g.D.Disk.left_since c.args.disk.now c.items.disk) (LeavesOnly g.D.Disk.moment g.D.Disk.left_since c.args.disk.now c.import_item.new.disk)
     c.args.steps.now c.items.steps c.in-Err-import_item.status c.deref.result.now next.0 written.0 whole at next.1 written.1 written.2
     (λ sound on. exit_of_item g.D.Disk.images g.D.Disk.moment g.D.Disk.left_since g.met.D.Disk.counts_now c.items.disk c.import_item.new.disk c.args.opened.chain c.items.node.chain
-    whole.items c.deref.result.now (whole.kept_now sound) (c.in-Err-import_item.ensures.moments on))
+    whole.items c.deref.result.now (whole.kept_now sound) (moments-on _ _ c.in-Err-import_item.ensures.left on))
     (λ was. leaves_item g.D.Disk.images g.D.Disk.moment g.D.Disk.left_since g.met.D.Disk.counts_now c.args.disk.now c.items.disk c.import_item.new.disk c.args.opened.chain
     c.items.node.chain whole.items c.deref.result.now
     (whole.kept_now (sound_on c.args.opened (g.D.Disk.reads_as c.args.disk.now) (g.D.Disk.images c.args.disk.now) was))
-    (whole.moments was) (c.in-Err-import_item.ensures.moments (whole.on was)))
+    (whole.moments was) (moments-on _ _ c.in-Err-import_item.ensures.left (whole.on was)))
 
 pub returns-in-Err-clause-input_faults : goal.returns-in-Err-clause-input_faults
 returns-in-Err-clause-input_faults g c =
@@ -215,11 +216,11 @@ items-preserved g c =
     (IsOn c.args.opened (g.D.Disk.reads_as c.args.disk.now) (g.D.Disk.images c.args.disk.now)) (IsOn c.items.node (g.D.Disk.reads_as c.items.disk) (g.D.Disk.images c.items.disk))
     (IsOn c.in-Ok.answer.0 (g.D.Disk.reads_as c.import_item.new.disk) (g.D.Disk.images c.import_item.new.disk)) (LeavesOnly g.D.Disk.moment g.D.Disk.left_since c.args.disk.now c.items.disk)
     (LeavesOnly g.D.Disk.moment g.D.Disk.left_since c.args.disk.now c.import_item.new.disk) c.args.steps.now c.items.steps c.import_item.new.steps item next.0 written.0 c.in-Ok.answer.1 c.len.result c.if-refused.refused size any
-    whole at next.1 written.1 c.in-Ok.ensures.verdict c.in-Ok.ensures.kept written.2
-    (λ sound. sound_after c.in-Ok.answer.0 (g.D.Disk.reads_as c.items.disk) (g.D.Disk.reads_as c.import_item.new.disk) sound.told c.in-Ok.ensures.told (c.in-Ok.ensures.sound sound)) c.in-Ok.ensures.on
+    whole at next.1 written.1 c.in-Ok.ensures.imported.verdict c.in-Ok.ensures.imported.kept written.2
+    (λ sound. sound_after c.in-Ok.answer.0 (g.D.Disk.reads_as c.items.disk) (g.D.Disk.reads_as c.import_item.new.disk) sound.told c.in-Ok.ensures.told (c.in-Ok.ensures.imported.sound sound)) c.in-Ok.ensures.imported.on
     (λ was. leaves_item g.D.Disk.images g.D.Disk.moment g.D.Disk.left_since g.met.D.Disk.counts_now c.args.disk.now c.items.disk c.import_item.new.disk c.args.opened.chain
     c.items.node.chain whole.items item (whole.kept_now (sound_on c.args.opened (g.D.Disk.reads_as c.args.disk.now) (g.D.Disk.images c.args.disk.now) was))
-    (whole.moments was) (c.in-Ok.ensures.moments (whole.on was))) c.import_item.ensures.most in
+    (whole.moments was) (moments-on _ _ c.in-Ok.ensures.left (whole.on was))) c.import_item.ensures.most in
     record {
       whole = (
         more.0,
@@ -233,9 +234,9 @@ items-preserved g c =
             (LeavesOnly g.D.Disk.moment g.D.Disk.left_since c.args.disk.now c.import_item.new.disk)) (sym more.1)
             (grown_more g.D.Disk.images g.D.Disk.moment g.D.Disk.left_since g.met.D.Disk.counts_now c.args.disk.now c.items.disk c.import_item.new.disk whole.items item records
             c.items.node.place c.in-Ok.answer.0.place (g.D.Disk.reads_as c.items.disk) (g.D.Disk.reads_as c.import_item.new.disk) c.in-Ok.answer.1 grown
-            (c.in-Ok.ensures.keeps (records ++ grown.added) grown.settled) (c.in-Ok.ensures.settled (records ++ grown.added) grown.settled)),
+            (c.in-Ok.ensures.left.keeps (records ++ grown.added) grown.settled) (c.in-Ok.ensures.settled (records ++ grown.added) grown.settled)),
       );
-      own = c.in-Ok.ensures.own;
+      own = c.in-Ok.ensures.imported.own;
       told = c.in-Ok.ensures.told ∙ c.items.invariant.told;
       input_unchanged = c.in-Ok-Item.ensures.faults.unchanged (no_answer _ _) ∙ c.items.invariant.input_unchanged;
       out_unchanged = c.in-Ok.ensures.out_faults.unchanged (no_answer _ _) ∙ c.items.invariant.out_unchanged;
@@ -376,4 +377,4 @@ returns-in-Err-import_item-clause-records g c =
     (λ records settled.
     let grown = c.items.invariant.whole.2 records settled in
     grown_moments g.D.Disk.images g.D.Disk.moment g.D.Disk.left_since g.met.D.Disk.counts_now c.args.disk.now c.items.disk c.import_item.new.disk c.items.invariant.whole.0.items
-    c.deref.result.now records c.items.node.place (g.D.Disk.reads_as c.items.disk) grown (c.in-Err-import_item.ensures.keeps (records ++ grown.added) grown.settled))
+    c.deref.result.now records c.items.node.place (g.D.Disk.reads_as c.items.disk) grown (c.in-Err-import_item.ensures.left.keeps (records ++ grown.added) grown.settled))

@@ -46,13 +46,13 @@ pub returns-in-Err-clause-most : goal.returns-in-Err-clause-most
 returns-in-Err-clause-most g c = c.in-Err.ensures.most
 
 pub returns-in-Ok-clause-own : goal.returns-in-Ok-clause-own
-returns-in-Ok-clause-own g c = c.in-Ok.ensures.own
+returns-in-Ok-clause-own g c = c.in-Ok.ensures.opened.own
 
 pub returns-in-Err-clause-own : goal.returns-in-Err-clause-own
 returns-in-Err-clause-own g c = tt
 
 pub returns-in-Ok-clause-sound : goal.returns-in-Ok-clause-sound
-returns-in-Ok-clause-sound g c = c.in-Ok.ensures.sound
+returns-in-Ok-clause-sound g c = c.in-Ok.ensures.opened.sound
 
 pub returns-in-Err-clause-sound : goal.returns-in-Err-clause-sound
 returns-in-Err-clause-sound g c = λ _ _ _. tt
@@ -64,7 +64,7 @@ pub returns-in-Err-clause-told : goal.returns-in-Err-clause-told
 returns-in-Err-clause-told g c = known_as_before Log _ _ c.in-Err.ensures.left.others
 
 pub returns-in-Ok-clause-settled : goal.returns-in-Ok-clause-settled
-returns-in-Ok-clause-settled g c = c.in-Ok.ensures.settled
+returns-in-Ok-clause-settled g c = c.in-Ok.ensures.opened.settled
 
 pub returns-in-Err-clause-settled : goal.returns-in-Err-clause-settled
 returns-in-Err-clause-settled g c = tt
@@ -73,3 +73,9 @@ pub returns-in-Err-clause-not_a_store : goal.returns-in-Err-clause-not_a_store
 returns-in-Err-clause-not_a_store g c = λ e.
     let found = c.status_of_opening.ensures.none.0 (same_stop _ _ e) in
     subst (OfDamage (λ _. IfSome (g.D.Disk.reads_as c.args.disk.now) (λ now. IsSound now → ⊥))) found.1 c.in-Err.ensures.not_a_store
+
+pub returns-in-Ok-clause-kept : goal.returns-in-Ok-clause-kept
+returns-in-Ok-clause-kept g c = c.in-Ok.ensures.opened.kept
+
+pub returns-in-Ok-clause-on : goal.returns-in-Ok-clause-on
+returns-in-Ok-clause-on g c = c.in-Ok.ensures.opened.on

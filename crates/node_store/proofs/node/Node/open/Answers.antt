@@ -23,23 +23,8 @@ returns-in-Err-clause-cause g c = stop_counts _ _ _ _ c.in-Err.ensures.cause
 pub returns-in-Err-clause-most : goal.returns-in-Err-clause-most
 returns-in-Err-clause-most g c = λ _ _. no_step _ _
 
-pub returns-in-Err-clause-kept : goal.returns-in-Err-clause-kept
-returns-in-Err-clause-kept g c = tt
-
-pub returns-in-Err-clause-own : goal.returns-in-Err-clause-own
-returns-in-Err-clause-own g c = tt
-
-pub returns-in-Err-clause-settled : goal.returns-in-Err-clause-settled
-returns-in-Err-clause-settled g c = tt
-
 pub returns-in-Err-clause-one_image : goal.returns-in-Err-clause-one_image
 returns-in-Err-clause-one_image g c = tt
-
-pub returns-in-Err-clause-on : goal.returns-in-Err-clause-on
-returns-in-Err-clause-on g c = λ _. tt
-
-pub returns-in-Err-clause-sound : goal.returns-in-Err-clause-sound
-returns-in-Err-clause-sound g c = λ _ _ _. tt
 
 pub to_tip-requires : goal.to_tip-requires
 to_tip-requires g c = record {
@@ -55,11 +40,6 @@ invariant_of-result g c = record {
   below = c.in-Ok-to_tip.ensures.below c.node.invariant.below;
 }
 
-pub returns-in-Ok-to_tip-clause-kept : goal.returns-in-Ok-to_tip-clause-kept
-returns-in-Ok-to_tip-clause-kept g c =
-    keeps_led g.D.Disk.reads_as g.D.Disk.images _ _ c.node.inside.kept c.node.inside.log.place c.node.inside.state c.node.inside.cache _ c.node.view_is
-    c.read_store.ensures.left.others c.in-Ok.ensures.read c.in-Ok.ensures.cells
-
 pub returns-in-Ok-to_tip-clause-not_a_store : goal.returns-in-Ok-to_tip-clause-not_a_store
 returns-in-Ok-to_tip-clause-not_a_store g c = tt
 
@@ -67,32 +47,9 @@ pub returns-in-Ok-to_tip-clause-left : goal.returns-in-Ok-to_tip-clause-left
 returns-in-Ok-to_tip-clause-left g c =
     leaves_on g.D.Disk.reads_as g.D.Disk.images g.D.Disk.moment g.D.Disk.left_since g.met.D.Disk.counts_now _ _ _ c.read_store.ensures.left (g.met.D.Disk.content_rests _ _ c.to_tip.ensures.content)
 
-pub returns-in-Ok-to_tip-clause-own : goal.returns-in-Ok-to_tip-clause-own
-returns-in-Ok-to_tip-clause-own g c =
-    own_led g.D.Disk.reads_as g.D.Disk.images _ _ c.node.inside.kept c.node.inside.log.place c.node.inside.state c.node.inside.cache _ c.node.view_is
-    c.read_store.ensures.left.others c.in-Ok.ensures.read c.in-Ok.ensures.cells g.D.Disk.moment g.D.Disk.left_since _ (g.met.D.Disk.content_rests _ _ c.to_tip.ensures.content) c.in-Ok-to_tip.state c.to_tip.new.cache c.to_tip.ensures.agrees
-
-pub returns-in-Ok-to_tip-clause-settled : goal.returns-in-Ok-to_tip-clause-settled
-returns-in-Ok-to_tip-clause-settled g c =
-    settled_led g.D.Disk.reads_as g.D.Disk.images _ _ c.node.inside.kept c.node.inside.log.place c.node.inside.state c.node.inside.cache _ c.node.view_is
-    c.read_store.ensures.left.others c.in-Ok.ensures.read c.in-Ok.ensures.cells g.D.Disk.moment g.D.Disk.left_since _ (g.met.D.Disk.content_rests _ _ c.to_tip.ensures.content) c.in-Ok-to_tip.state c.to_tip.new.cache
-
 pub returns-in-Ok-to_tip-clause-one_image : goal.returns-in-Ok-to_tip-clause-one_image
 returns-in-Ok-to_tip-clause-one_image g c =
     one_still g.D.Disk.reads_as g.D.Disk.images g.D.Disk.moment g.D.Disk.left_since _ _ (g.met.D.Disk.content_rests _ _ c.to_tip.ensures.content) c.in-Ok.ensures.one_image
-
-pub returns-in-Ok-to_tip-clause-on : goal.returns-in-Ok-to_tip-clause-on
-returns-in-Ok-to_tip-clause-on g c sound =
-    on_led g.D.Disk.reads_as g.D.Disk.images _ _ c.node.inside.kept c.node.inside.log.place c.node.inside.state c.node.inside.cache _ c.node.view_is
-    c.read_store.ensures.left.others c.in-Ok.ensures.read c.in-Ok.ensures.cells g.D.Disk.moment g.D.Disk.left_since _ (g.met.D.Disk.content_rests _ _ c.to_tip.ensures.content) c.in-Ok-to_tip.state c.to_tip.new.cache
-    c.in-Ok-to_tip.ensures.cells
-    (g.met.D.Disk.reads_image c.args.disk.now) sound (c.in-Ok.ensures.image sound) c.to_tip.ensures.agrees
-
-pub returns-in-Ok-to_tip-clause-sound : goal.returns-in-Ok-to_tip-clause-sound
-returns-in-Ok-to_tip-clause-sound g c =
-    sound_led g.D.Disk.reads_as g.D.Disk.images _ _ c.node.inside.kept c.node.inside.log.place c.node.inside.state c.node.inside.cache _ c.node.view_is
-    c.read_store.ensures.left.others c.in-Ok.ensures.read c.in-Ok.ensures.cells g.D.Disk.moment g.D.Disk.left_since _ (g.met.D.Disk.content_rests _ _ c.to_tip.ensures.content) c.in-Ok-to_tip.state c.to_tip.new.cache
-    c.in-Ok-to_tip.ensures.cells
 
 pub returns-in-Ok-to_tip-clause-moments : goal.returns-in-Ok-to_tip-clause-moments
 returns-in-Ok-to_tip-clause-moments g c now chain told keeps sound =
@@ -138,43 +95,8 @@ returns-in-Err-to_tip-clause-most g c =
     c.read_store.ensures.left.others c.in-Ok.ensures.read c.in-Ok.ensures.cells
     _ _ c.to_tip.ensures.most
 
-pub returns-in-Err-to_tip-clause-kept : goal.returns-in-Err-to_tip-clause-kept
-returns-in-Err-to_tip-clause-kept g c = tt
-
-pub returns-in-Err-to_tip-clause-own : goal.returns-in-Err-to_tip-clause-own
-returns-in-Err-to_tip-clause-own g c = tt
-
-pub returns-in-Err-to_tip-clause-settled : goal.returns-in-Err-to_tip-clause-settled
-returns-in-Err-to_tip-clause-settled g c = tt
-
 pub returns-in-Err-to_tip-clause-one_image : goal.returns-in-Err-to_tip-clause-one_image
 returns-in-Err-to_tip-clause-one_image g c = tt
-
-pub returns-in-Err-to_tip-clause-on : goal.returns-in-Err-to_tip-clause-on
-returns-in-Err-to_tip-clause-on g c = λ _. tt
-
-pub returns-in-Err-to_tip-clause-sound : goal.returns-in-Err-to_tip-clause-sound
-returns-in-Err-to_tip-clause-sound g c = λ _ _ _. tt
-
-pub returns-in-Err-clause-found : goal.returns-in-Err-clause-found
-returns-in-Err-clause-found g c = tt
-
-pub returns-in-Err-to_tip-clause-found : goal.returns-in-Err-to_tip-clause-found
-returns-in-Err-to_tip-clause-found g c = tt
-
-pub returns-in-Ok-to_tip-clause-found : goal.returns-in-Ok-to_tip-clause-found
-returns-in-Ok-to_tip-clause-found g c =
-    c.in-Ok-to_tip.ensures.found (λ _ stop last. not_stopped _ stop)
-    ∙ ap (λ (v : NodeValue). v.damages) c.node.view_is ∙ c.in-Ok.ensures.found
-
-pub returns-in-Err-clause-room : goal.returns-in-Err-clause-room
-returns-in-Err-clause-room g c = tt
-
-pub returns-in-Err-to_tip-clause-room : goal.returns-in-Err-to_tip-clause-room
-returns-in-Err-to_tip-clause-room g c = tt
-
-pub returns-in-Ok-to_tip-clause-room : goal.returns-in-Ok-to_tip-clause-room
-returns-in-Ok-to_tip-clause-room g c = c.to_tip.ensures.room ∙ ap (λ (v : NodeValue). v.most) c.node.view_is ∙ c.in-Ok.ensures.room
 
 pub returns-in-Err-clause-damage : goal.returns-in-Err-clause-damage
 returns-in-Err-clause-damage g c = damage_also _ _ c.in-Err.stop (λ damage is. no_store_at _ damage is) c.in-Err.ensures.damage
@@ -189,14 +111,39 @@ returns-in-Err-to_tip-clause-damage g c =
     c.read_store.ensures.left.others c.in-Ok.ensures.read c.in-Ok.ensures.cells damage c.in-Ok.ensures.named
     (λ there at. c.to_tip.ensures.damage there at damage (c.in-Err-to_tip.is ∙ ap Err found))) c.stop_of_move.ensures.damaged
 
-pub returns-in-Err-clause-whole : goal.returns-in-Err-clause-whole
-returns-in-Err-clause-whole g c = tt
+pub returns-in-Err-clause-opened : goal.returns-in-Err-clause-opened
+returns-in-Err-clause-opened g c = tt
 
-pub returns-in-Err-to_tip-clause-whole : goal.returns-in-Err-to_tip-clause-whole
-returns-in-Err-to_tip-clause-whole g c = tt
+pub returns-in-Err-to_tip-clause-opened : goal.returns-in-Err-to_tip-clause-opened
+returns-in-Err-to_tip-clause-opened g c = tt
 
-pub returns-in-Ok-to_tip-clause-whole : goal.returns-in-Ok-to_tip-clause-whole
-returns-in-Ok-to_tip-clause-whole g c =
-    whole_led g.D.Disk.reads_as g.D.Disk.images _ _ c.node.inside.kept c.node.inside.log.place c.node.inside.state c.node.inside.cache _ c.node.view_is
-    c.read_store.ensures.left.others c.in-Ok.ensures.read c.in-Ok.ensures.cells
-    c.in-Ok-to_tip.ensures.whole
+pub returns-in-Ok-to_tip-clause-opened : goal.returns-in-Ok-to_tip-clause-opened
+returns-in-Ok-to_tip-clause-opened g c = record {
+  kept =
+      keeps_led g.D.Disk.reads_as g.D.Disk.images _ _ c.node.inside.kept c.node.inside.log.place c.node.inside.state c.node.inside.cache _ c.node.view_is
+      c.read_store.ensures.left.others c.in-Ok.ensures.read c.in-Ok.ensures.cells;
+  whole =
+      whole_led g.D.Disk.reads_as g.D.Disk.images _ _ c.node.inside.kept c.node.inside.log.place c.node.inside.state c.node.inside.cache _ c.node.view_is
+      c.read_store.ensures.left.others c.in-Ok.ensures.read c.in-Ok.ensures.cells
+      c.in-Ok-to_tip.ensures.whole;
+  own =
+      own_led g.D.Disk.reads_as g.D.Disk.images _ _ c.node.inside.kept c.node.inside.log.place c.node.inside.state c.node.inside.cache _ c.node.view_is
+      c.read_store.ensures.left.others c.in-Ok.ensures.read c.in-Ok.ensures.cells g.D.Disk.moment g.D.Disk.left_since _ (g.met.D.Disk.content_rests _ _ c.to_tip.ensures.content) c.in-Ok-to_tip.state c.to_tip.new.cache c.to_tip.ensures.agrees;
+  settled =
+      settled_led g.D.Disk.reads_as g.D.Disk.images _ _ c.node.inside.kept c.node.inside.log.place c.node.inside.state c.node.inside.cache _ c.node.view_is
+      c.read_store.ensures.left.others c.in-Ok.ensures.read c.in-Ok.ensures.cells g.D.Disk.moment g.D.Disk.left_since _ (g.met.D.Disk.content_rests _ _ c.to_tip.ensures.content) c.in-Ok-to_tip.state c.to_tip.new.cache;
+  on = λ sound.
+      on_led g.D.Disk.reads_as g.D.Disk.images _ _ c.node.inside.kept c.node.inside.log.place c.node.inside.state c.node.inside.cache _ c.node.view_is
+      c.read_store.ensures.left.others c.in-Ok.ensures.read c.in-Ok.ensures.cells g.D.Disk.moment g.D.Disk.left_since _ (g.met.D.Disk.content_rests _ _ c.to_tip.ensures.content) c.in-Ok-to_tip.state c.to_tip.new.cache
+      c.in-Ok-to_tip.ensures.cells
+      (g.met.D.Disk.reads_image c.args.disk.now) sound (c.in-Ok.ensures.image sound) c.to_tip.ensures.agrees;
+  sound =
+      sound_led g.D.Disk.reads_as g.D.Disk.images _ _ c.node.inside.kept c.node.inside.log.place c.node.inside.state c.node.inside.cache _ c.node.view_is
+      c.read_store.ensures.left.others c.in-Ok.ensures.read c.in-Ok.ensures.cells g.D.Disk.moment g.D.Disk.left_since _ (g.met.D.Disk.content_rests _ _ c.to_tip.ensures.content) c.in-Ok-to_tip.state c.to_tip.new.cache
+      c.in-Ok-to_tip.ensures.cells;
+  found =
+      c.in-Ok-to_tip.ensures.found (λ _ stop last. not_stopped _ stop)
+      ∙ ap (λ (v : NodeValue). v.damages) c.node.view_is ∙ c.in-Ok.ensures.found;
+  room =
+      c.to_tip.ensures.room ∙ ap (λ (v : NodeValue). v.most) c.node.view_is ∙ c.in-Ok.ensures.room;
+}
