@@ -3,13 +3,12 @@ use Rattle.std.proofs.Common.{◌≡◌, ℕ, Bool, true, false, List, [], ◌�
 use Rattle.std.specs.Prelude.{not, IsTrue}
 use Rattle.std.specs.List.{find, list_any}
 use Rattle.chain_defs.specs.Schema.{OutPoint}
-use Rattle.cell_defs.specs.Cell.{Cell}
 use Rattle.cell_defs.specs.Events.{Event, Makes, Spends, same_out_point, out_point_of, names, last_naming}
 use Rattle.cell_defs.specs.Row.{Row, row_or, row_after}
-use Rattle.cell_defs.specs.Fit.{are_live, fits, AllFit}
+use Rattle.cell_defs.specs.Fit.{are_live, AllFit}
 use Rattle.cell_defs.specs.CellLaws.{makes}
-use Rattle.cell_defs.specs.Undo.{without, row_at, row_spent, spent_of, without_made, with_row, with_rows, undone, first_live, first_clash}
-use Rattle.cell_defs.specs.UndoLaws.{is_spend, ComesBefore, TakesBack}
+use Rattle.cell_defs.specs.Undo.{without, row_at, spent_of, without_made, with_row, undone, first_live, first_clash}
+use Rattle.cell_defs.specs.UndoLaws.{is_spend, TakesBack}
 use Rattle.cell_defs.proofs.PutLemmas.{put_at, with_rows-at, given_back, spent-at}
 use Rattle.cell_defs.proofs.NamingLemmas.{out_point-self, true-false, unnamed-last, unnamed-made, named-last, first-made, last-made, first-fits}
 

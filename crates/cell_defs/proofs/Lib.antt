@@ -13,3 +13,5 @@ pub mod PutLemmas
 pub mod NamingLemmas
 pub mod BackLaws
 pub mod SpentLaws
+pub mod LiveLaws
+pub mod ByLockLaws

@@ -1,7 +1,7 @@
 -- Which rows events spend.
-use Rattle.std.proofs.Common.{◌≡◌, ℕ, zero, suc, ◌+◌, ◌⊎◌, inl, inr, ⊎_elim, Bool, true, false, List, [], ◌∷◌, ◌++◌, ◌<◌, length, get_or, Option, Some, None, if◌then◌else◌, refl, sym, ap, ◌∙◌, subst, arith}
+use Rattle.std.proofs.Common.{◌≡◌, ℕ, zero, suc, ◌⊎◌, inl, inr, ⊎_elim, Bool, true, false, List, [], ◌∷◌, ◌++◌, ◌<◌, length, get_or, Option, Some, None, if◌then◌else◌, refl, sym, ap, ◌∙◌, subst, arith}
 use Rattle.std.specs.Prelude.{IsTrue}
-use Rattle.std.specs.List.{Contains, AllPairs, All, find}
+use Rattle.std.specs.List.{Contains, AllPairs, find}
 use Rattle.std.proofs.lemmas.List.Kept.{AllPairs-cons}
 use Rattle.std.proofs.lemmas.Option.{slice_get-get_or, get_or_from_slice_get}
 use Rattle.chain_defs.specs.Schema.{OutPoint}
@@ -9,7 +9,7 @@ use Rattle.cell_defs.specs.Events.{Event, Makes, Spends, same_out_point, names}
 use Rattle.cell_defs.specs.Row.{Row}
 use Rattle.cell_defs.proofs.EventLemmas.{out_points-same}
 use Rattle.cell_defs.specs.Undo.{without, row_at, spent_of}
-use Rattle.cell_defs.specs.UndoLaws.{is_spend, AreSpentOf, SpendsRowsOnce}
+use Rattle.cell_defs.specs.UndoLaws.{is_spend, SpendsRowsOnce}
 use Rattle.cell_defs.proofs.NamingLemmas.{out_point-self}
 use Rattle.cell_defs.proofs.BackLaws.{there-apart, spend-later}
 

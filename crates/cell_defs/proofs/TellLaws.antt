@@ -1,5 +1,5 @@
 -- The bytes of rows and exts that fit tell them: field by field, each at its place.
-use Rattle.std.proofs.Common.{◌≡◌, ℕ, zero, suc, ◌+◌, ◌*◌, ◌<◌, ◌^◌, List, [], ◌∷◌, ◌++◌, length, map, take, drop, replicate, Option, Some, None, refl, sym, ap, ◌∙◌, append_assoc, arith}
+use Rattle.std.proofs.Common.{◌≡◌, ℕ, suc, ◌*◌, ◌<◌, ◌^◌, List, [], ◌∷◌, ◌++◌, length, map, take, drop, Option, Some, None, refl, sym, ap, ◌∙◌, append_assoc, arith}
 use Rattle.std.specs.Prelude.{IfSome}
 use Rattle.std.specs.List.{All, concat}
 use Rattle.std.specs.Int.{w32, w64, to_le_bytes, from_le_bytes}
@@ -8,8 +8,8 @@ use Rattle.std.proofs.lemmas.List.{take_at, drop_at, length-append}
 use Rattle.std.proofs.lemmas.List.Elements.{All-head, All-tail}
 use Rattle.chain_defs.specs.Schema.{OutPoint}
 use Rattle.cell_defs.specs.Row.{Row}
-use Rattle.cell_defs.specs.Ext.{Ext, type_bytes, row_bytes, ext_bytes}
-use Rattle.cell_defs.specs.Fits.{FitsRow, FitsExt, BytesDetermineRows, BytesDetermineExts}
+use Rattle.cell_defs.specs.Ext.{type_bytes, row_bytes, ext_bytes}
+use Rattle.cell_defs.specs.Fits.{FitsRow, BytesDetermineRows, BytesDetermineExts}
 
 -- ---- Two lists in two parts
 

@@ -1,9 +1,9 @@
 -- Which exts bytes hold, and that they hold one (docs/STORE.md, "The ext").
-use Rattle.std.specs.Prelude.{◌≡◌, ℕ, ◌^◌, ◌<◌, List, length, IfSome, IsTrue}
+use Rattle.std.specs.Prelude.{◌≡◌, ◌^◌, ◌<◌, length, IfSome}
 use Rattle.std.specs.List.{All}
 use Rattle.chain_defs.specs.Schema.{OutPoint}
 use Rattle.cell_defs.specs.Row.{Row}
-use Rattle.cell_defs.specs.Ext.{Ext, row_bytes, ext_bytes, is_ext}
+use Rattle.cell_defs.specs.Ext.{Ext, row_bytes, ext_bytes}
 
 -- A row with its out-point fits its bytes: its hashes have 32, and its numbers are a u32 or a u64.
 pub record FitsRow (it : OutPoint × Row) : Type 0 where

@@ -8,3 +8,5 @@ pub mod Fits
 pub mod FitLaws
 pub mod Undo
 pub mod UndoLaws
+pub mod LiveCells
+pub mod ByLock

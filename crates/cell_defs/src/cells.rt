@@ -1,4 +1,6 @@
 ghost use Rattle.cell_defs.specs.CellLaws.{MakesAreOutputs, SpendsAreInputs, LivesByCounting, AppliesInOrder, GrowsByABlock, CellsAreOutputs, SeenCellsAreOutputs};
+ghost use Rattle.cell_defs.specs.LiveCells.{ListsJustTheLive, ListsEachOnce};
+ghost use Rattle.cell_defs.specs.ByLock.{ListsByLock};
 
 /// States that a branch makes just the outputs of its blocks, each with its out-point and its data, and spends just
 /// their inputs but those of the genesis and of each cellbase. It does nothing.
@@ -21,4 +23,12 @@ pub fn live_cells()
 pub fn live_rows()
     ensures in_order { AppliesInOrder }
     ensures by_a_block { GrowsByABlock }
+{}
+
+/// States that the list of live cells has just the cells that are live after its events, and no out-point twice, and that
+/// the list of those of a branch that have one lock is just these with their rows, in rising order. It does nothing.
+pub fn listed_cells()
+    ensures just_the_live { ListsJustTheLive }
+    ensures each_once { ListsEachOnce }
+    ensures by_lock { ListsByLock }
 {}

@@ -3,8 +3,9 @@
 //! after it.
 //!
 //! Definitions, and their laws as contracts of functions that do nothing: what cells and rows are for ([`block_events`],
-//! [`live_cells`], [`live_rows`]), that bytes tell the rows and the exts that they hold ([`bytes_of_exts`]), what of canonical
-//! blocks fits them ([`canonical`]), and that a block can be taken back ([`spent_rows`], [`taking_back`]).
+//! [`live_cells`], [`live_rows`]), the live cells as a list, and those of one lock ([`listed_cells`]), that bytes tell the rows
+//! and the exts that they hold ([`bytes_of_exts`]), what of canonical blocks fits them ([`canonical`]), and that a block can be
+//! taken back ([`spent_rows`], [`taking_back`]).
 #![tactic(auto)]
 
 mod cells;
@@ -12,7 +13,7 @@ mod exts;
 mod fits;
 mod undo;
 
-pub use cells::{block_events, live_cells, live_rows};
+pub use cells::{block_events, listed_cells, live_cells, live_rows};
 pub use exts::bytes_of_exts;
 pub use fits::canonical;
 pub use undo::{spent_rows, taking_back};

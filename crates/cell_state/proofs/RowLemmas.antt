@@ -44,7 +44,7 @@ parts-at [] place b there = absurd (cc)
 parts-at (first ∷ later) zero b there = ap (λ (x : Block). x ∷ later) (same_Some first b there)
 parts-at (first ∷ later) (suc place) b there = ap (λ (xs : List Block). first ∷ xs) (parts-at later place b there)
 
-branch-some : (kept : List Block) (place : ℕ) → place < length kept → 0 < length (branch kept place)
+pub branch-some : (kept : List Block) (place : ℕ) → place < length kept → 0 < length (branch kept place)
 branch-some kept place below =
     let here = slice_get-below kept place below in
     let within = slice_get_within (branch kept place) (length (branch kept place) - 1) here.0 (branch-last kept place below ∙ here.1) in

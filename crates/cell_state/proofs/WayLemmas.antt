@@ -52,6 +52,7 @@ pub taken-same : (b : Block) (bytes : List ℕ) (one other before : OutPoint →
     → CanBeTakenBack b bytes one before → CanBeTakenBack b bytes other before
 taken-same b bytes one other before same can = record {
   height = can.height;
+  above = can.above;
   ext = can.ext;
   fits = can.fits;
   bytes_are = can.bytes_are;

@@ -15,6 +15,7 @@ use Rattle.cell_defs.specs.UndoLaws.{ComesBefore}
 -- rows before it.
 pub record CanBeTakenBack (b : Block) (bytes : List ℕ) (after before : OutPoint → Option Row) : Type 0 where
   pub height : ℕ
+  pub above : 0 < height
   pub ext : Ext
   pub fits : FitsExt ext
   pub bytes_are : ext_bytes ext ≡ bytes

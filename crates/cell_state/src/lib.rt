@@ -2,7 +2,8 @@
 //!
 //! [`State`] is the contract of use: clauses see its rows. `apply`, `undo` and `genesis` move it by one block; [`go_to`] moves it
 //! from the rows of one kept block's branch to those of another's, down by the rows of exts and up by the blocks, and
-//! [`genesis_cells`] gives those of the genesis. What blocks make and spend is defined in `cell_defs`.
+//! [`genesis_cells`] gives those of the genesis. [`State::left_by`] has what one block leaves of the cells that it makes. What
+//! blocks make and spend is defined in `cell_defs`.
 #![tactic(auto)]
 
 mod applying;
@@ -23,4 +24,5 @@ pub use applying::genesis_cells;
 pub use hashes::tx_hashes;
 pub use moving::go_to;
 pub use odd::Odd;
+pub use parent::parent_in;
 pub use state::{State, outputs_in};

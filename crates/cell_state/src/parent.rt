@@ -8,7 +8,7 @@ ghost use Rattle.chain_tree.specs.Blocks.{IndexesBlocks};
 use chain_tree::Tree;
 
 /// The place of the parent of the block at a place. None for the genesis, and where no block is kept.
-pub(crate) fn parent_in(tree: &Tree, place: u32) -> Option<u32>
+pub fn parent_in(tree: &Tree, place: u32) -> Option<u32>
     ensures parent { result ≡ parent_of tree.now.entries place }
     ensures earlier { IfSome result (λ parent. parent < place) }
     ensures within { IfSome result (λ parent. parent < length tree.now.entries) }

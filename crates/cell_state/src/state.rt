@@ -77,6 +77,24 @@ impl State {
         Ok(State { slots, last })
     }
 
+    /// The cells that the block at a place, which is no genesis, leaves of those that it makes: it does not spend them itself.
+    /// The hashes are those of its transactions.
+    pub fn left_by(
+        alloc: Global,
+        block: &BlockView<'_>,
+        hashes: &[[u8; 32]],
+        e: u32,
+    ) -> Result<State, NoMemory>
+        requires { hashes.now ≡ map transaction_hash block.now.transactions }
+        ensures { IfOk result (λ state. (height : ℕ) (o : schema.OutPoint) → 0 < height
+            → rows state o ≡ row_after e (events_of_block height block.now) (λ _. None) o) }
+    {
+        let mut slots = Slots::new(alloc);
+        let mut last = LastScript::new();
+        slots.replay(Events::of(block, hashes, false), e, &mut last)?;
+        Ok(State { slots, last })
+    }
+
     /// How many rows there are.
     pub fn rows(&self) -> u64
         ensures count { result ≡ count self.now }

@@ -1,4 +1,3 @@
-pub mod LiveLaws
 pub mod Weights
 pub mod Events
 pub mod Blocks

@@ -12,6 +12,7 @@ use Rattle.cell_defs.specs.Cell.{Cell}
 use Rattle.cell_defs.specs.Events.{Event, makes_of, events_from, events_of_block, events, cell_after}
 use Rattle.cell_defs.specs.Fit.{are_live, none_live, live_after, AllFit}
 use Rattle.cell_defs.proofs.FitLemmas.{fits-same, fits-between, live-from-nothing}
+use Rattle.cell_defs.specs.LiveCells.{live_cells}
 use Rattle.rule_defs.specs.Genesis.{genesis_rules}
 use Rattle.rule_defs.specs.Capacity.{held_out}
 use Rattle.rule_defs.specs.Field.{made_by}
@@ -21,7 +22,6 @@ use Rattle.verdict_defs.specs.Laws.{MayJoin}
 use Rattle.store_defs.specs.Store.{IsJoined}
 use Rattle.store_defs.proofs.EventFit.{FitAfter}
 use Rattle.store_defs.proofs.EventsFitLaws.{events-fit}
-use Rattle.supply_defs.specs.LiveCells.{live_cells}
 use Rattle.supply_defs.specs.Sums.{capacity_of, occupied_of, sum_of_live, live_capacity, live_occupied, first_unpaid, unpaid, burned_at, burned, Sums}
 use Rattle.supply_defs.specs.Laws.{StartsWithItsOutputs}
 use Rattle.supply_defs.proofs.Events.{all_made, all_spent, made-append, spent-append, live-moves, capacity-made, occupied-made, makes-spend-none}

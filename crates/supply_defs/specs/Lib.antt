@@ -1,4 +1,3 @@
-pub mod LiveCells
 pub mod Sums
 pub mod Step
 pub mod Laws

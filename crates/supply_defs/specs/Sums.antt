@@ -7,9 +7,9 @@ use Rattle.chain_defs.specs.Specification.{Specification}
 use Rattle.chain_defs.specs.Kept.{block_at}
 use Rattle.cell_defs.specs.Cell.{Cell, occupied_by}
 use Rattle.cell_defs.specs.Events.{Event, events}
+use Rattle.cell_defs.specs.LiveCells.{live_cells}
 use Rattle.rule_defs.specs.Reward.{part}
 use Rattle.rule_defs.specs.Payment.{cellbase_outputs}
-use Rattle.supply_defs.specs.LiveCells.{live_cells}
 
 -- ---- Live cells
 

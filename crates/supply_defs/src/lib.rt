@@ -1,19 +1,12 @@
 //! The supply law (docs/RULES.md, "The reward"): what a chain has issued is, along each branch, in live cells, saved, not paid yet,
 //! or burned.
 //!
-//! Definitions, and laws as contracts of functions that do nothing: [`live_cells`] says what the finite list of live cells
-//! is, and [`supply`] that nothing comes from nowhere and nothing is lost, block by block and from the genesis on.
+//! Definitions, and laws as contracts of functions that do nothing: [`supply`] says that nothing comes from nowhere and nothing
+//! is lost, block by block and from the genesis on, and [`sums`] how great the sums are. The live cells are the list of
+//! cell_defs.
 #![tactic(auto)]
 
-ghost use Rattle.supply_defs.specs.LiveCells.{ListsJustTheLive, ListsEachOnce};
 ghost use Rattle.supply_defs.specs.Laws.{BlocksStep, NothingIsLost, OccupiedStays, StartsWithItsOutputs, SumsAreSmall, StartsSmall};
-
-/// States that the list of live cells has just the cells that are live after its events, and no out-point twice. It does
-/// nothing.
-pub fn live_cells()
-    ensures lists_just_the_live { ListsJustTheLive }
-    ensures lists_each_once { ListsEachOnce }
-{}
 
 /// States of a chain that has joined: each block is one more on its parent's branch, and moves the four sums of that branch
 /// by its step; so what was issued is saved, in live cells, unpaid or burned, and live cells occupy what the DAO field says,

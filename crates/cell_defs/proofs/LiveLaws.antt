@@ -7,7 +7,7 @@ use Rattle.cell_defs.specs.Cell.{Cell}
 use Rattle.cell_defs.specs.Events.{Event, Makes, Spends, same_out_point, last_naming, cell_left, cell_after}
 use Rattle.cell_defs.proofs.EventLemmas.{out_points-same}
 use Rattle.cell_defs.proofs.NamingLemmas.{out_point-self}
-use Rattle.supply_defs.specs.LiveCells.{live_cells, ListsJustTheLive, ListsEachOnce}
+use Rattle.cell_defs.specs.LiveCells.{live_cells, ListsJustTheLive, ListsEachOnce}
 
 -- ---- Elements
 

@@ -1,0 +1,16 @@
+use Rattle.std.proofs.Common.{List, None, ap, ◌∙◌}
+use Rattle.cell_defs.specs.Events.{Event}
+use Rattle.cell_defs.specs.Row.{row_after}
+use Rattle.cell_state.proofs.ApplyLemmas.{settled-rows, are-settled}
+use Rattle.cell_state.proofs.HeightLemmas.{rows-above}
+use Rattle.cell_state.proofs.state.State.left_by.Goals as goal
+
+pub invariant_of-result : goal.invariant_of-result
+invariant_of-result c =
+    are-settled c.replay.new.self (row_after c.args.e c.of.result (λ _. None)) (c.in_ok-replay.ensures.at (λ _. None) c.new-slots.ensures.at)
+
+pub returns : goal.returns
+returns c height o above =
+    settled-rows c.replay.new.self (row_after c.args.e c.of.result (λ _. None)) (c.in_ok-replay.ensures.at (λ _. None) c.new-slots.ensures.at) o
+    ∙ ap (λ (es : List Event). row_after c.args.e es (λ _. None) o) c.of.ensures
+    ∙ rows-above c.args.e height c.args.block.now (λ _. None) o above
