@@ -150,7 +150,7 @@ class Chain:
         if first:
             genesis = dataclasses.replace(genesis, transactions=(first,))
         self.genesis = dataclasses.replace(genesis, dao=dao) if dao else genesis
-        self.tip, self.items = self.genesis, []
+        self.tip, self.kept, self.items = self.genesis, [], []
 
     def block(self, parent=None, commits=(), proposes=(), uncles=(), lock=LOCK, nonce=0, **changes):
         """The next block on the tip, or on another, that keeps all rules but for what changes."""
@@ -161,6 +161,7 @@ class Chain:
 
     def joins(self, **parts):
         self.tip = self.block(**parts)
+        self.kept.append(self.tip)
         self.items.append((self.tip.item(), joined(self.tip)))
 
     def refuses(self, rule, **parts):

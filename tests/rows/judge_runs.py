@@ -5,7 +5,7 @@ of every form.
     python3 tests/rows/judge_runs.py FOLDER [CASE ..]
 
 FOLDER has cases, a JSON file each: `ops` in order, each with the `words` of a
-command (`init`, `import`, `check` or `tip`), its input `in` in hex, its output
+command (`init`, `import`, `check`, `tip` or `audit`), its input `in` in hex, its output
 `out` and its `status`, and after it the SHA-256 of LOG up to where its records
 end. Their answers were made from the rules, not by this program. The rows of each
 CASE, a file's name without .json, go to standard output; where none is named, those
@@ -21,6 +21,11 @@ keep them,
 
     chain_10 chain_20 chain_38 dao_16 special_00 special_02 special_05 special_17
     special_26
+
+and of a folder `supply`, in which `audit` is asked between imports of chains that burn,
+deposit and withdraw,
+
+    supply_00 supply_03 supply_12 supply_23 supply_29 supply_35
 """
 
 import glob

@@ -3,7 +3,7 @@
 
     python3 tests/rows/rewards.py
 
-They are the last of that file. A row is a word and its columns, with a tab between two,
+They stand before those on totals. A row is a word and its columns, with a tab between two,
 bytes in hex:
 
     spec     a specification

@@ -30,8 +30,8 @@ use std::alloc::Global;
 use std::sync::ledger::Ledger;
 
 /// Does what the words ask for: reads the input, writes its text, and answers how it ended.
-/// The words are a folder, which is any word that is not empty, and a command: `init`, `import`, `tip`, `epoch`, `check`, `assemble`,
-/// `header` or `json` and a height, `cell` or `dao` with the hash of a transaction and an index, `asm`, `dis`, `unjson`, `exec` and a
+/// The words are a folder, which is any word that is not empty, and a command: `init`, `import`, `tip`, `epoch`, `audit`, `check`,
+/// `assemble`, `header` or `json` and a height, `cell` or `dao` with the hash of a transaction and an index, `asm`, `dis`, `unjson`, `exec` and a
 /// budget in cycles, at most 2^40, or `make` or `soak` with a seed and a count of blocks, at most 20,000 and 100.
 pub fn run<S: Source, K: Sink, D: Disk, L: Ledger>(
     alloc: Global,

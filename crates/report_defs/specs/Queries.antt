@@ -16,10 +16,11 @@ use Rattle.rule_defs.specs.Site.{site_after}
 use Rattle.rule_defs.specs.Withdrawals.{is_dao_cell, is_withdrawing}
 use Rattle.rule_defs.specs.Capacity.{withdrawn}
 use Rattle.verdict_defs.specs.Chain.{Chain}
+use Rattle.supply_defs.specs.Laws.{supply_balance, occupied_balance}
 use Rattle.report_defs.specs.declared.dao.DaoState.{DaoState}
 use Rattle.report_defs.specs.declared.dao.DaoState.TheVariants.{NotDao, Deposit, Withdrawing}
 use Rattle.json_defs.specs.Blocks as json
-use Rattle.report_defs.specs.Text.{line_feed, header_line, epoch_line, cell_line, deposit_line, withdrawing_line, none_line, overflow_line, not_dao_line}
+use Rattle.report_defs.specs.Text.{line_feed, header_line, epoch_line, cell_line, deposit_line, withdrawing_line, none_line, overflow_line, not_dao_line, audit_line}
 
 -- ---- `header`
 
@@ -132,3 +133,9 @@ dao_of spec branch (Some cell) = dao_line spec branch cell
 -- What the live cell with an out-point counts.
 abbrev pub dao_answer : List ℕ → ℕ → Chain → List ℕ
 dao_answer tx_hash index chain = dao_of chain.spec (best_branch chain.blocks) (cell_at_tip chain tx_hash index)
+
+-- ---- `audit`
+
+-- What the best branch issued, less what is saved, in live cells, unpaid or burned; and what its live cells occupy by the DAO field, less what they do.
+abbrev pub audit_answer : Chain → List ℕ
+audit_answer chain = audit_line (supply_balance chain.spec (best_branch chain.blocks)) (occupied_balance (best_branch chain.blocks))

@@ -24,7 +24,7 @@ use Rattle.json_defs.specs.Laws.{IsReadAs}
 use Rattle.report_defs.specs.declared.command.Command.{Command}
 use Rattle.report_defs.specs.declared.command.Command.TheVariants.{Init, Import, Query, Question, Standalone, Simulation}
 use Rattle.report_defs.specs.declared.command.Query as queries
-use Rattle.report_defs.specs.declared.command.Query.TheVariants.{Tip, Header, Json, Epoch, Cell, Dao}
+use Rattle.report_defs.specs.declared.command.Query.TheVariants.{Tip, Header, Json, Epoch, Cell, Dao, Audit}
 use Rattle.report_defs.specs.declared.command.Question as questions
 use Rattle.report_defs.specs.declared.command.Question.TheVariants.{Check, Assemble}
 use Rattle.report_defs.specs.declared.command.Standalone as files
@@ -38,7 +38,7 @@ use Rattle.report_defs.specs.declared.status.Status.TheVariants.{Done, SomeRefus
 use Rattle.report_defs.specs.Items.{Limits, Split, split_of, end_offset, whole_limits, end_of_whole}
 use Rattle.report_defs.specs.Text.{line, trial_line, tip_line, genesis_line, bad_spec_line, bad_genesis_line, cut_line, bad_size_line, extra_line, execution_line, bad_line, bad_json, made_line, soak_line}
 use Rattle.report_defs.specs.Assembly.{assembly_items, pool_line, no_block_line, last_line, status_of_lines}
-use Rattle.report_defs.specs.Queries.{header_answer, json_answer, epoch_answer, cell_answer, dao_answer}
+use Rattle.report_defs.specs.Queries.{header_answer, json_answer, epoch_answer, cell_answer, dao_answer, audit_answer}
 use Rattle.report_defs.specs.declared.counts.Counts.{Counts}
 use Rattle.report_defs.specs.Simulation.{generated_counts, AreSoakCounts}
 
@@ -169,6 +169,7 @@ answer_to_query (Json height) chain = json_answer height chain
 answer_to_query Epoch chain = epoch_answer chain
 answer_to_query (Cell tx_hash index) chain = cell_answer tx_hash index chain
 answer_to_query (Dao tx_hash index) chain = dao_answer tx_hash index chain
+answer_to_query Audit chain = audit_answer chain
 
 abbrev pub report_of_query : queries.Query → Chain → Report
 report_of_query query chain = report_without_lines (answer_to_query query chain) Done

@@ -1,5 +1,5 @@
 -- The lines that a run prints. Each ends with a line feed (docs/COMMANDS.md).
-use Rattle.std.specs.Prelude.{ℕ, List, [], ◌∷◌, ◌++◌, codes, Option, Some, None, Ok, Err}
+use Rattle.std.specs.Prelude.{ℕ, ℤ, List, [], ◌∷◌, ◌++◌, codes, Option, Some, None, Ok, Err}
 use Rattle.std.specs.Fmt.{decimal, signed_decimal}
 use Rattle.hex.specs.Hex.{encode_lower}
 use Rattle.chain_defs.specs.Schema.{Block}
@@ -84,6 +84,10 @@ overflow_line = codes "overflow" ++ line_feed
 -- a live cell that is neither
 abbrev pub not_dao_line : List ℕ
 not_dao_line = codes "not dao" ++ line_feed
+
+-- the balances of what was issued and of what live cells occupy, in shannons
+abbrev pub audit_line : ℤ → ℤ → List ℕ
+audit_line supply occupied = codes "audit " ++ signed_decimal supply ++ codes " " ++ signed_decimal occupied ++ line_feed
 
 -- ---- `init`
 

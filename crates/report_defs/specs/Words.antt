@@ -9,7 +9,7 @@ use Rattle.hex.specs.declared.error.FromHexError.{FromHexError}
 use Rattle.report_defs.specs.Text.{hash_text}
 use Rattle.report_defs.specs.declared.command.Command.{Command}
 use Rattle.report_defs.specs.declared.command.Command.TheVariants.{Init, Import, Query, Question, Standalone, Simulation}
-use Rattle.report_defs.specs.declared.command.Query.TheVariants.{Tip, Header, Json, Epoch, Cell, Dao}
+use Rattle.report_defs.specs.declared.command.Query.TheVariants.{Tip, Header, Json, Epoch, Cell, Dao, Audit}
 use Rattle.report_defs.specs.declared.command.Question.TheVariants.{Check, Assemble}
 use Rattle.report_defs.specs.declared.command.Standalone.TheVariants.{Exec, Asm, Dis, Unjson}
 use Rattle.report_defs.specs.declared.command.Simulation.TheVariants.{Make, Soak}
@@ -64,6 +64,7 @@ command_alone name =
     else if bytes_eq name (codes "import") then Some Import
     else if bytes_eq name (codes "tip") then Some (Query Tip)
     else if bytes_eq name (codes "epoch") then Some (Query Epoch)
+    else if bytes_eq name (codes "audit") then Some (Query Audit)
     else if bytes_eq name (codes "check") then Some (Question Check)
     else if bytes_eq name (codes "assemble") then Some (Question Assemble)
     else if bytes_eq name (codes "asm") then Some (Standalone Asm)

@@ -30,6 +30,8 @@ pub enum Query {
     Cell { tx_hash: [u8; 32], index: u64 },
     /// `dao`: prints what a live cell of the Nervos DAO counts.
     Dao { tx_hash: [u8; 32], index: u64 },
+    /// `audit`: prints by how much what the best branch issued, and what its live cells occupy, differ from what is there.
+    Audit,
 }
 
 /// What is asked of the store about a whole input.

@@ -10,7 +10,7 @@ use rewards::reward;
 use std::alloc::Global;
 
 /// Whether C and AR of each entry's field are above 0.
-fn are_rated(tree: &Tree) -> bool
+pub(crate) fn are_rated(tree: &Tree) -> bool
     ensures { IsTrue result → AreRated tree.now.entries }
 {
     'entries: for place in 0..tree.len() {

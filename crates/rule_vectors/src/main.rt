@@ -9,11 +9,12 @@
 //!
 //! The other rows are about a chain. `spec` and `genesis` begin a chain, and a `block`
 //! joins it whatever rules it breaks; a `kept` block has its ext beside it. `earliest` asks for the earliest proposer of an
-//! id, `uncles` for J15 and `reward` for a reward, each of the blocks that joined so far: tests/rows/windows.py,
-//! tests/rows/uncles.py and tests/rows/rewards.py make these rows, and say what their columns are. A row that begins with
+//! id, `uncles` for J15, `reward` for a reward, and `totals` and `unfit` for the running totals of a branch, each of the
+//! blocks that joined so far: tests/rows/windows.py, uncles.py, rewards.py and totals.py there make these rows, and say what
+//! their columns are. A row that begins with
 //! `joined`, `known` or `refused J` and a number is an item that must be answered so: it joins where it keeps J4 to J14. Such
 //! rows before the first `spec` of tests/rows/rule_blocks.py were made by a program that was written from docs/RULES.md alone.
-//! Those of rule_blocks.py stand after them, then those on the window, on uncles and on rewards.
+//! Those of rule_blocks.py stand after them, then those on the window, on uncles, on rewards and on totals.
 #![tactic(auto)]
 
 mod chain;
@@ -24,6 +25,7 @@ mod items;
 mod names;
 mod since;
 mod time;
+mod totals;
 mod uncles;
 mod window;
 
@@ -121,6 +123,8 @@ fn agrees_on_chain(alloc: Global, chain: &mut Chain, word: &str, row: &mut Row) 
         "earliest" => is_proposed(alloc, chain, row),
         "uncles" => has_uncles(alloc, chain, row),
         "reward" => is_given(alloc, chain, row),
+        "totals" => totals::agree(alloc, chain, row),
+        "unfit" => totals::are_unfit(alloc, chain, row),
         wanted => is_answered(alloc, chain, wanted, row),
     }
 }

@@ -1,3 +1,4 @@
+pub mod AuditLemmas
 pub mod QueryLemmas
 pub mod QueryReport
 pub mod Statuses

@@ -1,5 +1,5 @@
 -- What is found for a query, and the line of a live cell by its row.
-use Rattle.std.specs.Prelude.{◌≡◌, ℕ, List, Option, Some, None}
+use Rattle.std.specs.Prelude.{◌≡◌, ℕ, ℤ, List, Option, Some, None}
 use Rattle.cell_defs.specs.Cell.{Cell, occupied_by}
 use Rattle.cell_defs.specs.Row.{Row, row_of}
 use Rattle.chain_defs.specs.Schema.{OutPoint}
@@ -7,6 +7,7 @@ use Rattle.chain_defs.specs.Tip.{best_branch}
 use Rattle.cell_defs.specs.Events.{live_cell}
 use Rattle.cell_model.specs.Copies.{IsCopyOf}
 use Rattle.verdict_defs.specs.Chain.{Chain}
+use Rattle.supply_defs.specs.Laws.{supply_balance, occupied_balance}
 use Rattle.node_store.specs.Queries.{LiveValue, FetchedValue}
 use Rattle.report_defs.specs.Text.{cell_line}
 
@@ -32,3 +33,7 @@ pub record IsCopied (cell : Cell) (found : FetchedValue) : Type 0 where
 abbrev pub IsCopyFound : Option Cell → Option FetchedValue → Type 0
 IsCopyFound live None = live ≡ None
 IsCopyFound live (Some found) = (cell : Cell) × (live ≡ Some cell) × IsCopied cell found
+
+-- what is left of the DAO field of a chain's tip: of what was issued, and of what live cells occupy
+abbrev pub balances_of : Chain → ℤ × ℤ
+balances_of chain = (supply_balance chain.spec (best_branch chain.blocks), occupied_balance (best_branch chain.blocks))

@@ -1,6 +1,6 @@
 // The lines of queries.
 ghost use Rattle.std.specs.Prelude.{◌≡◌, ◌++◌, codes, string_bytes, IfOk, OnOk};
-ghost use Rattle.std.specs.Fmt.{decimal};
+ghost use Rattle.std.specs.Fmt.{decimal, signed_decimal};
 ghost use Rattle.report_defs.specs.Text as text;
 ghost use Rattle.report_defs.specs.Queries.{amount_line};
 ghost use Rattle.run_query.specs.Queries.{row_line};
@@ -141,4 +141,25 @@ pub fn not_dao_line(alloc: Global) -> Result<String, AllocError>
     ensures { IfOk result (λ line. string_bytes line ≡ text.not_dao_line) }
 {
     String::from_str(alloc, "not dao\n")
+}
+
+/// Adds a number in decimal digits, after a sign where it is negative.
+fn push_signed(alloc: Global, line: &mut String, number: i128) -> Result<(), AllocError>
+    ensures { OnOk result (string_bytes line.new ≡ string_bytes line.old ++ signed_decimal number) }
+{
+    let digits = number.to_string(alloc)?;
+    line.push_str(&digits)
+}
+
+/// The line of two balances, in shannons: of what was issued, and of what live cells occupy.
+pub fn audit_line(alloc: Global, left: (i128, i128)) -> Result<String, AllocError>
+    ensures { IfOk result (λ line. string_bytes line ≡ text.audit_line left.0 left.1) }
+{
+    let (supply, occupied) = left;
+    let mut line = String::from_str(alloc, "audit ")?;
+    push_signed(alloc, &mut line, supply)?;
+    line.push_str(" ")?;
+    push_signed(alloc, &mut line, occupied)?;
+    line.push_str("\n")?;
+    Ok(line)
 }

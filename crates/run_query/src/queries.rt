@@ -26,6 +26,7 @@ ghost use Rattle.run_text.specs.Output.{Took};
 ghost use Rattle.run_query.specs.Queries.{IsCellFound};
 ghost use Rattle.run_text.specs.Store.{Delivers, IsQueryPrinted, OnlyReads, opening_stops};
 
+use crate::audit::audit;
 use crate::dao::dao;
 use crate::lines::{epoch_line, header_line, live_line, none_line, tip_line};
 use cell_model::OutPoint;
@@ -60,6 +61,7 @@ fn answer_to<D: Disk>(
         Query::Epoch => epoch(alloc, node),
         Query::Cell { tx_hash, index } => cell(alloc, node, tx_hash, index),
         Query::Dao { tx_hash, index } => dao(alloc, disk, node, tx_hash, index),
+        Query::Audit => audit(alloc, disk, node),
     }
 }
 

@@ -65,6 +65,9 @@ fn command_alone(name: &[u8]) -> Option<Command>
     if name == b"epoch".as_slice() {
         return Some(Command::Query(Query::Epoch));
     }
+    if name == b"audit".as_slice() {
+        return Some(Command::Query(Query::Audit));
+    }
     if name == b"check".as_slice() {
         return Some(Command::Question(Question::Check));
     }

@@ -7,7 +7,8 @@
 //! the calls of the disk that fail. A row `faults` makes them over one new disk after the other, and has a status, the number of a call
 //! and a least count: that call fails, of each run's source (status 3) or sink (4) but the first run's, or of the disk (5), then the
 //! next one and so on. The run in which it does has that status and a beginning of its text, and answers as it must once more; at
-//! least so many calls fail before there is no such call.
+//! least so many calls fail before there is no such call. A row `more` makes them over a new disk, and has a count: the last makes
+//! at least so many calls of the disk more than `tip` does in its place.
 //!
 //! What is wanted was made by programs that were written from the rules of docs/ alone, or by hand from the same rules;
 //! tests/README.md says which rows scripts of tests/rows/ make. Runs in which nothing fails are made by the built program
@@ -17,6 +18,7 @@
 #![tactic(auto)]
 
 mod caches;
+mod calls;
 mod faulty;
 mod list;
 mod row;
@@ -57,6 +59,13 @@ impl<'s, L: Ledger> Runs<'s, L> {
         agree.ok()
     }
 
+    fn agree_with_more(&mut self, alloc: Global, row: &mut Row) -> Option<bool> {
+        let least = row.number()?;
+        let agree = calls::makes_more(alloc, self.steps, &mut self.runs, least);
+        self.runs.clear();
+        agree.ok()
+    }
+
     fn take(&mut self, alloc: Global, row: &mut Row) -> Option<bool> {
         self.runs.push(run_of(alloc, row)?).ok()?;
         Some(true)
@@ -68,6 +77,7 @@ impl<'s, L: Ledger> Subject for Runs<'s, L> {
         match row.word() {
             "list" => self.agree_in_a_list(alloc, row),
             "faults" => self.agree_with_faults(alloc, row),
+            "more" => self.agree_with_more(alloc, row),
             _ => self.take(alloc, row),
         }
     }

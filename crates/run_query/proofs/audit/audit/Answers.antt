@@ -1,0 +1,29 @@
+use Rattle.std.proofs.Common.{◌≡◌, List, ℕ, ℤ, ap, sym, subst, string_bytes}
+use Rattle.std.specs.Prelude.{IfOk}
+use Rattle.report_defs.specs.Queries.{audit_answer}
+use Rattle.report_defs.specs.Text.{audit_line}
+use Rattle.run_text.proofs.Exits.{same_stop}
+use Rattle.run_store.proofs.LookLemmas.{looks_found, looks_stopped, memory_no_fault, memory_no_none, memory_opening}
+use Rattle.run_query.proofs.AuditLemmas.{undamaged-stop}
+use Rattle.run_query.proofs.audit.audit.Goals as goal
+
+pub returns-in-Err-clause-disk : goal.returns-in-Err-clause-disk
+returns-in-Err-clause-disk g c = looks_stopped c.in-Err.stop c.status_of_reading.result c.in-Err.ensures.left c.status_of_reading.ensures.fault
+
+pub returns-in-Err-clause-sound : goal.returns-in-Err-clause-sound
+returns-in-Err-clause-sound g c = λ sound is.
+    let none = c.status_of_reading.ensures.none (same_stop _ _ is) in
+    undamaged-stop c.in-Err.stop none.0 (c.in-Err.ensures.balances sound) none.1
+
+pub returns-clause-disk : goal.returns-clause-disk
+returns-clause-disk g c = looks_found c.in-Ok.ensures.left (memory_no_fault c.line_or_stop.result c.line_or_stop.ensures.memory)
+
+pub returns-clause-text : goal.returns-clause-text
+returns-clause-text g c = λ sound. c.line_or_stop.ensures.text (audit_answer c.args.node.now.chain)
+    (subst (λ (left : ℤ × ℤ). IfOk c.audit_line.result (λ line. string_bytes line ≡ audit_line left.0 left.1)) (c.in-Ok.ensures.balances sound) c.audit_line.ensures)
+
+pub returns-clause-stop : goal.returns-clause-stop
+returns-clause-stop g c = λ status is. memory_opening status (c.line_or_stop.ensures.memory status is)
+
+pub returns-clause-sound : goal.returns-clause-sound
+returns-clause-sound g c = λ sound is. memory_no_none c.line_or_stop.result c.line_or_stop.ensures.memory is

@@ -1,0 +1,5 @@
+pub mod SumLemmas
+pub mod KeptLemmas
+pub mod DueLemmas
+pub mod StepLemmas
+pub mod WalkLemmas
