@@ -1,9 +1,9 @@
 -- Fields that are put one after another, and the lists of items.
-use Rattle.std.proofs.Common.{◌≡◌, ℕ, suc, ◌+◌, ◌^◌, ◌<◌, ◌≤◌, Bool, true, false, List, [], ◌∷◌, ◌++◌, length, map, drop, Option, Some, None, option_map, Vec, Global, refl, sym, ap, ◌∙◌, arith, append_assoc, append-nil, lt-ltb, ltb-true, ltb-false}
-use Rattle.std.specs.Prelude.{if◌then◌else◌, nat_lt}
+use Rattle.std.proofs.Common.{◌≡◌, ℕ, zero, suc, ◌+◌, ◌^◌, ◌<◌, ◌≤◌, Bool, true, false, List, [], ◌∷◌, ◌++◌, length, map, drop, slice_index, Option, Some, None, option_map, Vec, Global, refl, sym, ap, ◌∙◌, arith, append_assoc, append-nil, lt-ltb, ltb-true, ltb-false}
+use Rattle.std.specs.Prelude.{if◌then◌else◌, nat_lt, slice_index_or}
 use Rattle.std.specs.Int.{w32, to_le_bytes}
 use Rattle.std.specs.List.{concat}
-use Rattle.std.proofs.lemmas.List.{drop_all, length-append}
+use Rattle.std.proofs.lemmas.List.{drop_all, drop_more, length-append}
 use Rattle.chain_defs.specs.Molecule as molecule
 use Rattle.chain_defs.proofs.MoleculeLaws.{concat-append, length-dynvec}
 use Rattle.serde_json.specs.Data.{Data, Items}
@@ -11,7 +11,7 @@ use Rattle.serde_json.specs.View.{view, items_view}
 use Rattle.serde_json.specs.declared.value.Value.{Value}
 use Rattle.json_blocks.specs.declared.stop.JsonStop.{JsonStop}
 use Rattle.json_blocks.specs.declared.stop.JsonStop.TheVariants as stops
-use Rattle.json_blocks.specs.Reading.{◌>>=◌, Fails, pushed, table_from, array_items, items_at, fixvec_at, dynvec_at}
+use Rattle.json_blocks.specs.Reading.{◌>>=◌, Fails, pushed, at_place, placed, table_from, array_items, items_at, fixvec_at, dynvec_at}
 
 not_below : (n m : ℕ) → m ≤ n → nat_lt n m ≡ false
 not_below n m more = by (nat_lt n m) refl
@@ -62,32 +62,44 @@ table_is fields all bytes is same =
     let size : molecule.full_size all < 2 ^ 32 = (let h = is.size in omega (arith, h, ap length is.encoding, length-dynvec fields, ap molecule.full_size same)) in
     ap (λ (b : Bool). if b then Some (molecule.dynvec all) else None) (lt-ltb _ _ size) ∙ ap Some (sym (is.encoding ∙ ap molecule.dynvec same))
 
--- ---- one field after another
-
-abbrev pub contents : List (Vec ℕ Global) → List (List ℕ)
-contents fs = map (λ f. f.items) fs
+-- ---- the fields at places, one after another
 
 -- a field more, of those that are left
-pub one_more : (done new all : List (List ℕ)) (f : List ℕ) (fields : List (Vec ℕ Global)) (b : Vec ℕ Global) (i : ℕ)
-    → drop i fields ≡ b ∷ drop (i + 1) fields → b.items ≡ f → new ≡ done ++ f ∷ []
-    → done ++ contents (drop i fields) ≡ all → new ++ contents (drop (i + 1) fields) ≡ all
-one_more done new all f fields b i rest is put before =
-    ap (λ (l : List (List ℕ)). l ++ contents (drop (i + 1) fields)) put
-    ∙ append_assoc done (f ∷ []) (contents (drop (i + 1) fields))
-    ∙ ap (λ (x : List ℕ). done ++ x ∷ contents (drop (i + 1) fields)) (sym is)
-    ∙ ap (λ (l : List (Vec ℕ Global)). done ++ contents l) (sym rest)
+pub next_placed : (done all fields : List (List ℕ)) (f : List ℕ) (places : List ℕ) (i : ℕ) → i < length places → f ≡ at_place fields (slice_index places i)
+    → done ++ placed (drop i places) fields ≡ all → done ++ f ∷ placed (drop (i + 1) places) fields ≡ all
+next_placed done all fields f places i within is before =
+    ap (λ (x : List ℕ). done ++ x ∷ placed (drop (i + 1) places) fields) is
+    ∙ ap (λ (l : List ℕ). done ++ placed l fields) (sym (drop_more places i 0 within))
     ∙ before
 
+pub one_more : (done new all fields : List (List ℕ)) (f : List ℕ) (places : List ℕ) (i : ℕ) → i < length places → f ≡ at_place fields (slice_index places i)
+    → new ≡ done ++ f ∷ [] → done ++ placed (drop i places) fields ≡ all → new ++ placed (drop (i + 1) places) fields ≡ all
+one_more done new all fields f places i within is put before =
+    ap (λ (l : List (List ℕ)). l ++ placed (drop (i + 1) places) fields) put
+    ∙ append_assoc done (f ∷ []) (placed (drop (i + 1) places) fields)
+    ∙ next_placed done all fields f places i within is before
+
 -- the same of all bytes side by side
-pub joined_more : (done new all f : List ℕ) (fields : List (Vec ℕ Global)) (b : Vec ℕ Global) (i : ℕ)
-    → drop i fields ≡ b ∷ drop (i + 1) fields → b.items ≡ f → new ≡ done ++ f
-    → done ++ concat (contents (drop i fields)) ≡ all → new ++ concat (contents (drop (i + 1) fields)) ≡ all
-joined_more done new all f fields b i rest is put before =
-    ap (λ (l : List ℕ). l ++ concat (contents (drop (i + 1) fields))) put
-    ∙ append_assoc done f (concat (contents (drop (i + 1) fields)))
-    ∙ ap (λ (x : List ℕ). done ++ (x ++ concat (contents (drop (i + 1) fields)))) (sym is)
-    ∙ ap (λ (l : List (Vec ℕ Global)). done ++ concat (contents l)) (sym rest)
+pub joined_more : (done new all f : List ℕ) (fields : List (List ℕ)) (places : List ℕ) (i : ℕ) → i < length places → f ≡ at_place fields (slice_index places i)
+    → new ≡ done ++ f → done ++ concat (placed (drop i places) fields) ≡ all → new ++ concat (placed (drop (i + 1) places) fields) ≡ all
+joined_more done new all f fields places i within is put before =
+    ap (λ (l : List ℕ). l ++ concat (placed (drop (i + 1) places) fields)) put
+    ∙ append_assoc done f (concat (placed (drop (i + 1) places) fields))
+    ∙ ap (λ (x : List ℕ). done ++ (x ++ concat (placed (drop (i + 1) places) fields))) is
+    ∙ ap (λ (l : List ℕ). done ++ concat (placed l fields)) (sym (drop_more places i 0 within))
     ∙ before
+
+-- the field at a place, of what holds the fields
+pub place_is : (fields : List (Vec ℕ Global)) (place : ℕ) (f : Vec ℕ Global) → place < length fields → f ≡ slice_index_or fields place f
+    → f.items ≡ at_place (map (λ v. v.items) fields) place
+place_is [] place f within is = absurd (omega (arith, within))
+place_is (v ∷ fields) zero f within is = ap (λ (x : Vec ℕ Global). x.items) is
+place_is (v ∷ fields) (suc place) f within is = place_is fields place f (omega (arith, within)) is
+
+pub no_place : (fields : List (Vec ℕ Global)) (place : ℕ) → length fields ≤ place → [] ≡ at_place (map (λ v. v.items) fields) place
+no_place [] place past = refl
+no_place (v ∷ fields) zero past = absurd (omega (arith, past))
+no_place (v ∷ fields) (suc place) past = no_place fields place (omega (arith, past))
 
 -- ---- lists of items
 

@@ -1,6 +1,6 @@
 -- How a tree is read, from left to right: the encoding that it gives, or none. The contracts of private functions speak by
 -- it. What it means is said by `Form` and `Blocks` alone, and proofs/Exact.antt ties the two.
-use Rattle.std.specs.Prelude.{◌≡◌, ℕ, ◌+◌, ◌^◌, List, [], ◌∷◌, ◌++◌, length, map, codes, Bool, true, false, not, ◌&&◌, ◌==◌, nat_lt, nat_le, if◌then◌else◌, Option, Some, None, Result, Ok, Err}
+use Rattle.std.specs.Prelude.{◌≡◌, ℕ, zero, suc, ◌+◌, ◌^◌, List, [], ◌∷◌, ◌++◌, length, map, codes, Bool, true, false, not, ◌&&◌, ◌==◌, nat_lt, nat_le, if◌then◌else◌, Option, Some, None, Result, Ok, Err}
 use Rattle.std.specs.Int.{Width, w32, w64, w128, byte_len, to_le_bytes}
 use Rattle.std.specs.Fmt.{digits}
 use Rattle.std.specs.List.{concat}
@@ -101,21 +101,58 @@ abbrev pub take_at : List ℕ → Members → Option (Data × Members)
 take_at key no_members = None
 take_at key (member k d ms) = if bytes_eq k key then Some (d, ms) else None
 
+-- a hash of 32 bytes under this key, where it is to stand here; else no bytes
+abbrev pub hash_at : Bool → List ℕ → Members → Option (List ℕ × Members)
+hash_at true key ms = do
+  h ← take_at key ms
+  hash ← array_at 32 h.0
+  Some (hash, h.1)
+hash_at false key ms = Some ([], ms)
+
 abbrev pub end_at : Members → Option (Unit {0})
 end_at no_members = Some tt
 end_at (member k d ms) = None
+
+-- What stands under a key: the field that its value is read as, or a hash that may stand in one of two places.
+pub data Field : Type 0 where
+  value_at : List ℕ → (Data → Option (List ℕ)) → Field
+  hash_if : Bool → List ℕ → Field
+
+-- the members by these rows, in the order of their keys, and what is made of the fields
+abbrev pub fields_at : List Field → (List (List ℕ) → Option (List ℕ)) → Members → List (List ℕ) → Option (List ℕ)
+fields_at [] made ms done = end_at ms >>= (λ last. made done)
+fields_at (value_at key read ∷ rows) made ms done = take_at key ms >>= (λ a. read a.0 >>= (λ b. fields_at rows made a.1 (done ++ b ∷ [])))
+fields_at (hash_if is_here key ∷ rows) made ms done = hash_at is_here key ms >>= (λ u. fields_at rows made u.1 (done ++ u.0 ∷ []))
+
+-- an object of these rows alone
+abbrev pub object_at : Bool → List Field → (List (List ℕ) → Option (List ℕ)) → Data → Option (List ℕ)
+object_at beside_hash rows made t = members_at beside_hash t >>= (λ ms. fields_at rows made ms [])
+
+-- ---- what is made of fields, by their places
+
+abbrev pub at_place : List (List ℕ) → ℕ → List ℕ
+at_place [] place = []
+at_place (f ∷ fs) zero = f
+at_place (f ∷ fs) (suc place) = at_place fs place
+
+abbrev pub placed : List ℕ → List (List ℕ) → List (List ℕ)
+placed places fields = map (at_place fields) places
 
 -- a table of these fields, where it is shorter than 2^32 bytes
 unfoldable pub table_from : List (List ℕ) → Option (List ℕ)
 table_from fields = if nat_lt (molecule.full_size fields) (2 ^ 32) then Some (molecule.dynvec fields) else None
 
--- a table whose first field is a table
-abbrev pub tables_from : List (List ℕ) → List (List ℕ) → Option (List ℕ)
-tables_from inner others = table_from inner >>= (λ first. table_from (first ∷ others))
+-- a table of the fields at these places
+abbrev pub table_of : List ℕ → List (List ℕ) → Option (List ℕ)
+table_of places fields = table_from (placed places fields)
 
--- a struct of these fields
-abbrev pub struct_from : List (List ℕ) → Option (List ℕ)
-struct_from fields = Some (concat fields)
+-- a table of these, and one that has it, as one more of the fields
+abbrev pub tables_of : List ℕ → List ℕ → List (List ℕ) → Option (List ℕ)
+tables_of inner places fields = table_of inner fields >>= (λ first. table_of places (fields ++ first ∷ []))
+
+-- a struct of these
+abbrev pub struct_of : List ℕ → List (List ℕ) → Option (List ℕ)
+struct_of places fields = Some (concat (placed places fields))
 
 -- the fields with one more, where their table stays shorter than 2^32 bytes
 unfoldable pub pushed : List (List ℕ) → List ℕ → Option (List (List ℕ))
@@ -152,17 +189,15 @@ dynvec_at read t = do
 
 -- ---- the objects of a block
 
+abbrev pub script_fields : List Field
+script_fields =
+    value_at (codes "args") content_at
+    ∷ value_at (codes "code_hash") (array_at 32)
+    ∷ value_at (codes "hash_type") (named_at (codes "data") (codes "type"))
+    ∷ []
+
 unfoldable pub script_at : Data → Option (List ℕ)
-script_at t = do
-  ms ← members_at false t
-  a ← take_at (codes "args") ms
-  args ← content_at a.0
-  c ← take_at (codes "code_hash") a.1
-  code_hash ← array_at 32 c.0
-  h ← take_at (codes "hash_type") c.1
-  hash_type ← named_at (codes "data") (codes "type") h.0
-  last ← end_at h.1
-  table_from (code_hash ∷ hash_type ∷ args ∷ [])
+script_at t = object_at false script_fields (table_of (1 ∷ 2 ∷ 0 ∷ [])) t
 
 unfoldable pub type_script_at : Data → Option (List ℕ)
 type_script_at null = Some []
@@ -172,104 +207,76 @@ type_script_at (string s) = script_at (string s)
 type_script_at (array ds) = script_at (array ds)
 type_script_at (object ms) = script_at (object ms)
 
+abbrev pub out_point_fields : List Field
+out_point_fields =
+    value_at (codes "index") (number_at w32)
+    ∷ value_at (codes "tx_hash") (array_at 32)
+    ∷ []
+
 unfoldable pub out_point_at : Data → Option (List ℕ)
-out_point_at t = do
-  ms ← members_at false t
-  i ← take_at (codes "index") ms
-  index ← number_at w32 i.0
-  h ← take_at (codes "tx_hash") i.1
-  tx_hash ← array_at 32 h.0
-  last ← end_at h.1
-  struct_from (tx_hash ∷ index ∷ [])
+out_point_at t = object_at false out_point_fields (struct_of (1 ∷ 0 ∷ [])) t
+
+abbrev pub cell_input_fields : List Field
+cell_input_fields =
+    value_at (codes "previous_output") out_point_at
+    ∷ value_at (codes "since") (number_at w64)
+    ∷ []
 
 unfoldable pub cell_input_at : Data → Option (List ℕ)
-cell_input_at t = do
-  ms ← members_at false t
-  p ← take_at (codes "previous_output") ms
-  previous_output ← out_point_at p.0
-  s ← take_at (codes "since") p.1
-  since ← number_at w64 s.0
-  last ← end_at s.1
-  struct_from (since ∷ previous_output ∷ [])
+cell_input_at t = object_at false cell_input_fields (struct_of (1 ∷ 0 ∷ [])) t
+
+abbrev pub cell_dep_fields : List Field
+cell_dep_fields =
+    value_at (codes "dep_type") (named_at (codes "code") (codes "dep_group"))
+    ∷ value_at (codes "out_point") out_point_at
+    ∷ []
 
 unfoldable pub cell_dep_at : Data → Option (List ℕ)
-cell_dep_at t = do
-  ms ← members_at false t
-  d ← take_at (codes "dep_type") ms
-  dep_type ← named_at (codes "code") (codes "dep_group") d.0
-  o ← take_at (codes "out_point") d.1
-  out_point ← out_point_at o.0
-  last ← end_at o.1
-  struct_from (out_point ∷ dep_type ∷ [])
+cell_dep_at t = object_at false cell_dep_fields (struct_of (1 ∷ 0 ∷ [])) t
+
+abbrev pub cell_output_fields : List Field
+cell_output_fields =
+    value_at (codes "capacity") (number_at w64)
+    ∷ value_at (codes "lock") script_at
+    ∷ value_at (codes "type") type_script_at
+    ∷ []
 
 unfoldable pub cell_output_at : Data → Option (List ℕ)
-cell_output_at t = do
-  ms ← members_at false t
-  c ← take_at (codes "capacity") ms
-  capacity ← number_at w64 c.0
-  l ← take_at (codes "lock") c.1
-  lock ← script_at l.0
-  s ← take_at (codes "type") l.1
-  type_script ← type_script_at s.0
-  last ← end_at s.1
-  table_from (capacity ∷ lock ∷ type_script ∷ [])
+cell_output_at t = object_at false cell_output_fields (table_of (0 ∷ 1 ∷ 2 ∷ [])) t
+
+abbrev pub transaction_fields : List Field
+transaction_fields =
+    value_at (codes "cell_deps") (fixvec_at cell_dep_at)
+    ∷ value_at (codes "header_deps") (fixvec_at (array_at 32))
+    ∷ value_at (codes "inputs") (fixvec_at cell_input_at)
+    ∷ value_at (codes "outputs") (dynvec_at cell_output_at)
+    ∷ value_at (codes "outputs_data") (dynvec_at content_at)
+    ∷ value_at (codes "version") (number_at w32)
+    ∷ value_at (codes "witnesses") (dynvec_at content_at)
+    ∷ []
 
 unfoldable pub transaction_at : Data → Option (List ℕ)
-transaction_at t = do
-  ms ← members_at true t
-  d ← take_at (codes "cell_deps") ms
-  cell_deps ← fixvec_at cell_dep_at d.0
-  h ← take_at (codes "header_deps") d.1
-  header_deps ← fixvec_at (array_at 32) h.0
-  i ← take_at (codes "inputs") h.1
-  inputs ← fixvec_at cell_input_at i.0
-  o ← take_at (codes "outputs") i.1
-  outputs ← dynvec_at cell_output_at o.0
-  od ← take_at (codes "outputs_data") o.1
-  outputs_data ← dynvec_at content_at od.0
-  v ← take_at (codes "version") od.1
-  version ← number_at w32 v.0
-  w ← take_at (codes "witnesses") v.1
-  witnesses ← dynvec_at content_at w.0
-  last ← end_at w.1
-  tables_from (version ∷ cell_deps ∷ header_deps ∷ inputs ∷ outputs ∷ outputs_data ∷ []) (witnesses ∷ [])
-
--- a hash of 32 bytes under this key, where it is to stand here; else no bytes
-abbrev pub hash_at : Bool → List ℕ → Members → Option (List ℕ × Members)
-hash_at true key ms = do
-  h ← take_at key ms
-  hash ← array_at 32 h.0
-  Some (hash, h.1)
-hash_at false key ms = Some ([], ms)
+transaction_at t = object_at true transaction_fields (tables_of (5 ∷ 0 ∷ 1 ∷ 2 ∷ 3 ∷ 4 ∷ []) (7 ∷ 6 ∷ [])) t
 
 -- a header whose uncles' hash stands at `extra_hash`, or at `uncles_hash`
+abbrev pub header_fields : Bool → List Field
+header_fields is_extra =
+    value_at (codes "compact_target") (number_at w32)
+    ∷ value_at (codes "dao") (array_at 32)
+    ∷ value_at (codes "epoch") (number_at w64)
+    ∷ hash_if is_extra (codes "extra_hash")
+    ∷ value_at (codes "nonce") (number_at w128)
+    ∷ value_at (codes "number") (number_at w64)
+    ∷ value_at (codes "parent_hash") (array_at 32)
+    ∷ value_at (codes "proposals_hash") (array_at 32)
+    ∷ value_at (codes "timestamp") (number_at w64)
+    ∷ value_at (codes "transactions_root") (array_at 32)
+    ∷ hash_if (not is_extra) (codes "uncles_hash")
+    ∷ value_at (codes "version") (number_at w32)
+    ∷ []
+
 unfoldable pub header_with : Bool → Data → Option (List ℕ)
-header_with is_extra t = do
-  ms ← members_at true t
-  c ← take_at (codes "compact_target") ms
-  compact_target ← number_at w32 c.0
-  d ← take_at (codes "dao") c.1
-  dao ← array_at 32 d.0
-  e ← take_at (codes "epoch") d.1
-  epoch ← number_at w64 e.0
-  x ← hash_at is_extra (codes "extra_hash") e.1
-  nc ← take_at (codes "nonce") x.1
-  nonce ← number_at w128 nc.0
-  nu ← take_at (codes "number") nc.1
-  height ← number_at w64 nu.0
-  p ← take_at (codes "parent_hash") nu.1
-  parent_hash ← array_at 32 p.0
-  ph ← take_at (codes "proposals_hash") p.1
-  proposals_hash ← array_at 32 ph.0
-  ti ← take_at (codes "timestamp") ph.1
-  timestamp ← number_at w64 ti.0
-  tr ← take_at (codes "transactions_root") ti.1
-  transactions_root ← array_at 32 tr.0
-  u ← hash_at (not is_extra) (codes "uncles_hash") tr.1
-  v ← take_at (codes "version") u.1
-  version ← number_at w32 v.0
-  last ← end_at v.1
-  struct_from (version ∷ compact_target ∷ timestamp ∷ height ∷ epoch ∷ parent_hash ∷ transactions_root ∷ proposals_hash ∷ x.0 ∷ u.0 ∷ dao ∷ nonce ∷ [])
+header_with is_extra t = object_at true (header_fields is_extra) (struct_of (11 ∷ 0 ∷ 8 ∷ 5 ∷ 2 ∷ 6 ∷ 9 ∷ 7 ∷ 3 ∷ 10 ∷ 1 ∷ 4 ∷ [])) t
 
 -- the second, where there is no first
 abbrev pub or_else : {A : Type 0} → Option A → Option A → Option A
@@ -279,26 +286,22 @@ or_else None other = other
 unfoldable pub header_at : Data → Option (List ℕ)
 header_at t = or_else (header_with false t) (header_with true t)
 
+abbrev pub uncle_fields : List Field
+uncle_fields =
+    value_at (codes "header") header_at
+    ∷ value_at (codes "proposals") (fixvec_at (array_at 10))
+    ∷ []
+
 unfoldable pub uncle_at : Data → Option (List ℕ)
-uncle_at t = do
-  ms ← members_at false t
-  h ← take_at (codes "header") ms
-  header ← header_at h.0
-  p ← take_at (codes "proposals") h.1
-  proposals ← fixvec_at (array_at 10) p.0
-  last ← end_at p.1
-  table_from (header ∷ proposals ∷ [])
+uncle_at t = object_at false uncle_fields (table_of (0 ∷ 1 ∷ [])) t
+
+abbrev pub block_fields : List Field
+block_fields =
+    value_at (codes "header") header_at
+    ∷ value_at (codes "proposals") (fixvec_at (array_at 10))
+    ∷ value_at (codes "transactions") (dynvec_at transaction_at)
+    ∷ value_at (codes "uncles") (dynvec_at uncle_at)
+    ∷ []
 
 unfoldable pub block_at : Data → Option (List ℕ)
-block_at t = do
-  ms ← members_at false t
-  h ← take_at (codes "header") ms
-  header ← header_at h.0
-  p ← take_at (codes "proposals") h.1
-  proposals ← fixvec_at (array_at 10) p.0
-  tx ← take_at (codes "transactions") p.1
-  transactions ← dynvec_at transaction_at tx.0
-  u ← take_at (codes "uncles") tx.1
-  uncles ← dynvec_at uncle_at u.0
-  last ← end_at u.1
-  table_from (header ∷ uncles ∷ transactions ∷ proposals ∷ [])
+block_at t = object_at false block_fields (table_of (0 ∷ 3 ∷ 2 ∷ 1 ∷ [])) t

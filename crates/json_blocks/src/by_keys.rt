@@ -1,8 +1,8 @@
 // An object, read by its keys.
-ghost use Rattle.std.specs.Prelude.{◌≡◌, ◌∷◌, [], None, Err, map, IfOk, IfSome};
+ghost use Rattle.std.specs.Prelude.{◌≡◌, [], None, Err, map, IfOk, IfSome};
 ghost use Rattle.serde_json.specs.View.{view, members_view};
-ghost use Rattle.json_blocks.specs.Reading.{Gives, left, members_at, take_at, end_at, table_from, tables_from, struct_from};
-ghost use Rattle.json_blocks.specs.ByKeys.{Reads, ReadsHere, Ends};
+ghost use Rattle.json_blocks.specs.Reading.{Gives, left, members_at, take_at, end_at, value_at, hash_if, table_of, tables_of, struct_of};
+ghost use Rattle.json_blocks.specs.ByKeys.{Reads, Ends, IsPut};
 
 use crate::fields::{joined, table, tables};
 use crate::items::Hash;
@@ -12,8 +12,8 @@ use crate::stop::JsonStop;
 use serde_json::Value;
 use std::alloc::Global;
 
-/// The members of an object, read by their keys, one after another. What stops the reading first is kept: what is read
-/// after it has no meaning, and nothing is made of it.
+/// The members of an object, read by their keys, one after another, and the fields that they are read as. What stops the
+/// reading first is kept: what is read after it has no meaning, and nothing is made of it.
 #[derive(Drop)]
 pub(crate) struct Rows<'a> {
     alloc: Global,
@@ -21,6 +21,38 @@ pub(crate) struct Rows<'a> {
     /// Whether members of the key `hash` are passed over.
     beside_hash: bool,
     stop: Option<JsonStop>,
+    fields: Vec<Vec<u8>>,
+}
+
+/// The next member's value, where it has this key.
+fn next<'a>(beside_hash: bool, members: &mut Members<'a>, key: &str) -> Result<&'a Value, JsonStop>
+    ensures { Gives (λ v. (view v.now, left beside_hash (members_view members.new))) result
+        (take_at key.now (left beside_hash (members_view members.old))) }
+{
+    if beside_hash {
+        take_beside(members, key)
+    } else {
+        take(members, key)
+    }
+}
+
+/// No member is left, and nothing stopped the reading.
+fn ended(
+    stop: Option<JsonStop>,
+    beside_hash: bool,
+    members: &mut Members<'_>,
+) -> Result<(), JsonStop>
+    ensures none_left { stop ≡ None → Gives (λ _. tt) result (end_at (left beside_hash (members_view members.old))) }
+    ensures stopped { IfSome stop (λ stop. result ≡ Err stop) }
+{
+    if let Some(stop) = stop {
+        return Err(stop);
+    }
+    if beside_hash {
+        end_beside(members)
+    } else {
+        end(members)
+    }
 }
 
 impl<'a> Rows<'a> {
@@ -32,6 +64,7 @@ impl<'a> Rows<'a> {
     ) -> Result<Rows<'a>, JsonStop>
         ensures left { Gives (λ r. left r.beside_hash (members_view r.members)) result (members_at beside_hash (view value.now)) }
         ensures goes_on { IfOk result (λ r. r.stop ≡ None) }
+        ensures none_yet { IfOk result (λ r. map (λ f. f.items) r.fields.items ≡ []) }
     {
         match value {
             Value::Object(members) => Ok(Rows {
@@ -39,100 +72,80 @@ impl<'a> Rows<'a> {
                 members: members.iter(),
                 beside_hash,
                 stop: None,
+                fields: Vec::new(alloc),
             }),
             _ => Err(JsonStop::Bad),
         }
     }
 
-    /// The next member's value, where it has this key.
-    fn take(&mut self, key: &str) -> Result<&'a Value, JsonStop>
-        ensures value { Gives (λ v. (view v.now, left self.new.beside_hash (members_view self.new.members))) result
-            (take_at key.now (left self.old.beside_hash (members_view self.old.members))) }
-        ensures same { self.new.stop ≡ self.old.stop }
+    /// Puts a field after the others.
+    fn put(&mut self, encoding: Vec<u8>)
+        ensures put { IsPut self.old.stop (map (λ f. f.items) self.old.fields.items) self.new.stop (map (λ f. f.items) self.new.fields.items) encoding.items }
+        ensures members { left self.new.beside_hash (members_view self.new.members) ≡ left self.old.beside_hash (members_view self.old.members) }
     {
-        if self.beside_hash {
-            take_beside(&mut self.members, key)
-        } else {
-            take(&mut self.members, key)
+        match self.fields.push(encoding) {
+            Ok(()) => {}
+            Err(_) => self.stop = Some(JsonStop::NoMemory),
         }
     }
 
-    /// What the next member's value is read as, where it has this key.
-    pub(crate) fn read<I: Item>(&mut self, key: &str) -> Vec<u8>
-        ensures { Reads self.old.stop (left self.old.beside_hash (members_view self.old.members))
-            self.new.stop (left self.new.beside_hash (members_view self.new.members)) key.now I.Item.reads_as result.items }
+    /// Reads the next member's value, where it has this key.
+    pub(crate) fn read<I: Item>(&mut self, key: &str)
+        ensures { Reads self.old.stop (left self.old.beside_hash (members_view self.old.members)) (map (λ f. f.items) self.old.fields.items)
+            self.new.stop (left self.new.beside_hash (members_view self.new.members)) (map (λ f. f.items) self.new.fields.items)
+            (value_at key.now I.Item.reads_as) }
     {
         if self.stop.is_some() {
-            return Vec::new(self.alloc);
+            return;
         }
-        match self.take(key) {
+        match next(self.beside_hash, &mut self.members, key) {
             Ok(value) => match I::read(self.alloc, value) {
-                Ok(encoding) => encoding,
-                Err(stop) => {
-                    self.stop = Some(stop);
-                    Vec::new(self.alloc)
-                }
+                Ok(encoding) => self.put(encoding),
+                Err(stop) => self.stop = Some(stop),
             },
-            Err(stop) => {
-                self.stop = Some(stop);
-                Vec::new(self.alloc)
-            }
+            Err(stop) => self.stop = Some(stop),
         }
     }
 
-    /// A hash of 32 bytes under this key, where it is to stand here; else no bytes.
-    pub(crate) fn hash_here(&mut self, is_here: bool, key: &str) -> Vec<u8>
-        ensures { ReadsHere self.old.stop (left self.old.beside_hash (members_view self.old.members))
-            self.new.stop (left self.new.beside_hash (members_view self.new.members)) is_here key.now result.items }
+    /// Reads a hash of 32 bytes under this key, where it is to stand here; else its field has no bytes.
+    pub(crate) fn read_hash_if(&mut self, is_here: bool, key: &str)
+        ensures { Reads self.old.stop (left self.old.beside_hash (members_view self.old.members)) (map (λ f. f.items) self.old.fields.items)
+            self.new.stop (left self.new.beside_hash (members_view self.new.members)) (map (λ f. f.items) self.new.fields.items)
+            (hash_if is_here key.now) }
     {
         if is_here {
             self.read::<Hash>(key)
         } else {
-            Vec::new(self.alloc)
+            self.put(Vec::new(self.alloc))
         }
     }
 
-    /// No member is left.
-    fn end(&mut self) -> Result<(), JsonStop>
-        ensures none_left { self.old.stop ≡ None → Gives (λ _. tt) result (end_at (left self.old.beside_hash (members_view self.old.members))) }
-        ensures stopped { IfSome self.old.stop (λ stop. result ≡ Err stop) }
+    /// The struct of the fields at these places, where no member is left. A place counts the rows that were read before it.
+    pub(crate) fn joined(mut self, places: &[usize]) -> Result<Vec<u8>, JsonStop>
+        ensures { Ends self.entry.stop (left self.entry.beside_hash (members_view self.entry.members)) (map (λ f. f.items) self.entry.fields.items) (struct_of places.now) (Gives (λ b. b.items) result) }
     {
-        if let Some(stop) = self.stop {
-            return Err(stop);
-        }
-        if self.beside_hash {
-            end_beside(&mut self.members)
-        } else {
-            end(&mut self.members)
-        }
-    }
-
-    /// The struct of these fields, where no member is left.
-    pub(crate) fn joined(mut self, fields: &[Vec<u8>]) -> Result<Vec<u8>, JsonStop>
-        ensures { Ends self.entry.stop (left self.entry.beside_hash (members_view self.entry.members)) (struct_from (map (λ f. f.items) fields.now)) (Gives (λ b. b.items) result) }
-    {
-        match self.end() {
-            Ok(()) => joined(self.alloc, fields),
+        match ended(self.stop, self.beside_hash, &mut self.members) {
+            Ok(()) => joined(self.alloc, &self.fields, places),
             Err(stop) => Err(stop),
         }
     }
 
-    /// The table of these fields, where no member is left.
-    pub(crate) fn table(mut self, fields: &[Vec<u8>]) -> Result<Vec<u8>, JsonStop>
-        ensures { Ends self.entry.stop (left self.entry.beside_hash (members_view self.entry.members)) (table_from (map (λ f. f.items) fields.now)) (Gives (λ b. b.items) result) }
+    /// The table of the fields at these places, where no member is left.
+    pub(crate) fn table(mut self, places: &[usize]) -> Result<Vec<u8>, JsonStop>
+        ensures { Ends self.entry.stop (left self.entry.beside_hash (members_view self.entry.members)) (map (λ f. f.items) self.entry.fields.items) (table_of places.now) (Gives (λ b. b.items) result) }
     {
-        match self.end() {
-            Ok(()) => table(self.alloc, fields),
+        match ended(self.stop, self.beside_hash, &mut self.members) {
+            Ok(()) => table(self.alloc, &self.fields, places),
             Err(stop) => Err(stop),
         }
     }
 
-    /// The table of a table of `inner` and of `other`, where no member is left.
-    pub(crate) fn tables(mut self, inner: &[Vec<u8>], other: Vec<u8>) -> Result<Vec<u8>, JsonStop>
-        ensures { Ends self.entry.stop (left self.entry.beside_hash (members_view self.entry.members)) (tables_from (map (λ f. f.items) inner.now) (other.items ∷ [])) (Gives (λ b. b.items) result) }
+    /// The table of the fields at `places`, of which the last one is the table of those at `inner`.
+    pub(crate) fn tables(mut self, inner: &[usize], places: &[usize]) -> Result<Vec<u8>, JsonStop>
+        ensures { Ends self.entry.stop (left self.entry.beside_hash (members_view self.entry.members)) (map (λ f. f.items) self.entry.fields.items) (tables_of inner.now places.now) (Gives (λ b. b.items) result) }
     {
-        match self.end() {
-            Ok(()) => tables(self.alloc, inner, other),
+        match ended(self.stop, self.beside_hash, &mut self.members) {
+            Ok(()) => tables(self.alloc, &mut self.fields, inner, places),
             Err(stop) => Err(stop),
         }
     }

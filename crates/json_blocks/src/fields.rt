@@ -1,6 +1,6 @@
 // Encodings that are made of those of their fields.
-ghost use Rattle.std.specs.Prelude.{◌∷◌, [], map, Some};
-ghost use Rattle.json_blocks.specs.Reading.{Gives, pushed, table_from, tables_from, struct_from};
+ghost use Rattle.std.specs.Prelude.{◌≡◌, map, Some};
+ghost use Rattle.json_blocks.specs.Reading.{Gives, pushed, at_place, table_of, tables_of, struct_of};
 
 use crate::stop::JsonStop;
 use mol_write::Builder;
@@ -27,36 +27,62 @@ pub(crate) fn put(builder: &mut Builder, field: &[u8]) -> Result<(), JsonStop>
     Ok(())
 }
 
-/// The table of these fields, where it is shorter than 2^32 bytes.
-pub(crate) fn table(alloc: Global, fields: &[Vec<u8>]) -> Result<Vec<u8>, JsonStop>
-    ensures { Gives (λ b. b.items) result (table_from (map (λ f. f.items) fields.now)) }
+/// The field at a place; no bytes where there is none.
+fn field_at(fields: &[Vec<u8>], place: usize) -> &[u8]
+    ensures { result.now ≡ at_place (map (λ f. f.items) fields.now) place }
+{
+    match fields.get(place) {
+        Some(field) => field.as_slice(),
+        None => &[],
+    }
+}
+
+/// The table of the fields at these places, where it is shorter than 2^32 bytes.
+pub(crate) fn table(
+    alloc: Global,
+    fields: &[Vec<u8>],
+    places: &[usize],
+) -> Result<Vec<u8>, JsonStop>
+    ensures { Gives (λ b. b.items) result (table_of places.now (map (λ f. f.items) fields.now)) }
 {
     let mut table = Builder::new(alloc);
-    'fields: for field in fields {
-        if let Err(stop) = put(&mut table, field) {
+    'places: for place in places {
+        if let Err(stop) = put(&mut table, field_at(fields, *place)) {
             return Err(stop);
         }
     }
     Ok(table.dynvec()?)
 }
 
-/// The table whose first field is the table of `inner`, and whose second is `other`.
-pub(crate) fn tables(alloc: Global, inner: &[Vec<u8>], other: Vec<u8>) -> Result<Vec<u8>, JsonStop>
-    ensures { Gives (λ b. b.items) result (tables_from (map (λ f. f.items) inner.now) (other.items ∷ [])) }
+/// The table of the fields at `places`, after that at `inner` became one more of the fields.
+pub(crate) fn tables(
+    alloc: Global,
+    fields: &mut Vec<Vec<u8>>,
+    inner: &[usize],
+    places: &[usize],
+) -> Result<Vec<u8>, JsonStop>
+    ensures { Gives (λ b. b.items) result (tables_of inner.now places.now (map (λ f. f.items) fields.old.items)) }
 {
-    match table(alloc, inner) {
-        Ok(first) => table(alloc, &[first, other]),
+    match table(alloc, fields, inner) {
+        Ok(first) => {
+            fields.push(first)?;
+            table(alloc, fields, places)
+        }
         Err(stop) => Err(stop),
     }
 }
 
-/// The fields of a struct, side by side.
-pub(crate) fn joined(alloc: Global, fields: &[Vec<u8>]) -> Result<Vec<u8>, JsonStop>
-    ensures { Gives (λ b. b.items) result (struct_from (map (λ f. f.items) fields.now)) }
+/// The fields at these places, side by side.
+pub(crate) fn joined(
+    alloc: Global,
+    fields: &[Vec<u8>],
+    places: &[usize],
+) -> Result<Vec<u8>, JsonStop>
+    ensures { Gives (λ b. b.items) result (struct_of places.now (map (λ f. f.items) fields.now)) }
 {
     let mut bytes = Vec::new(alloc);
-    'fields: for field in fields {
-        bytes.extend_from_slice(field)?;
+    'places: for place in places {
+        bytes.extend_from_slice(field_at(fields, *place))?;
     }
     Ok(bytes)
 }

@@ -2,142 +2,132 @@
 use crate::text::{Items, Text, Written};
 use mol_schema::{BlockView, RawTxView, TxView, UncleView};
 
-#[derive(Drop)]
-pub(crate) struct CellDeps<'a, 'v>(pub(crate) &'v RawTxView<'a>);
+pub(crate) struct CellDeps;
 
-impl Items for CellDeps<'_, '_> {
+impl Items<RawTxView<'_>> for CellDeps {
     ghost use Rattle.std.specs.Prelude.{map};
     ghost use Rattle.json_defs.specs.Blocks as form;
 
-    ghost trees = { λ l. map form.cell_dep.tree l.0.now.cell_deps };
+    ghost trees = { λ v. map form.cell_dep.tree v.cell_deps };
 
-    fn write(&self, i: usize, out: &mut Text) {
-        self.0.cell_deps_item(i).write(out)
+    fn write(of: &RawTxView<'_>, i: usize, out: &mut Text) {
+        of.cell_deps_item(i).write(out)
     }
 }
 
-#[derive(Drop)]
-pub(crate) struct HeaderDeps<'a, 'v>(pub(crate) &'v RawTxView<'a>);
+pub(crate) struct HeaderDeps;
 
-impl Items for HeaderDeps<'_, '_> {
+impl Items<RawTxView<'_>> for HeaderDeps {
     ghost use Rattle.std.specs.Prelude.{map};
     ghost use Rattle.json_defs.specs.Form.{byte_string};
 
-    ghost trees = { λ l. map byte_string.tree l.0.now.header_deps };
+    ghost trees = { λ v. map byte_string.tree v.header_deps };
 
-    fn write(&self, i: usize, out: &mut Text) {
-        self.0.header_deps_item(i).write(out)
+    fn write(of: &RawTxView<'_>, i: usize, out: &mut Text) {
+        out.put_bytes(of.header_deps_item(i))
     }
 }
 
-#[derive(Drop)]
-pub(crate) struct Inputs<'a, 'v>(pub(crate) &'v RawTxView<'a>);
+pub(crate) struct Inputs;
 
-impl Items for Inputs<'_, '_> {
+impl Items<RawTxView<'_>> for Inputs {
     ghost use Rattle.std.specs.Prelude.{map};
     ghost use Rattle.json_defs.specs.Blocks as form;
 
-    ghost trees = { λ l. map form.cell_input.tree l.0.now.inputs };
+    ghost trees = { λ v. map form.cell_input.tree v.inputs };
 
-    fn write(&self, i: usize, out: &mut Text) {
-        self.0.inputs_item(i).write(out)
+    fn write(of: &RawTxView<'_>, i: usize, out: &mut Text) {
+        of.inputs_item(i).write(out)
     }
 }
 
-#[derive(Drop)]
-pub(crate) struct Outputs<'a, 'v>(pub(crate) &'v RawTxView<'a>);
+pub(crate) struct Outputs;
 
-impl Items for Outputs<'_, '_> {
+impl Items<RawTxView<'_>> for Outputs {
     ghost use Rattle.std.specs.Prelude.{map};
     ghost use Rattle.json_defs.specs.Blocks as form;
 
-    ghost trees = { λ l. map form.cell_output.tree l.0.now.outputs };
+    ghost trees = { λ v. map form.cell_output.tree v.outputs };
 
-    fn write(&self, i: usize, out: &mut Text) {
-        self.0.outputs_item(i).write(out)
+    fn write(of: &RawTxView<'_>, i: usize, out: &mut Text) {
+        of.outputs_item(i).write(out)
     }
 }
 
-#[derive(Drop)]
-pub(crate) struct OutputsData<'a, 'v>(pub(crate) &'v RawTxView<'a>);
+pub(crate) struct OutputsData;
 
-impl Items for OutputsData<'_, '_> {
+impl Items<RawTxView<'_>> for OutputsData {
     ghost use Rattle.std.specs.Prelude.{map};
     ghost use Rattle.json_defs.specs.Form.{byte_string};
 
-    ghost trees = { λ l. map byte_string.tree l.0.now.outputs_data };
+    ghost trees = { λ v. map byte_string.tree v.outputs_data };
 
-    fn write(&self, i: usize, out: &mut Text) {
-        self.0.outputs_data_item(i).write(out)
+    fn write(of: &RawTxView<'_>, i: usize, out: &mut Text) {
+        out.put_bytes(of.outputs_data_item(i))
     }
 }
 
-#[derive(Drop)]
-pub(crate) struct Witnesses<'a, 'v>(pub(crate) &'v TxView<'a>);
+pub(crate) struct Witnesses;
 
-impl Items for Witnesses<'_, '_> {
+impl Items<TxView<'_>> for Witnesses {
     ghost use Rattle.std.specs.Prelude.{map};
     ghost use Rattle.json_defs.specs.Form.{byte_string};
 
-    ghost trees = { λ l. map byte_string.tree l.0.now.witnesses };
+    ghost trees = { λ v. map byte_string.tree v.witnesses };
 
-    fn write(&self, i: usize, out: &mut Text) {
-        self.0.witnesses_item(i).write(out)
+    fn write(of: &TxView<'_>, i: usize, out: &mut Text) {
+        out.put_bytes(of.witnesses_item(i))
     }
 }
 
-#[derive(Drop)]
-pub(crate) struct UncleProposals<'a, 'v>(pub(crate) &'v UncleView<'a>);
+pub(crate) struct UncleProposals;
 
-impl Items for UncleProposals<'_, '_> {
+impl Items<UncleView<'_>> for UncleProposals {
     ghost use Rattle.std.specs.Prelude.{map};
     ghost use Rattle.json_defs.specs.Form.{byte_string};
 
-    ghost trees = { λ l. map byte_string.tree l.0.now.proposals };
+    ghost trees = { λ v. map byte_string.tree v.proposals };
 
-    fn write(&self, i: usize, out: &mut Text) {
-        self.0.proposals_item(i).write(out)
+    fn write(of: &UncleView<'_>, i: usize, out: &mut Text) {
+        out.put_bytes(of.proposals_item(i))
     }
 }
 
-#[derive(Drop)]
-pub(crate) struct Proposals<'a, 'v>(pub(crate) &'v BlockView<'a>);
+pub(crate) struct Proposals;
 
-impl Items for Proposals<'_, '_> {
+impl Items<BlockView<'_>> for Proposals {
     ghost use Rattle.std.specs.Prelude.{map};
     ghost use Rattle.json_defs.specs.Form.{byte_string};
 
-    ghost trees = { λ l. map byte_string.tree l.0.now.proposals };
+    ghost trees = { λ v. map byte_string.tree v.proposals };
 
-    fn write(&self, i: usize, out: &mut Text) {
-        self.0.proposals_item(i).write(out)
+    fn write(of: &BlockView<'_>, i: usize, out: &mut Text) {
+        out.put_bytes(of.proposals_item(i))
     }
 }
 
-#[derive(Drop)]
-pub(crate) struct Transactions<'a, 'v>(pub(crate) &'v BlockView<'a>);
+pub(crate) struct Transactions;
 
-impl Items for Transactions<'_, '_> {
+impl Items<BlockView<'_>> for Transactions {
     ghost use Rattle.std.specs.Prelude.{map};
     ghost use Rattle.json_defs.specs.Blocks as form;
 
-    ghost trees = { λ l. map form.transaction.tree l.0.now.transactions };
+    ghost trees = { λ v. map form.transaction.tree v.transactions };
 
-    fn write(&self, i: usize, out: &mut Text) {
-        self.0.transactions_item(i).write(out)
+    fn write(of: &BlockView<'_>, i: usize, out: &mut Text) {
+        of.transactions_item(i).write(out)
     }
 }
 
-#[derive(Drop)]
-pub(crate) struct Uncles<'a, 'v>(pub(crate) &'v BlockView<'a>);
+pub(crate) struct Uncles;
 
-impl Items for Uncles<'_, '_> {
+impl Items<BlockView<'_>> for Uncles {
     ghost use Rattle.std.specs.Prelude.{map};
     ghost use Rattle.json_defs.specs.Blocks as form;
 
-    ghost trees = { λ l. map form.uncle.tree l.0.now.uncles };
+    ghost trees = { λ v. map form.uncle.tree v.uncles };
 
-    fn write(&self, i: usize, out: &mut Text) {
-        self.0.uncles_item(i).write(out)
+    fn write(of: &BlockView<'_>, i: usize, out: &mut Text) {
+        of.uncles_item(i).write(out)
     }
 }

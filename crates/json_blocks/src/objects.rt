@@ -13,23 +13,13 @@ impl Written for TxView<'_> {
 
     fn write(&self, out: &mut Text) {
         let raw = self.raw();
-        out.list_row(b'{', "cell_deps", raw.cell_deps_count(), CellDeps(&raw));
-        out.list_row(
-            b',',
-            "header_deps",
-            raw.header_deps_count(),
-            HeaderDeps(&raw),
-        );
-        out.list_row(b',', "inputs", raw.inputs_count(), Inputs(&raw));
-        out.list_row(b',', "outputs", raw.outputs_count(), Outputs(&raw));
-        out.list_row(
-            b',',
-            "outputs_data",
-            raw.outputs_data_count(),
-            OutputsData(&raw),
-        );
-        out.row(b',', "version", &raw.version());
-        out.list_row(b',', "witnesses", self.witnesses_count(), Witnesses(self));
+        out.list_row::<CellDeps, _>(b'{', "cell_deps", raw.cell_deps_count(), &raw);
+        out.list_row::<HeaderDeps, _>(b',', "header_deps", raw.header_deps_count(), &raw);
+        out.list_row::<Inputs, _>(b',', "inputs", raw.inputs_count(), &raw);
+        out.list_row::<Outputs, _>(b',', "outputs", raw.outputs_count(), &raw);
+        out.list_row::<OutputsData, _>(b',', "outputs_data", raw.outputs_data_count(), &raw);
+        out.number_row(b',', "version", raw.version() as u128);
+        out.list_row::<Witnesses, _>(b',', "witnesses", self.witnesses_count(), self);
         out.put(b"}")
     }
 }
@@ -41,12 +31,7 @@ impl Written for UncleView<'_> {
 
     fn write(&self, out: &mut Text) {
         out.row(b'{', "header", &self.header());
-        out.list_row(
-            b',',
-            "proposals",
-            self.proposals_count(),
-            UncleProposals(self),
-        );
+        out.list_row::<UncleProposals, _>(b',', "proposals", self.proposals_count(), self);
         out.put(b"}")
     }
 }
@@ -58,14 +43,9 @@ impl Written for BlockView<'_> {
 
     fn write(&self, out: &mut Text) {
         out.row(b'{', "header", &self.header());
-        out.list_row(b',', "proposals", self.proposals_count(), Proposals(self));
-        out.list_row(
-            b',',
-            "transactions",
-            self.transactions_count(),
-            Transactions(self),
-        );
-        out.list_row(b',', "uncles", self.uncles_count(), Uncles(self));
+        out.list_row::<Proposals, _>(b',', "proposals", self.proposals_count(), self);
+        out.list_row::<Transactions, _>(b',', "transactions", self.transactions_count(), self);
+        out.list_row::<Uncles, _>(b',', "uncles", self.uncles_count(), self);
         out.put(b"}")
     }
 }

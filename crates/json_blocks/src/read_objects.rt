@@ -22,24 +22,14 @@ impl Item for Transaction {
     #[tactic(auto, unfolding(crate::specs::Reading::transaction_at))]
     fn read(alloc: Global, value: &Value) -> Result<Vec<u8>, JsonStop> {
         let mut rows = Rows::of(alloc, value, true)?;
-        let cell_deps = rows.read::<Fixvec<Dep>>("cell_deps");
-        let header_deps = rows.read::<Fixvec<Hash>>("header_deps");
-        let inputs = rows.read::<Fixvec<Input>>("inputs");
-        let outputs = rows.read::<Dynvec<Output>>("outputs");
-        let outputs_data = rows.read::<Dynvec<ByteString>>("outputs_data");
-        let version = rows.read::<U32>("version");
-        let witnesses = rows.read::<Dynvec<ByteString>>("witnesses");
-        rows.tables(
-            &[
-                version,
-                cell_deps,
-                header_deps,
-                inputs,
-                outputs,
-                outputs_data,
-            ],
-            witnesses,
-        )
+        rows.read::<Fixvec<Dep>>("cell_deps");
+        rows.read::<Fixvec<Hash>>("header_deps");
+        rows.read::<Fixvec<Input>>("inputs");
+        rows.read::<Dynvec<Output>>("outputs");
+        rows.read::<Dynvec<ByteString>>("outputs_data");
+        rows.read::<U32>("version");
+        rows.read::<Dynvec<ByteString>>("witnesses");
+        rows.tables(&[5, 0, 1, 2, 3, 4], &[7, 6])
     }
 }
 
@@ -49,32 +39,19 @@ fn read_header_with(alloc: Global, value: &Value, is_extra: bool) -> Result<Vec<
     ensures { Gives (λ b. b.items) result (header_with is_extra (view value.now)) }
 {
     let mut rows = Rows::of(alloc, value, true)?;
-    let compact_target = rows.read::<U32>("compact_target");
-    let dao = rows.read::<Hash>("dao");
-    let epoch = rows.read::<U64>("epoch");
-    let extra_hash = rows.hash_here(is_extra, "extra_hash");
-    let nonce = rows.read::<U128>("nonce");
-    let number = rows.read::<U64>("number");
-    let parent_hash = rows.read::<Hash>("parent_hash");
-    let proposals_hash = rows.read::<Hash>("proposals_hash");
-    let timestamp = rows.read::<U64>("timestamp");
-    let transactions_root = rows.read::<Hash>("transactions_root");
-    let uncles_hash = rows.hash_here(!is_extra, "uncles_hash");
-    let version = rows.read::<U32>("version");
-    rows.joined(&[
-        version,
-        compact_target,
-        timestamp,
-        number,
-        epoch,
-        parent_hash,
-        transactions_root,
-        proposals_hash,
-        extra_hash,
-        uncles_hash,
-        dao,
-        nonce,
-    ])
+    rows.read::<U32>("compact_target");
+    rows.read::<Hash>("dao");
+    rows.read::<U64>("epoch");
+    rows.read_hash_if(is_extra, "extra_hash");
+    rows.read::<U128>("nonce");
+    rows.read::<U64>("number");
+    rows.read::<Hash>("parent_hash");
+    rows.read::<Hash>("proposals_hash");
+    rows.read::<U64>("timestamp");
+    rows.read::<Hash>("transactions_root");
+    rows.read_hash_if(!is_extra, "uncles_hash");
+    rows.read::<U32>("version");
+    rows.joined(&[11, 0, 8, 5, 2, 6, 9, 7, 3, 10, 1, 4])
 }
 
 /// A header.
@@ -105,9 +82,9 @@ impl Item for Uncle {
     #[tactic(auto, unfolding(crate::specs::Reading::uncle_at))]
     fn read(alloc: Global, value: &Value) -> Result<Vec<u8>, JsonStop> {
         let mut rows = Rows::of(alloc, value, false)?;
-        let header = rows.read::<Header>("header");
-        let proposals = rows.read::<Fixvec<ShortId>>("proposals");
-        rows.table(&[header, proposals])
+        rows.read::<Header>("header");
+        rows.read::<Fixvec<ShortId>>("proposals");
+        rows.table(&[0, 1])
     }
 }
 
@@ -122,10 +99,10 @@ impl Item for Block {
     #[tactic(auto, unfolding(crate::specs::Reading::block_at))]
     fn read(alloc: Global, value: &Value) -> Result<Vec<u8>, JsonStop> {
         let mut rows = Rows::of(alloc, value, false)?;
-        let header = rows.read::<Header>("header");
-        let proposals = rows.read::<Fixvec<ShortId>>("proposals");
-        let transactions = rows.read::<Dynvec<Transaction>>("transactions");
-        let uncles = rows.read::<Dynvec<Uncle>>("uncles");
-        rows.table(&[header, uncles, transactions, proposals])
+        rows.read::<Header>("header");
+        rows.read::<Fixvec<ShortId>>("proposals");
+        rows.read::<Dynvec<Transaction>>("transactions");
+        rows.read::<Dynvec<Uncle>>("uncles");
+        rows.table(&[0, 3, 2, 1])
     }
 }

@@ -17,10 +17,10 @@ impl Item for Script {
     #[tactic(auto, unfolding(crate::specs::Reading::script_at))]
     fn read(alloc: Global, value: &Value) -> Result<Vec<u8>, JsonStop> {
         let mut rows = Rows::of(alloc, value, false)?;
-        let args = rows.read::<ByteString>("args");
-        let code_hash = rows.read::<Hash>("code_hash");
-        let hash_type = rows.read::<HashType>("hash_type");
-        rows.table(&[code_hash, hash_type, args])
+        rows.read::<ByteString>("args");
+        rows.read::<Hash>("code_hash");
+        rows.read::<HashType>("hash_type");
+        rows.table(&[1, 2, 0])
     }
 }
 
@@ -52,9 +52,9 @@ impl Item for OutPoint {
     #[tactic(auto, unfolding(crate::specs::Reading::out_point_at))]
     fn read(alloc: Global, value: &Value) -> Result<Vec<u8>, JsonStop> {
         let mut rows = Rows::of(alloc, value, false)?;
-        let index = rows.read::<U32>("index");
-        let tx_hash = rows.read::<Hash>("tx_hash");
-        rows.joined(&[tx_hash, index])
+        rows.read::<U32>("index");
+        rows.read::<Hash>("tx_hash");
+        rows.joined(&[1, 0])
     }
 }
 
@@ -69,9 +69,9 @@ impl Item for Input {
     #[tactic(auto, unfolding(crate::specs::Reading::cell_input_at))]
     fn read(alloc: Global, value: &Value) -> Result<Vec<u8>, JsonStop> {
         let mut rows = Rows::of(alloc, value, false)?;
-        let previous_output = rows.read::<OutPoint>("previous_output");
-        let since = rows.read::<U64>("since");
-        rows.joined(&[since, previous_output])
+        rows.read::<OutPoint>("previous_output");
+        rows.read::<U64>("since");
+        rows.joined(&[1, 0])
     }
 }
 
@@ -86,9 +86,9 @@ impl Item for Dep {
     #[tactic(auto, unfolding(crate::specs::Reading::cell_dep_at))]
     fn read(alloc: Global, value: &Value) -> Result<Vec<u8>, JsonStop> {
         let mut rows = Rows::of(alloc, value, false)?;
-        let dep_type = rows.read::<DepType>("dep_type");
-        let out_point = rows.read::<OutPoint>("out_point");
-        rows.joined(&[out_point, dep_type])
+        rows.read::<DepType>("dep_type");
+        rows.read::<OutPoint>("out_point");
+        rows.joined(&[1, 0])
     }
 }
 
@@ -103,9 +103,9 @@ impl Item for Output {
     #[tactic(auto, unfolding(crate::specs::Reading::cell_output_at))]
     fn read(alloc: Global, value: &Value) -> Result<Vec<u8>, JsonStop> {
         let mut rows = Rows::of(alloc, value, false)?;
-        let capacity = rows.read::<U64>("capacity");
-        let lock = rows.read::<Script>("lock");
-        let type_script = rows.read::<OptionalScript>("type");
-        rows.table(&[capacity, lock, type_script])
+        rows.read::<U64>("capacity");
+        rows.read::<Script>("lock");
+        rows.read::<OptionalScript>("type");
+        rows.table(&[0, 1, 2])
     }
 }

@@ -4,7 +4,7 @@ ghost use Rattle.hex.specs.Hex.{encode_lower};
 ghost use Rattle.json.specs.Print.{quoted};
 ghost use Rattle.serde_json.specs.Data.{array};
 ghost use Rattle.serde_json.specs.Written.{comma_if};
-ghost use Rattle.json_defs.specs.Form.{items, byte_string, hex_number};
+ghost use Rattle.json_defs.specs.Form.{items, byte_string, hex_number, named_byte};
 ghost use Rattle.json_blocks.specs.Text.{IsPlain, Puts, PutsTree, PutsRow, key_text};
 
 use crate::leaves::{number_digits, put_digits};
@@ -23,18 +23,18 @@ pub(crate) trait Written {
         ensures { PutsTree out.old out.new (tree self.now) };
 }
 
-/// The items of a list, by their places.
-pub(crate) trait Items {
+/// The items of a list that a value has, by their places.
+pub(crate) trait Items<V> {
     ghost use Rattle.std.specs.Prelude.{◌≡◌, ◌<◌, List, Some, length, slice_get};
     ghost use Rattle.serde_json.specs.Data.{Data};
     ghost use Rattle.json_blocks.specs.Text.{PutsTree};
 
-    ghost trees: { Self → List Data };
+    ghost trees: { V → List Data };
 
     /// Puts the text of item `i`.
-    fn write(&self, i: usize, out: &mut Text)
-        requires { i < length (trees self.now) }
-        ensures { (d : Data) → slice_get (trees self.now) i ≡ Some d → PutsTree out.old out.new d };
+    fn write(of: &V, i: usize, out: &mut Text)
+        requires { i < length (trees of.now) }
+        ensures { (d : Data) → slice_get (trees of.now) i ≡ Some d → PutsTree out.old out.new d };
 }
 
 /// A text that grows. Once memory has run out, nothing more is put, and there is no text at the end.
@@ -133,6 +133,50 @@ impl Text {
         self.put(b"\":");
     }
 
+    /// Puts a member that is a number.
+    pub(crate) fn number_row(&mut self, mark: u8, key: &str, n: u128)
+        requires { IsPlain key.now }
+        ensures { PutsRow self.old self.new mark key.now (hex_number.tree n) }
+    {
+        self.put_key(mark, key);
+        self.put_number(n);
+    }
+
+    /// Puts a member that is a byte string.
+    pub(crate) fn bytes_row(&mut self, mark: u8, key: &str, bytes: &[u8])
+        requires { IsPlain key.now }
+        ensures { PutsRow self.old self.new mark key.now (byte_string.tree bytes.now) }
+    {
+        self.put_key(mark, key);
+        self.put_bytes(bytes);
+    }
+
+    /// Puts a byte that has names for 0 and 1.
+    fn put_named(&mut self, zeroth: &str, first: &str, byte: u8)
+        requires zeroth { IsPlain zeroth.now }
+        requires first { IsPlain first.now }
+        ensures { PutsTree self.old self.new ((named_byte zeroth.now first.now).tree byte) }
+    {
+        if byte == 0 {
+            self.put_text(zeroth)
+        } else if byte == 1 {
+            self.put_text(first)
+        } else {
+            self.put_bytes(&[byte])
+        }
+    }
+
+    /// Puts a member that is a byte with names for 0 and 1.
+    pub(crate) fn named_row(&mut self, mark: u8, key: &str, zeroth: &str, first: &str, byte: u8)
+        requires key { IsPlain key.now }
+        requires zeroth { IsPlain zeroth.now }
+        requires first { IsPlain first.now }
+        ensures { PutsRow self.old self.new mark key.now ((named_byte zeroth.now first.now).tree byte) }
+    {
+        self.put_key(mark, key);
+        self.put_named(zeroth, first, byte);
+    }
+
     /// Puts a member of an object, by what stands before it.
     pub(crate) fn row<W: Written>(&mut self, mark: u8, key: &str, value: &W)
         requires { IsPlain key.now }
@@ -143,24 +187,24 @@ impl Text {
     }
 
     /// Puts a member that is a list of `count` items.
-    pub(crate) fn list_row<L: Items + Drop>(&mut self, mark: u8, key: &str, count: usize, list: L)
+    pub(crate) fn list_row<L: Items<V>, V>(&mut self, mark: u8, key: &str, count: usize, of: &V)
         requires plain { IsPlain key.now }
-        requires count { count ≡ length (L.trees list) }
-        ensures { PutsRow self.old self.new mark key.now (array (items (λ d. d) (L.trees list))) }
+        requires count { count ≡ length (L.trees of.now) }
+        ensures { PutsRow self.old self.new mark key.now (array (items (λ d. d) (L.trees of.now))) }
     {
         self.put_key(mark, key);
-        self.put_list(count, &list);
+        self.put_list::<L, V>(count, of);
     }
 
     /// Puts a list of `count` items.
-    fn put_list<L: Items>(&mut self, count: usize, list: &L)
-        requires { count ≡ length (L.trees list.now) }
-        ensures { PutsTree self.old self.new (array (items (λ d. d) (L.trees list.now))) }
+    fn put_list<L: Items<V>, V>(&mut self, count: usize, of: &V)
+        requires { count ≡ length (L.trees of.now) }
+        ensures { PutsTree self.old self.new (array (items (λ d. d) (L.trees of.now))) }
     {
         self.put(b"[");
         'items: for i in 0..count {
             self.put_comma(i > 0);
-            list.write(i, self);
+            L::write(of, i, self);
         }
         self.put(b"]");
     }

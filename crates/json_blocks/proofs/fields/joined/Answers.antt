@@ -1,17 +1,17 @@
-use Rattle.std.proofs.Common.{◌+◌, ◌++◌, ◌∷◌, List, ℕ, Some, drop, sym, ap, ◌∙◌, refl, append-nil}
+use Rattle.std.proofs.Common.{◌++◌, List, ℕ, Some, map, sym, ap, ◌∙◌, append-nil}
 use Rattle.std.specs.List.{concat}
-use Rattle.std.proofs.lemmas.List.{drop_more, drop_all}
-use Rattle.json_blocks.proofs.Encodings.{contents, joined_more}
+use Rattle.std.proofs.lemmas.List.{drop_all}
+use Rattle.json_blocks.specs.Reading.{placed}
+use Rattle.json_blocks.proofs.Encodings.{joined_more}
 use Rattle.json_blocks.proofs.fields.joined.Goals as goal
 
-pub fields-preserved : goal.fields-preserved
-fields-preserved c =
-    let fs = c.args.fields.now in
-    let i = c.fields.field-index in
-    let rest = drop_more fs i c.field-item.result c.fields-test.true ∙ ap (λ v. v ∷ drop (i + 1) fs) (sym c.field-item.is) in
-    joined_more c.fields.bytes.items c.extend_from_slice.new.self.items (concat (contents fs)) c.field-item.result.items fs c.field-item.result i
-    rest refl (c.in_ok-extend_from_slice.ensures.items ∙ ap (λ (l : List ℕ). c.fields.bytes.items ++ l) c.deref.ensures.value) c.fields.invariant
+pub places-preserved : goal.places-preserved
+places-preserved c =
+    let fields = map (λ f. f.items) c.args.fields.now in
+    joined_more c.places.bytes.items c.extend_from_slice.new.self.items (concat (placed c.args.places.now fields)) c.field_at.result.now fields c.args.places.now
+    c.places.place-index c.places-test.true c.field_at.ensures c.in_ok-extend_from_slice.ensures.items c.places.invariant
 
 pub returns : goal.returns
 returns c =
-    ap (λ (l : List ℕ). Some l) (sym (sym (append-nil c.fields.bytes.items) ∙ ap (λ l. c.fields.bytes.items ++ concat (contents l)) (sym (drop_all c.fields.field-index c.args.fields.now c.fields-test.false)) ∙ c.fields.invariant))
+    ap (λ (l : List ℕ). Some l) (sym (sym (append-nil c.places.bytes.items)
+    ∙ ap (λ (l : List ℕ). c.places.bytes.items ++ concat (placed l (map (λ f. f.items) c.args.fields.now))) (sym (drop_all c.places.place-index c.args.places.now c.places-test.false)) ∙ c.places.invariant))

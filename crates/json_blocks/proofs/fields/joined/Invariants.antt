@@ -1,8 +1,8 @@
-use Rattle.std.proofs.Common.{◌≡◌, ◌++◌, drop}
+use Rattle.std.proofs.Common.{◌≡◌, ◌++◌, drop, map}
 use Rattle.std.specs.List.{concat}
-use Rattle.json_blocks.proofs.Encodings.{contents}
+use Rattle.json_blocks.specs.Reading.{placed}
 use Rattle.json_blocks.proofs.fields.joined.Given as goal
 
--- the bytes so far, and the fields that are left
-abbrev pub invariant-fields : goal.invariant-fields
-invariant-fields l = l.bytes.items ++ concat (contents (drop l.field-index l.fields)) ≡ concat (contents l.fields)
+-- the bytes so far, and the fields at the places that are left
+abbrev pub invariant-places : goal.invariant-places
+invariant-places l = l.bytes.items ++ concat (placed (drop l.place-index l.places) (map (λ f. f.items) l.fields)) ≡ concat (placed l.places (map (λ f. f.items) l.fields))

@@ -1,27 +1,26 @@
-use Rattle.std.proofs.Common.{◌+◌, ◌++◌, ◌∷◌, [], List, ℕ, Vec, Global, drop, sym, ap, ◌∙◌, refl, append-nil}
-use Rattle.std.proofs.lemmas.List.{drop_more, drop_all}
-use Rattle.json_blocks.specs.Reading.{pushed, table_from}
-use Rattle.json_blocks.proofs.Encodings.{contents, fails_so, too_long, pushed_is, one_more, table_is}
+use Rattle.std.proofs.Common.{◌+◌, ◌++◌, List, ℕ, drop, map, sym, ap, ◌∙◌, append-nil}
+use Rattle.std.proofs.lemmas.List.{drop_all}
+use Rattle.json_blocks.specs.Reading.{pushed, table_from, placed}
+use Rattle.json_blocks.proofs.Encodings.{fails_so, too_long, pushed_is, next_placed, one_more, table_is}
 use Rattle.json_blocks.proofs.fields.table.Goals as goal
 
 pub returns-in-Err : goal.returns-in-Err
 returns-in-Err c =
-    let fs = c.args.fields.now in
-    let i = c.fields.field-index in
-    let rest = drop_more fs i c.field-item.result c.fields-test.true ∙ ap (λ v. v ∷ drop (i + 1) fs) (sym c.field-item.is) in
-    fails_so c.in-Err.stop (pushed c.fields.table c.deref.result.now) (table_from (contents fs)) c.in-Err.ensures
-    (λ long. too_long c.fields.table (contents (drop (i + 1) fs)) c.deref.result.now (contents fs) long
-    (ap (λ l. c.fields.table ++ l ∷ contents (drop (i + 1) fs)) c.deref.ensures.value ∙ ap (λ (l : List (Vec ℕ Global)). c.fields.table ++ contents l) (sym rest) ∙ c.fields.invariant))
+    let fields = map (λ f. f.items) c.args.fields.now in
+    let places = c.args.places.now in
+    let i = c.places.place-index in
+    let field = c.field_at.result.now in
+    fails_so c.in-Err.stop (pushed c.places.table field) (table_from (placed places fields)) c.in-Err.ensures
+    (λ long. too_long c.places.table (placed (drop (i + 1) places) fields) field (placed places fields) long
+    (next_placed c.places.table (placed places fields) fields field places i c.places-test.true c.field_at.ensures c.places.invariant))
 
-pub fields-preserved : goal.fields-preserved
-fields-preserved c =
-    let fs = c.args.fields.now in
-    let i = c.fields.field-index in
-    let rest = drop_more fs i c.field-item.result c.fields-test.true ∙ ap (λ v. v ∷ drop (i + 1) fs) (sym c.field-item.is) in
-    one_more c.fields.table c.put.new.builder (contents fs) c.field-item.result.items fs c.field-item.result i rest refl
-    (pushed_is _ _ _ c.in_default.ensures ∙ ap (λ l. c.fields.table ++ l ∷ []) c.deref.ensures.value) c.fields.invariant
+pub places-preserved : goal.places-preserved
+places-preserved c =
+    let fields = map (λ f. f.items) c.args.fields.now in
+    one_more c.places.table c.put.new.builder (placed c.args.places.now fields) fields c.field_at.result.now c.args.places.now c.places.place-index
+    c.places-test.true c.field_at.ensures (pushed_is _ _ _ c.in_default.ensures) c.places.invariant
 
 pub returns : goal.returns
 returns c =
-    table_is c.fields.table _ c.in_ok-dynvec.field-0.items c.in_ok-dynvec.ensures
-    (sym (append-nil c.fields.table) ∙ ap (λ l. c.fields.table ++ contents l) (sym (drop_all c.fields.field-index c.args.fields.now c.fields-test.false)) ∙ c.fields.invariant)
+    table_is c.places.table _ c.in_ok-dynvec.field-0.items c.in_ok-dynvec.ensures
+    (sym (append-nil c.places.table) ∙ ap (λ (l : List ℕ). c.places.table ++ placed l (map (λ f. f.items) c.args.fields.now)) (sym (drop_all c.places.place-index c.args.places.now c.places-test.false)) ∙ c.places.invariant)

@@ -6,16 +6,16 @@ pub returns : goal.returns
 unfolding header_with
 returns c =
     c.joined.ensures.whole _
-    (c.read-version.ensures.step _ _
-    (c.hash_here-uncles_hash.ensures.step _ _
-    (c.read-transactions_root.ensures.step _ _
-    (c.read-timestamp.ensures.step _ _
-    (c.read-proposals_hash.ensures.step _ _
-    (c.read-parent_hash.ensures.step _ _
-    (c.read-number.ensures.step _ _
-    (c.read-nonce.ensures.step _ _
-    (c.hash_here-extra_hash.ensures.step _ _
-    (c.read-epoch.ensures.step _ _
-    (c.read-dao.ensures.step _ _
-    (c.read-compact_target.ensures.step _ _
-    (begins _ _ _ _ c.in_ok-rows.ensures.goes_on c.in_ok-rows.ensures.left)))))))))))))
+    (c.read-10.ensures.step _ _ _
+    (c.read_hash_if-2.ensures.step _ _ _
+    (c.read-9.ensures.step _ _ _
+    (c.read-8.ensures.step _ _ _
+    (c.read-7.ensures.step _ _ _
+    (c.read-6.ensures.step _ _ _
+    (c.read-5.ensures.step _ _ _
+    (c.read-4.ensures.step _ _ _
+    (c.read_hash_if.ensures.step _ _ _
+    (c.read-3.ensures.step _ _ _
+    (c.read-2.ensures.step _ _ _
+    (c.read.ensures.step _ _ _
+    (begins _ _ _ _ _ _ c.in_ok-rows.ensures.goes_on c.in_ok-rows.ensures.none_yet c.in_ok-rows.ensures.left)))))))))))))

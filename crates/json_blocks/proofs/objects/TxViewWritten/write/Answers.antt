@@ -13,6 +13,6 @@ returns c =
     (next_row (same_row (ap (λ r. (list form.cell_input).tree r.inputs) c.raw-raw.ensures) (listed (form.cell_input.tree) c.raw-raw.result.inputs c.list_row-3.ensures))
     (next_row (same_row (ap (λ r. (list form.cell_output).tree r.outputs) c.raw-raw.ensures) (listed (form.cell_output.tree) c.raw-raw.result.outputs c.list_row-4.ensures))
     (next_row (same_row (ap (λ r. (list byte_string).tree r.outputs_data) c.raw-raw.ensures) (listed (byte_string.tree) c.raw-raw.result.outputs_data c.list_row-5.ensures))
-    (next_row (same_row (ap hex_number.tree (c.version.ensures ∙ ap (λ r. r.version) c.raw-raw.ensures)) c.row.ensures)
+    (next_row (same_row (ap hex_number.tree (c.version.ensures ∙ ap (λ r. r.version) c.raw-raw.ensures)) c.number_row.ensures)
     (next_row (listed (byte_string.tree) c.args.self.now.witnesses c.list_row-6.ensures)
     (no_row c.put.ensures)))))))

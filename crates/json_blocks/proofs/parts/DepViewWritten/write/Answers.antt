@@ -9,6 +9,6 @@ use Rattle.json_blocks.proofs.parts.DepViewWritten.write.Goals as goal
 pub returns : goal.returns
 unfolding cell_dep
 returns c =
-    first_row (same_row (ap ((named_byte (codes "code") (codes "dep_group")).tree) c.dep_type.ensures) c.row.ensures)
-    (next_row (same_row (ap (form.out_point.tree) c.out_point.ensures) c.row-2.ensures)
+    first_row (same_row (ap ((named_byte (codes "code") (codes "dep_group")).tree) c.dep_type.ensures) c.named_row.ensures)
+    (next_row (same_row (ap (form.out_point.tree) c.out_point.ensures) c.row.ensures)
     (no_row c.put.ensures))

@@ -9,5 +9,5 @@ pub returns : goal.returns
 unfolding cell_input
 returns c =
     first_row (same_row (ap (form.out_point.tree) c.previous_output.ensures) c.row.ensures)
-    (next_row (same_row (ap hex_number.tree (c.since.ensures)) c.row-2.ensures)
+    (next_row (same_row (ap hex_number.tree (c.since.ensures)) c.number_row.ensures)
     (no_row c.put.ensures))

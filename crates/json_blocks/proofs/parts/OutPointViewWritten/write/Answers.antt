@@ -7,6 +7,6 @@ use Rattle.json_blocks.proofs.parts.OutPointViewWritten.write.Goals as goal
 pub returns : goal.returns
 unfolding out_point
 returns c =
-    first_row (same_row (ap hex_number.tree (c.index.ensures)) c.row.ensures)
-    (next_row (same_row (ap byte_string.tree c.tx_hash.ensures.value) c.row-2.ensures)
+    first_row (same_row (ap hex_number.tree (c.index.ensures)) c.number_row.ensures)
+    (next_row (same_row (ap byte_string.tree c.tx_hash.ensures.value) c.bytes_row.ensures)
     (no_row c.put.ensures))

@@ -8,7 +8,7 @@ use Rattle.json_blocks.proofs.parts.OutputViewWritten.write.Goals as goal
 pub returns : goal.returns
 unfolding cell_output
 returns c =
-    first_row (same_row (ap hex_number.tree (c.capacity.ensures)) c.row.ensures)
-    (next_row (same_row (ap (form.script.tree) c.lock.ensures) c.row-2.ensures)
-    (next_row (same_row (ap ((option form.script).tree) c.type_script.ensures) c.row-3.ensures)
+    first_row (same_row (ap hex_number.tree (c.capacity.ensures)) c.number_row.ensures)
+    (next_row (same_row (ap (form.script.tree) c.lock.ensures) c.row.ensures)
+    (next_row (same_row (ap ((option form.script).tree) c.type_script.ensures) c.row-2.ensures)
     (no_row c.put.ensures)))

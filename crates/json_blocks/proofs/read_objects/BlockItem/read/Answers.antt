@@ -6,8 +6,8 @@ pub returns : goal.returns
 unfolding block_at
 returns c =
     c.table.ensures.whole _
-    (c.read-uncles.ensures.step _ _
-    (c.read-transactions.ensures.step _ _
-    (c.read-proposals.ensures.step _ _
-    (c.read-header.ensures.step _ _
-    (begins _ _ _ _ c.in_ok-rows.ensures.goes_on c.in_ok-rows.ensures.left)))))
+    (c.read-4.ensures.step _ _ _
+    (c.read-3.ensures.step _ _ _
+    (c.read-2.ensures.step _ _ _
+    (c.read.ensures.step _ _ _
+    (begins _ _ _ _ _ _ c.in_ok-rows.ensures.goes_on c.in_ok-rows.ensures.none_yet c.in_ok-rows.ensures.left)))))

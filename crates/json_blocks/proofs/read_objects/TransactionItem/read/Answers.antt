@@ -6,11 +6,11 @@ pub returns : goal.returns
 unfolding transaction_at
 returns c =
     c.tables.ensures.whole _
-    (c.read-witnesses.ensures.step _ _
-    (c.read-version.ensures.step _ _
-    (c.read-outputs_data.ensures.step _ _
-    (c.read-outputs.ensures.step _ _
-    (c.read-inputs.ensures.step _ _
-    (c.read-header_deps.ensures.step _ _
-    (c.read-cell_deps.ensures.step _ _
-    (begins _ _ _ _ c.in_ok-rows.ensures.goes_on c.in_ok-rows.ensures.left))))))))
+    (c.read-7.ensures.step _ _ _
+    (c.read-6.ensures.step _ _ _
+    (c.read-5.ensures.step _ _ _
+    (c.read-4.ensures.step _ _ _
+    (c.read-3.ensures.step _ _ _
+    (c.read-2.ensures.step _ _ _
+    (c.read.ensures.step _ _ _
+    (begins _ _ _ _ _ _ c.in_ok-rows.ensures.goes_on c.in_ok-rows.ensures.none_yet c.in_ok-rows.ensures.left))))))))

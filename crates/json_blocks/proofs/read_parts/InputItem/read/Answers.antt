@@ -6,6 +6,6 @@ pub returns : goal.returns
 unfolding cell_input_at
 returns c =
     c.joined.ensures.whole _
-    (c.read-since.ensures.step _ _
-    (c.read-previous_output.ensures.step _ _
-    (begins _ _ _ _ c.in_ok-rows.ensures.goes_on c.in_ok-rows.ensures.left)))
+    (c.read-2.ensures.step _ _ _
+    (c.read.ensures.step _ _ _
+    (begins _ _ _ _ _ _ c.in_ok-rows.ensures.goes_on c.in_ok-rows.ensures.none_yet c.in_ok-rows.ensures.left)))

@@ -6,7 +6,7 @@ pub returns : goal.returns
 unfolding cell_output_at
 returns c =
     c.table.ensures.whole _
-    (c.read-type_script.ensures.step _ _
-    (c.read-lock.ensures.step _ _
-    (c.read-capacity.ensures.step _ _
-    (begins _ _ _ _ c.in_ok-rows.ensures.goes_on c.in_ok-rows.ensures.left))))
+    (c.read-3.ensures.step _ _ _
+    (c.read-2.ensures.step _ _ _
+    (c.read.ensures.step _ _ _
+    (begins _ _ _ _ _ _ c.in_ok-rows.ensures.goes_on c.in_ok-rows.ensures.none_yet c.in_ok-rows.ensures.left))))

@@ -5,4 +5,4 @@ use Rattle.json_blocks.proofs.text.Text.put_list.Given as goal
 
 -- what is put, and the text of the items that are left
 abbrev pub invariant-items : goal.invariant-items
-invariant-items g l = Lists l.fn.self l.self (nat_lt 0 l.i) (g.L.Items.trees l.list) (drop l.i (g.L.Items.trees l.list))
+invariant-items g l = Lists l.fn.self l.self (nat_lt 0 l.i) (g.L.Items.trees l.of) (drop l.i (g.L.Items.trees l.of))
