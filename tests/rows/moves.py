@@ -1,9 +1,21 @@
 #!/usr/bin/env python3
-"""Rows of crates/reorg_vectors/stdin: the live cells, which are gone to over a tree of blocks.
+"""Rows of crates/tx_vectors/stdin on the live cells, which are gone to over a tree of blocks.
 
     python3 tests/rows/moves.py
 
-They are all of that file. crates/reorg_vectors/src/main.rt says what the columns are.
+They stand after those of live_cells.py. A row is `moves`, and with a tab between two, bytes
+in hex:
+
+    genesis BLOCK           the tree of a genesis alone, and its cells
+    block BLOCK EXT         it is kept on the block whose hash it names, at the next place
+    at PLACE COUNT HASH     how many cells are live there, and the hash of all their rows in
+                            order, as docs/STORE.md has a row
+    damaged PLACE PLACE PLACE
+                            from the first to the second the block at the third is the first
+                            that cannot be taken back or applied, and its record is damaged;
+                            the cells are then those of the first place again, made anew from
+                            the genesis
+
 The cells of each place are made by a replay of its branch from the genesis, in a dict,
 as docs/RULES.md ("Cells") and docs/STORE.md say; nothing is taken from the program.
 Blocks are taken back only to find which of them a move stops at.
@@ -32,7 +44,7 @@ class Tree:
 
     def put(self, word, head, transactions, ext):
         block = encoding.block(head, [t[0] for t in transactions])
-        self.rows.append('\t'.join([word, block.hex()] + ([] if ext is None else [ext.hex()])))
+        self.rows.append('\t'.join(['moves', word, block.hex()] + ([] if ext is None else [ext.hex()])))
 
     def branch(self, place):
         """The places from the genesis to this one."""
@@ -65,7 +77,7 @@ class Tree:
     def at(self, place):
         rows = self.replayed(place).rows
         live = sorted(rows, key=order)
-        self.rows.append('at\t%d\t%d\t%s' % (place, len(live), ckbhash(b''.join(rows[o] for o in live)).hex()))
+        self.rows.append('moves\tat\t%d\t%d\t%s' % (place, len(live), ckbhash(b''.join(rows[o] for o in live)).hex()))
 
     def stops_at(self, first, other):
         """The first block that cannot be taken back from the first place down, or that does not fit from there up to the other."""
@@ -85,7 +97,7 @@ class Tree:
                 return place
 
     def damaged(self, first, other):
-        self.rows.append('damaged\t%d\t%d\t%d' % (first, other, self.stops_at(first, other)))
+        self.rows.append('moves\tdamaged\t%d\t%d\t%d' % (first, other, self.stops_at(first, other)))
 
 
 def small(tree):

@@ -30,7 +30,12 @@ pub(crate) struct Chain {
     items: Vec<Vec<u8>>,
 }
 
-fn entry_of(header: &HeaderView<'_>, parent: u32) -> Entry {
+/// Where the tree has the record of the block at a place; no two places share one.
+pub(crate) fn record_at(place: u32) -> u64 {
+    1_000 * (u64::from(place) + 1)
+}
+
+fn entry_of(header: &HeaderView<'_>, place: u32, parent: u32) -> Entry {
     let mut dao = [0; 32];
     dao.copy_from_slice(header.dao());
     Entry {
@@ -39,7 +44,7 @@ fn entry_of(header: &HeaderView<'_>, parent: u32) -> Entry {
         number: header.number(),
         timestamp: header.timestamp(),
         dao,
-        at: 0,
+        at: record_at(place),
         len: 0,
     }
 }
@@ -107,6 +112,17 @@ fn join(tree: &mut Tree, entry: Entry) -> Option<()> {
     Some(())
 }
 
+/// Puts a block's entry on the block that it names, and gives its place; None where that is not kept.
+pub(crate) fn grow(tree: &mut Tree, bytes: &[u8]) -> Option<u32> {
+    let header = BlockView::read(bytes)?.header();
+    let mut parent_hash = [0; 32];
+    parent_hash.copy_from_slice(header.parent_hash());
+    let parent = tree.find(&parent_hash)?;
+    let place = tree.len();
+    join(tree, entry_of(&header, place, parent))?;
+    Some(place)
+}
+
 /// What a block at a place is answered that is applied to live cells.
 pub(crate) fn applied<L: Ledger>(
     alloc: Global,
@@ -142,9 +158,16 @@ pub(crate) fn out_point_in(bytes: &[u8]) -> Option<OutPoint> {
     })
 }
 
-/// The tree of a genesis alone.
-fn tree_of(alloc: Global, genesis: &BlockView<'_>) -> Option<Tree> {
-    let entry = entry_of(&genesis.header(), 0);
+/// The live cells of a genesis.
+pub(crate) fn state_of(alloc: Global, genesis: &[u8]) -> Option<State> {
+    let genesis = BlockView::read(genesis)?;
+    let hashes = tx_hashes(alloc, &genesis).ok()?;
+    State::genesis(alloc, &genesis, &hashes).ok()
+}
+
+/// The tree of a genesis alone; None where it is none.
+pub(crate) fn tree_of(alloc: Global, genesis: &[u8]) -> Option<Tree> {
+    let entry = entry_of(&BlockView::read(genesis)?.header(), 0, 0);
     if entry.number != 0 {
         return None;
     }
@@ -153,10 +176,8 @@ fn tree_of(alloc: Global, genesis: &BlockView<'_>) -> Option<Tree> {
 
 /// The chain of a genesis, whose bytes are still to be kept. None where it is none.
 pub(crate) fn of_genesis(alloc: Global, spec: Spec, bytes: &[u8]) -> Option<Chain> {
-    let genesis = BlockView::read(bytes)?;
-    let tree = tree_of(alloc, &genesis)?;
-    let hashes = tx_hashes(alloc, &genesis).ok()?;
-    let state = State::genesis(alloc, &genesis, &hashes).ok()?;
+    let tree = tree_of(alloc, bytes)?;
+    let state = state_of(alloc, bytes)?;
     Some(Chain {
         spec,
         tree,
@@ -181,12 +202,7 @@ impl Chain {
         bytes: &[u8],
         ext: &[u8],
     ) -> Option<()> {
-        let header = BlockView::read(bytes)?.header();
-        let mut parent_hash = [0; 32];
-        parent_hash.copy_from_slice(header.parent_hash());
-        let parent = self.tree.find(&parent_hash)?;
-        let place = self.tree.len();
-        join(&mut self.tree, entry_of(&header, parent))?;
+        let place = grow(&mut self.tree, bytes)?;
         self.keep(alloc, bytes, ext)?;
         apply(alloc, &mut self.state, steps, bytes, place)
     }
@@ -205,9 +221,7 @@ impl Chain {
 
     /// The live cells after the genesis.
     pub(crate) fn first_state(&self, alloc: Global) -> Option<State> {
-        let genesis = BlockView::read(self.items.first()?)?;
-        let hashes = tx_hashes(alloc, &genesis).ok()?;
-        State::genesis(alloc, &genesis, &hashes).ok()
+        state_of(alloc, self.items.first()?)
     }
 
     /// Applies the blocks after the genesis, which stand in a row, and one more.

@@ -1,7 +1,7 @@
 //! The live cells after blocks, one after the other.
 
-use crate::kept::{applied, out_point_in};
-use crate::rows::{hash_on, made_up};
+use crate::kept::{applied, out_point_in, state_of};
+use crate::rows::{hash_of_all, hash_on, made_up};
 use blake2b_ckb::Hasher;
 use cell_model::{Cells, Ext, OutPoint};
 use cell_state::{Odd, State, tx_hashes};
@@ -28,9 +28,7 @@ pub(crate) fn agrees<L: Ledger>(
 
 /// The live cells after a genesis alone.
 fn begins(alloc: Global, state: &mut Option<State>, bytes: &[u8]) -> Option<bool> {
-    let block = BlockView::read(bytes)?;
-    let hashes = tx_hashes(alloc, &block).ok()?;
-    *state = State::genesis(alloc, &block, &hashes).ok();
+    *state = state_of(alloc, bytes);
     Some(state.is_some())
 }
 
@@ -72,11 +70,8 @@ fn is_hex(alloc: Global, bytes: &[u8], digits: &str) -> Option<bool> {
 /// How many rows there are and the hash of all in order.
 fn has_rows(alloc: Global, state: &State, wanted: &str) -> Option<bool> {
     let (count, hash) = wanted.split_once(' ')?;
-    let mut hasher = Hasher::new();
-    for row in &state.sorted(alloc).ok()? {
-        hash_on(&mut hasher, &row.0, &row.1);
-    }
-    Some(count.parse() == Ok(state.rows()) && is_hex(alloc, &hasher.finalize(), hash)?)
+    let found = hash_of_all(alloc, state)?;
+    Some(count.parse() == Ok(state.rows()) && is_hex(alloc, &found, hash)?)
 }
 
 /// The hash of the row of an out-point.

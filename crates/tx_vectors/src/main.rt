@@ -2,6 +2,8 @@
 //!
 //! A row is a word and its columns, with a tab between two, bytes in hex. After `state` stands what blocks are answered that are
 //! applied to live cells, one after the other, and which rows are live then: tests/rows/live_cells.py says what the columns are.
+//! After `moves` stand kept blocks, and which rows are live at each as the cells are gone to over their tree:
+//! tests/rows/moves.py says what those columns are.
 //!
 //! The other rows are about a chain. `spec` and `genesis` begin a chain, and `block` puts
 //! a block with its ext on it. `shadow`, `transaction` and `within` stand after the last block, where all blocks stand in a
@@ -15,6 +17,7 @@ mod cells;
 mod groups;
 mod kept;
 mod live;
+mod moves;
 mod rows;
 
 ghost use Rattle.std.specs.Prelude.{◌≡◌, ◌<◌};
@@ -24,6 +27,7 @@ use cells::is_text;
 use epochs::Spec;
 use groups::{Blob, blob_with};
 use kept::{Chain, of_genesis};
+use moves::Moves;
 use outside::Steps;
 use row_table::{Row, Subject, all_agree};
 use std::alloc::Global;
@@ -32,11 +36,12 @@ use std::process::ExitCode;
 use std::sync::ledger::{Blank, Ledger};
 use std::{io, mem};
 
-/// What the rows act on: live cells; the specification, the chain and the blobs so far.
+/// What the rows act on: live cells; those that are gone to over a tree; the specification, the chain and the blobs so far.
 #[derive(Drop)]
 struct Table<'s, L: Ledger> {
     steps: &'s mut Steps<L>,
     state: Option<State>,
+    moves: Option<Moves>,
     spec: Option<Spec>,
     chain: Option<Chain>,
     blobs: Vec<Blob>,
@@ -150,6 +155,7 @@ impl<'s, L: Ledger> Subject for Table<'s, L> {
     fn agrees(&mut self, alloc: Global, row: &mut Row<'_>) -> Option<bool> {
         match row.word() {
             "state" => live::agrees(alloc, &mut self.state, self.steps, row),
+            "moves" => moves::agrees(alloc, &mut self.moves, self.steps, row),
             "spec" => self.begin_spec(alloc, row),
             "genesis" => self.begin_chain(alloc, row),
             "blob" => self.take_blob(alloc, row),
@@ -163,6 +169,7 @@ fn all_rows_agree<L: Ledger>(rt: HostRuntime, steps: &mut Steps<L>) -> io::Resul
     let mut table = Table {
         steps,
         state: None,
+        moves: None,
         spec: None,
         chain: None,
         blobs: Vec::new(alloc),

@@ -1,6 +1,8 @@
 //! Rows by their hash, and made-up ones.
 use blake2b_ckb::{Hasher, ckbhash};
 use cell_model::{CellMeta, OutPoint};
+use cell_state::State;
+use std::alloc::Global;
 
 /// Hashes the bytes of a row on, as docs/STORE.md has them.
 pub(crate) fn hash_on(hasher: &mut Hasher, o: &OutPoint, meta: &CellMeta) {
@@ -20,6 +22,15 @@ pub(crate) fn hash_on(hasher: &mut Hasher, o: &OutPoint, meta: &CellMeta) {
     }
     hasher.update(&meta.data_hash);
     hasher.update(&meta.data_len.to_le_bytes());
+}
+
+/// The hash of all rows in order.
+pub(crate) fn hash_of_all(alloc: Global, state: &State) -> Option<[u8; 32]> {
+    let mut hasher = Hasher::new();
+    for row in &state.sorted(alloc).ok()? {
+        hash_on(&mut hasher, &row.0, &row.1);
+    }
+    Some(hasher.finalize())
 }
 
 /// The index of a made-up row: four rows have a hash in common, and their order by bytes is another than by number.
