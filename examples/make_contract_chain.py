@@ -9,13 +9,13 @@
         refused.bin         another: one that breaks a rule
         refused.txt         its line
         witness.bin         the first item of `assemble`: a `CellbaseWitness`
+        timed.bin           a transaction after that of transfer.bin, with a time lock
 
 The contract is scripts/exit.elf, which exits with the first byte of its args, or with 0
 where they are empty. So it is a lock that opens without args, and one that never does
 with the byte 7. It lies in a cell of the genesis, which make_store.py makes:
 
-    python3 examples/make_store.py --window 2 11 \\
-        --output 23100000000 "$(od -An -v -tx1 examples/scripts/exit.elf)" > store.bin
+    python3 examples/make_store.py --window 2 11 --cell examples/scripts/exit.elf > store.bin
 
 The lines are written down here, item by item, and owe nothing to the program: only
 the hashes are computed, by Python's own Blake2b, and the cycles, by script_machine.py.
@@ -107,6 +107,9 @@ FORCES = Transaction([(FUNDS, 1)], [Cell(ANYONE, capacity=ckb(1000) - 5000)])
 SPENDS_ON = Transaction([(SPENDS, 0)], [Cell(OPEN, capacity=ckb(400) - 3000)])
 # after the last block: an open cell and anyone's, so that both programs run
 TRANSFER = Transaction([(SPENDS_ON, 0), (SPENDS, 1)], [Cell(ANYONE, capacity=ckb(1000) - 15000)])
+# what TRANSFER made, from the start of 2026 on: its since is absolute, and in seconds
+NEW_YEAR = 1767225600
+TIMED = Transaction([(TRANSFER, 0)], [Cell(ANYONE, capacity=ckb(1000) - 25000)], since=1 << 62 | NEW_YEAR)
 
 
 # ------------------------------------------------------------------ blocks
@@ -211,6 +214,7 @@ def main():
         store.write(os.path.join(HERE, name + '.bin'), given)
         store.write(os.path.join(HERE, name + '.txt'), text)
     store.write(os.path.join(HERE, 'witness.bin'), WITNESS)
+    store.write(os.path.join(HERE, 'timed.bin'), TIMED.item)
 
 
 if __name__ == '__main__':
