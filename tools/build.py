@@ -13,7 +13,7 @@ off goes on from there; a kit that keeps nothing begins again. The program is pu
 place when it is whole, and its stamp last.
 
 With --found nothing is built: the status is 0 where there is a build of these
-sources, and 1 where there is none, or where one is being made. How long is left is
+sources, and 1 where there is none, also where one is being made. How long is left is
 worked out of what each crate took on this machine, which build/times.json has, or
 else of the table of docs/PROVING.md and the lines of the sources.
 """
@@ -43,6 +43,8 @@ NAME = (WORDS or PROGRAMS)[0]
 OUT = os.path.join(TOP, 'crates', NAME, 'out')
 BUILD = os.path.join(TOP, 'build')
 PROGRAM, STAMP = os.path.join(BUILD, NAME), os.path.join(BUILD, NAME + '.stamp')
+# the paths in which a change of a source shows, from crates on: the script looks at them before each run
+WATCHED = os.path.join(BUILD, NAME + '.sources')
 # what `rt version` printed
 PROVED_WITH = os.path.join(BUILD, NAME + '.proved-with')
 SOURCES = ('src', 'specs', 'proofs')
@@ -151,16 +153,37 @@ def version_of_toolchain():
                           check=True).stdout
 
 
-def put_in_place(made, wanted, begun):
+def watched(uses):
+    """The sources and their folders, which a file that is added changes; and the folder of a crate that lacks a part."""
+    yield os.path.join(TOP, 'crates.txt')
+    for name in crates_below(uses):
+        crate = os.path.join(TOP, 'crates', name)
+        parts = [os.path.join(crate, part) for part in SOURCES]
+        if not all(map(os.path.isdir, parts)):
+            yield crate
+        for part in parts:
+            for at, _, files in os.walk(part):
+                yield at
+                yield from (os.path.join(at, it) for it in files)
+
+
+def write_watched(uses, path):
+    with open(path, 'wb') as f:
+        f.writelines(os.fsencode(os.path.relpath(it, os.path.join(TOP, 'crates'))) + b'\0' for it in watched(uses))
+
+
+def put_in_place(made, uses, wanted, begun):
     """The stamp comes last, and has the time at which the sources were read."""
-    with contextlib.suppress(FileNotFoundError):
-        os.remove(STAMP)
     part = os.path.join(BUILD, 'part')
     if made != PROGRAM:
+        with contextlib.suppress(FileNotFoundError):
+            os.remove(STAMP)
         with open(PROVED_WITH, 'w', encoding='utf-8') as f:
             f.write(version_of_toolchain())
         shutil.copy(made, part)
         os.replace(part, PROGRAM)
+    write_watched(uses, part)
+    os.replace(part, WATCHED)
     with open(part, 'w', encoding='utf-8') as f:
         f.write(wanted + ' ' + sum_of(PROGRAM) + '\n')
     os.utime(part, ns=(begun, begun))
@@ -411,7 +434,12 @@ def build():
             made = built_anew(uses, room)
         if sum_of_sources(uses) != wanted:
             raise Failed('a source was changed while it was built: run it again')
-        put_in_place(made, wanted, begun)
+        try:
+            put_in_place(made, uses, wanted, begun)
+        except OSError:
+            # a build that is there is one, also where its stamp cannot be written anew
+            if made != PROGRAM:
+                raise
     return 0
 
 
@@ -436,7 +464,7 @@ def main():
             fcntl.flock(lock, fcntl.LOCK_EX | fcntl.LOCK_NB)
         except BlockingIOError:
             if ONLY_FOUND:
-                return 1
+                return 0 if is_stamped(sum_of_sources(uses_of_crates())) else 1
             say('another run is building; waiting for it')
             fcntl.flock(lock, fcntl.LOCK_EX)
         return build()

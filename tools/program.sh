@@ -1,3 +1,4 @@
+# shellcheck shell=sh disable=SC2016,SC2064,SC2154,SC2185,SC3045
 # What the scripts of the programs share. A script sets `name`, that of its program, and `here`, the checkout, and takes
 # this in.
 program=$here/build/$name
@@ -8,15 +9,29 @@ say() {
     printf '%s: %s\n' "$name" "$*" >&2
 }
 
+# Whether a source was changed, removed or added since the build: each is looked at once, and no folder is read.
+# Versions of find before 4.9 take no list.
+has_newer_sources() {
+    newer=$(CDPATH='' cd -- "$here/crates" && {
+        find -files0-from "../build/$name.sources" -maxdepth 0 -cnewer "../build/$name.stamp" -print -quit ||
+            xargs -0 sh -c 'stamp=$1; shift; find "$@" -maxdepth 0 -cnewer "$stamp" -print -quit' sh "../build/$name.stamp" <"../build/$name.sources"
+    } 2>/dev/null) || return 0
+    [ -n "$newer" ]
+}
+
 # Whether there is a build of these sources. That of the gate is put in place, and so is one whose sources were touched
 # and not changed.
 is_built() {
-    if [ -x "$program" ] && [ -e "$stamp" ] && [ -z "$(find "$here"/crates/*/src "$here"/crates/*/specs \
-        "$here"/crates/*/proofs "$here/crates.txt" -newer "$stamp" -print 2>/dev/null | head -n 1)" ]; then
+    if [ -x "$program" ] && [ -e "$stamp" ] && ! has_newer_sources; then
         return 0
     fi
     { [ -e "$stamp" ] || [ -e "$here/crates/$name/out/$name" ]; } &&
         python3 -B "$here/tools/build.py" --found "$name" </dev/null >/dev/null 2>&1
+}
+
+# What a script does before the program that was built starts, with its words.
+prepare() {
+    :
 }
 
 version() {
@@ -58,6 +73,7 @@ must_be_open() {
 run() {
     if is_built; then
         unproved=
+        prepare "$@"
         set -- "$program" "$@"
     else
         unproved=yes

@@ -40,7 +40,7 @@ INPUT = 3
 # what `rt try` takes as an input, runs and prints at most
 MOST_INPUT, MOST_SECONDS, MOST_TEXT = 64 << 20, 60, '1 MiB'
 # of the words after a folder, those that read no input
-READ_NOTHING = ('tip', 'header', 'json', 'epoch', 'cell', 'dao', 'make', 'soak')
+READ_NOTHING = ('tip', 'header', 'json', 'epoch', 'audit', 'cell', 'dao', 'make', 'soak')
 # of these, those that write to a store
 WRITE = ('init', 'import')
 # programs whose first word is a folder
