@@ -85,9 +85,9 @@ def contract_chain():
     return chain
 
 
-def assembled_on_contract(*inputs):
+def assembled_on(chain, *inputs):
     """For each input, a list of items, the lines of `assemble` but the last, and that of the import of its block."""
-    chain, found = contract_chain(), []
+    found = []
     for items in inputs:
         _, _, text, block = model.answer(chain, contract.WITNESS, items)
         chain.imports(block)

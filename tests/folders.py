@@ -89,7 +89,7 @@ def check_developer_chain(program):
 
 
 def check_queries_over_generated_blocks(program):
-    """20 blocks of which two are siblings: `epoch` by the height of the tip, and a header on its branch alone."""
+    """20 blocks of which two are siblings: `epoch` by the height of the tip, `audit` of the genesis, and a header on its branch alone."""
     spec, genesis, blocks, kept, tip = chaingen.make(0, 20)
     must_be(kept[tip][0], 18, 'the height of the tip')
 
@@ -98,7 +98,7 @@ def check_queries_over_generated_blocks(program):
 
     with new_store(program, spec + genesis, b'genesis 0x%s\n' % kept[0][1].hex().encode()) as folder:
         must_be(Ran([program, folder, 'import'], b''.join(blocks)).status, 0, 'import: status')
-        for words, text in (('epoch', 'epoch 1 8 10'),
+        for words, text in (('epoch', 'epoch 1 8 10'), ('audit', 'audit 0 0'),
                             ('header 0', 'header 0 0x%s 0x%s' % (kept[0][1].hex(), header_of(genesis))),
                             ('header 18', 'header 18 0x%s 0x%s' % (kept[tip][1].hex(), header_of(blocks[tip - 1]))),
                             ('header 19', 'none')):

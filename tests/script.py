@@ -1,21 +1,23 @@
 """The script that runs the program, its build, and what the README shows."""
 
 import fcntl
+import functools
+import itertools
 import os
 import re
+import shlex
 import shutil
 import signal
 import subprocess
-import sys
 import time
 
 import all as figures
 import block_json
-from harness import (CONTRACT_INIT, CONTRACT_LINE, FIRST_INIT, FIRST_LINE, SCRIPT, SECONDS, TOP, Ran, chain_of,
+from harness import (CONTRACT_LINE, FIRST_INIT, FIRST_LINE, SCRIPT, SECONDS, TOP, Ran, chain_of,
                      contract, first, line_of, must, must_answer, must_be, must_have_tip, new_folder, new_store,
-                     started, status_of)
-from assembling import assembled_on_contract
-from encoding import ckbhash, data_hash
+                     started, status_of, write)
+from assembling import assembled_on, contract_chain
+from making import contract_cell_line, live_line, mined_on_page
 from streams import BAD_WORDS
 
 
@@ -34,6 +36,19 @@ def check_script_passes_on(_):
         must_be(sorted(os.listdir(away)), sorted(['a b', ' ', '*', '-n', "it's", 'a link']), 'what is left there')
         must_be(sorted(os.listdir(os.path.join(away, 'a b'))), ['log.bin', 'snap_a.bin', 'snap_b.bin'],
                 'what is left in a folder')
+
+
+# what ends a wait, in a thirtieth of the time
+IMPATIENT = '#!/bin/sh\n[ "$1" = 3 ] || exit 1\nshift\nexec %s 0.1 "$@"\n' % shutil.which('timeout')
+
+
+def impatient(top):
+    """An environment in which a wait of 3 seconds is a tenth of one."""
+    os.makedirs(os.path.join(top, 'hurry'), exist_ok=True)
+    path = os.path.join(top, 'hurry', 'timeout')
+    write(path, IMPATIENT.encode())
+    os.chmod(path, 0o755)
+    return {**os.environ, 'PATH': os.path.dirname(path) + ':' + os.environ['PATH']}
 
 
 def check_script_explains_statuses(_):
@@ -61,7 +76,7 @@ def check_script_explains_statuses(_):
         must_tell(['store', 'init'], 10, b'', 'has a store', FIRST_INIT)
         with open(os.path.join(away, 'store', 'log.bin'), 'rb') as log:
             fcntl.flock(log, fcntl.LOCK_EX)
-            must_tell(['store', 'tip'], 5, b'', "another run has the folder 'store'")
+            must_tell(['store', 'tip'], 5, b'', "another run has the folder 'store'", env=impatient(away))
         closed = Ran(['sh', '-c', 'exec "$@" <&-', '', SCRIPT, 'store', 'import'], cwd=away)
         must_be((closed.status, closed.out), (3, b''), 'a closed standard input')
         must(closed.err.startswith(b'ckbdev: status 3: '), 'a closed standard input is not named')
@@ -73,6 +88,7 @@ def check_script_explains_statuses(_):
         block, lines = items[0][0], text.splitlines(keepends=True)
         must_tell(['store', 'import'], 8, lines[0] + b'cut %d\n' % len(block), 'inside an item', block + block[:9])
         must_tell(['store', 'import'], 9, b'bad size 0\n', 'the size at the start', b'\3\0\0\0')
+        must_tell(['store', 'import'], 9, b'bad size 0\n', "begins as JSON does, and ckbdev 'store' unjson", b'{"header":{}}')
         must_tell(['empty', 'exec', '5'], 12, b'extra 1048576\n', 'bytes follow', bytes((1 << 20) + 1))
         must_tell(['empty', 'init'], 8, b'cut 0\n', 'a specification and a genesis')
         must_tell(['store', 'assemble'], 8, b'cut 0\n', "its cellbase's witness")
@@ -90,6 +106,7 @@ def check_script_on_bad_words(_):
             must_be(ran.status, 2, '%r: status' % words)
             must_be(ran.out, b'', '%r: standard output' % words)
             must_be(ran.err.count(b'usage: ckbdev FOLDER '), 1, '%r: usages on standard error' % words)
+            must(re.match(rb'ckbdev: [^\n]+\nusage: ', ran.err), '%r: no line says what is wrong: %r' % (words, ran.err[:99]))
             must_be(ran.read, 0, '%r: bytes read' % words)
         must_be(os.stat(os.path.join(store, 'log.bin')), before, 'the log after bad words')
 
@@ -140,6 +157,7 @@ trap 'sleep 0.3; echo ended; exit 3' TERM
 echo begun
 while :; do sleep 0.02; done
 """
+CRATES = 'low:\nckbdev: low\nother:\n'
 LOW = '//! %s\n\n#[cfg(test)]\nmod tests;\n'
 # a toolchain that proves nothing, is slow, and may be made to fail or never to end
 FAKE_RT = r'''#!/bin/sh
@@ -172,15 +190,14 @@ class Checkout:
         for name in ('ckbdev', 'HANDLES', *('tools/' + it for it in os.listdir(os.path.join(TOP, 'tools')) if it[-3:] in ('.py', '.sh'))):
             os.makedirs(os.path.dirname(self.at(name)), exist_ok=True)
             shutil.copy(os.path.join(TOP, name), self.at(name))
-        self.write('crates.txt', 'low:\nckbdev: low\nother:\n')
+        self.write('crates.txt', CRATES)
         self.write('crates/low/src/lib.rt', LOW % 'low')
         self.write('crates/low/src/tests.rt', '#[test]\n')
         self.write('crates/low/must-fail/one.edit', 'test\n')
         self.write('crates/ckbdev/src/program', PROGRAM_OF_A_FAKE % 'one')
         self.write('crates/ckbdev/src/main.rt', '')
         self.write('crates/other/src/lib.rt', '')
-        self.write('bin/rt', FAKE_RT)
-        os.chmod(self.at('bin/rt'), 0o755)
+        self.write_program('bin/rt', FAKE_RT)
         os.mkdir(self.at('elsewhere'))
 
     def at(self, name):
@@ -190,6 +207,10 @@ class Checkout:
         os.makedirs(os.path.dirname(self.at(name)), exist_ok=True)
         with open(self.at(name), 'w', encoding='utf-8') as f:
             f.write(text)
+
+    def write_program(self, name, text):
+        self.write(name, text)
+        os.chmod(self.at(name), 0o755)
 
     def start(self, seconds=0, status=0, words=('any', 'import')):
         environment = {**os.environ, 'PATH': self.at('bin') + ':' + os.environ['PATH'], 'FAKE_LOG': self.log,
@@ -239,7 +260,7 @@ def check_script_answers_words_without_a_build(_):
         usages = [it.run(words=[word]) for word in ('--help', '-h')]
         must_be(usages[0], usages[1], '--help and -h')
         must_be((usages[0][0], usages[0][2]), (0, b''), '--help')
-        for command in ('init', 'import', 'check', 'assemble', 'tip', 'header N', 'json N', 'epoch', 'cell HASH N', 'dao HASH N',
+        for command in ('init', 'import', 'check', 'assemble', 'tip', 'header N', 'json N', 'epoch', 'audit', 'cell HASH N', 'dao HASH N',
                         'exec N', 'asm', 'dis', 'unjson', 'make N M', 'soak N M'):
             lines = [line for line in usages[0][1].splitlines() if b'ckbdev FOLDER %s ' % command.encode() in line]
             must_be(len(lines), 1, 'lines of --help on ' + command)
@@ -252,6 +273,173 @@ def check_script_answers_words_without_a_build(_):
         it.write('crates/low/src/lib.rt', LOW % 'changed')
         must(b'\nunproved: the build that is there is of other sources; ' in it.run(words=['--version'])[1], '--version after a change')
         must_be(it.builds(), 1, 'builds')
+
+
+HASH = '0x' + '5a' * 32
+MOST = 2 ** 64 - 1
+NOT_A_NUMBER = '%s of %s is a number in decimal digits, without a sign or leading zeros, and %r is not'
+NOT_A_HASH = 'HASH of %s is 0x and 64 hex digits in lower case, and %r is not: %s'
+ABOVE = '%s is at most %s, and %r is above it'
+TAKES = '%s takes %s after it%s, and here there %s'
+
+
+def refused_words():
+    """Words after the folder that the program refuses, each with what is wrong."""
+    for words, takes, named, count in (
+            ('tip 0', 'no word', '', 'is one'), ('init 5 6', 'no word', '', 'are 2'), ('header', 'one word', ', N', 'is none'),
+            ('exec 5 6', 'one word', ', N', 'are 2'), ('cell ' + HASH, 'two words', ', HASH and N', 'is one'),
+            ('make 0 1 2', 'two words', ', N and M', 'are 3'), ('soak', 'two words', ', N and M', 'is none')):
+        yield words.split(), TAKES % (words.split()[0], takes, named, count)
+    for word in ('abc', '', '01', '00', '-1', '+1', '0x1', '1 ', '\u0663'):
+        for before, name, after in ((['header'], 'N', []), (['exec'], 'N', []), (['dao', HASH], 'N', []), (['make'], 'N', ['1']), (['make', '5'], 'M', [])):
+            yield [*before, word, *after], NOT_A_NUMBER % (name, before[0], word)
+    for word, why in ((HASH[:-1], 'of digits it has 63'), (HASH + '0', 'of digits it has 65'), (HASH.upper(), 'it does not begin with 0x'),
+                      (HASH.replace('a', 'A'), 'it has another character'), (HASH[2:], 'it does not begin with 0x'), ('5', 'it does not begin with 0x')):
+        yield ['cell', word, '0'], NOT_A_HASH % ('cell', word, why)
+    for before, name, most, shown in (
+            (['exec'], 'N of exec, the budget in cycles,', 2 ** 40, '%d (2^40)'), (['json'], 'N of json', MOST, '%d (2^64 - 1)'),
+            (['cell', HASH], 'N of cell', MOST, '%d (2^64 - 1)'), (['make', '0'], 'M of make', 20000, '%d'), (['soak', '0'], 'M of soak', 100, '%d')):
+        for more in (1, 10 ** 10, 10 ** 21):
+            yield [*before, str(most + more)], ABOVE % (name, shown % most, str(most + more))
+        # what has no fault is blamed for nothing else
+        yield [*before, str(most)], 'a word is no text in UTF-8'
+
+
+def said_of(cases):
+    """What the script says of words that the program has refused."""
+    tools = os.path.join(TOP, 'tools')
+    calls = '\n'.join('say_refused any ' + shlex.join(words) for words in cases)
+    ran = Ran(['sh', '-c', 'name=ckbdev; . "$0/program.sh"; . "$0/words.sh"\n' + calls, tools])
+    return ran.err.decode().splitlines()
+
+
+def check_script_says_what_is_wrong_with_words(_):
+    """One line before the usage text, which is true of a program that refuses all words."""
+    cases = [*refused_words()]
+    said = said_of([words for words, _ in cases])
+    must_be(len(said), len(cases), 'lines for so many refused words')
+    for (words, why), line in zip(cases, said):
+        must_be(line, 'ckbdev: ' + why, repr(words))
+    with new_folder() as top:
+        it = Checkout(top)
+        it.write('crates/ckbdev/src/program', '#!/bin/sh\nexit 2\n')
+        must_be(it.run(words=BUILD)[0], 0, 'the build')
+        for words, why in ((['any', *cases[0][0]], cases[0][1]), (['', 'tip'], 'the first word, the folder, is empty'),
+                           (['any', 'a\nb'], "there is no command 'a?b'"), ([b'\xff', 'tip'], 'a word is no text in UTF-8'),
+                           (['any', 'x' * 99], "there is no command '%s..'" % ('x' * 90))):
+            status, out, err = it.run(words=words)
+            must_be((status, out), (2, b''), repr(words))
+            must_be(err.split(b'\nusage: ')[0].decode(), 'ckbdev: ' + why, repr(words))
+
+
+# it prints its input; its log is claimed for a tenth of a second, or the input is not what it takes
+ANSWERS = r'''#!/bin/sh
+case $2 in
+    exec) exec cat ;;
+    tip) flock -n "$1/log.bin" sleep 0.1 || exit 5 ;;
+    epoch) echo >"$1/begun"; while [ ! -e "$1/go" ]; do sleep 0.01; done; exit 5 ;;
+    *) exit 9 ;;
+esac
+'''
+STATUS_5 = 'ckbdev: status 5: a call of the disk failed: '
+
+
+class Answering(Checkout):
+    """A checkout with a build that answers so, and a store."""
+
+    def __init__(self, top):
+        super().__init__(top)
+        self.write('crates/ckbdev/src/program', ANSWERS)
+        must_be(self.run(words=BUILD)[0], 0, 'the build')
+        self.write('elsewhere/any/log.bin', 'log')
+
+    def held(self):
+        """The log of the store, which is claimed until this is closed."""
+        log = open(self.at('elsewhere/any/log.bin'), 'rb')
+        fcntl.flock(log, fcntl.LOCK_EX)
+        return log
+
+    def ran(self, words, given=b'', piped=False, **how):
+        return Ran([self.at('ckbdev'), 'any', *words], given, piped, cwd=self.at('elsewhere'), **how)
+
+
+def check_script_waits_for_a_folder(_):
+    with new_folder() as top:
+        it = Answering(top)
+        with it.held():
+            begun = time.monotonic()
+            must_answer(it.ran(['exec', '5'], b'spent\n'), 0, b'spent\n', 'a command that looks at no folder')
+            must(time.monotonic() - begun < 3, 'a command that looks at no folder waits for it')
+            process = it.start(words=['any', 'tip'])
+            time.sleep(0.3)
+            must_be(process.poll(), None, 'the end while another run has the folder')
+        must_be((process.wait(SECONDS), *process.communicate()), (0, b'', b''), 'the end when that run has ended')
+        all_at_once = [it.start(words=['any', 'tip']) for _ in range(5)]
+        for process in all_at_once:
+            must_be((process.wait(SECONDS), *process.communicate()), (0, b'', b''), 'one of five that each take a tenth of a second')
+
+
+def check_script_says_who_has_a_folder(_):
+    had = "another run %s the folder 'any'%s"
+    with new_folder() as top:
+        it = Answering(top)
+        hurry = impatient(top)
+        with it.held() as log:
+            for words in (['tip'], ['tip']):
+                ran = it.ran(words, env=hurry)
+                why = had % ('has', ', and had it for the 3 seconds that this one waited: try again when it has ended')
+                must_be((ran.status, ran.err.decode()), (5, STATUS_5 + why + '\n'), 'where another run has the folder')
+            process = subprocess.Popen([it.at('ckbdev'), 'any', 'epoch'], env=hurry, cwd=it.at('elsewhere'), stderr=subprocess.PIPE)
+            while not os.path.exists(it.at('elsewhere/any/begun')):
+                time.sleep(0.01)
+            log.close()
+            it.write('elsewhere/any/go', '')
+            why = had % ('had', ' for the 3 seconds that this one waited, and has ended since: try again')
+            must_be(process.communicate(timeout=SECONDS)[1].decode(), STATUS_5 + why + '\n', 'where it had the folder too long')
+        ran = it.ran(['epoch'])
+        why = "is there space left, and are the files of 'any' sound? Or another run had the folder, and has ended since: try again"
+        must_be(ran.err.decode(), STATUS_5 + why + '\n', 'where it may have had the folder')
+
+
+def check_script_explains_lines_of_exec(_):
+    """The line comes as the program wrote it, or the status for a line that is lost; then where to look, once."""
+    elf = ('ckbdev: bad elf %s: docs/MACHINE.md has what meets E %s, and what to look at first ("A program as an ELF file")\n')
+    fault = ('ckbdev: fault %s: docs/MACHINE.md has what could not be done ("A step"), and what that usually means ("Building a '
+             'program"); ./ckbtrace 1000 < PROGRAM shows where, the last jumps and the registers\n')
+    with new_folder() as top:
+        it = Answering(top)
+        for line, said in (('exit 1 5', ''), ('exit -1 505', ''), ('spent', ''), ('bad elf 1', elf % (1, 1)), ('bad elf 8', elf % (8, 8)),
+                           ('fault 5 505', fault % 5), ('fault 1 0', fault % 1)):
+            for piped in (False, True):
+                ran = it.ran(['exec', '1000'], line.encode() + b'\n', piped)
+                must_be((ran.status, ran.out.decode(), ran.err.decode()), (0, line + '\n', said), line)
+        both = Ran(['sh', '-c', 'exec "$@" 2>&1', '', it.at('ckbdev'), 'any', 'exec', '1000'], b'fault 1 5\n', cwd=it.at('elsewhere'))
+        must_be(both.out.decode(), 'fault 1 5\n' + fault % 1, 'the line, and then where to look')
+        for how, line in (('exec "$@" >/dev/full', b'write to standard output failed'), ('("$@"; echo $? >&2) | true', b'write to standard output failed')):
+            ran = Ran(['sh', '-c', how, '', it.at('ckbdev'), 'any', 'exec', '5'], b'fault 1 5\n', cwd=it.at('elsewhere'))
+            must(ran.err.startswith(b'ckbdev: status 4: a ' + line) and b'fault' not in ran.err, '%s: %r' % (how, ran.err))
+            must(ran.status == 4 or ran.err.endswith(b'\n4\n'), '%s: status' % how)
+    with open(os.path.join(TOP, 'docs', 'MACHINE.md'), encoding='utf-8') as f:
+        parts = f.read().splitlines()
+    for part in ('A step', 'Building a program', 'A program as an ELF file'):
+        must('## ' + part in parts, 'docs/MACHINE.md has no part %r' % part)
+
+
+def check_script_names_json(_):
+    """Where a size word is none, the script says of an input in JSON what makes bytes of it."""
+    of_block = "ckbdev 'any' unjson writes the bytes of a block\n"
+    of_other = 'it has to be in bytes (docs/FORMATS.md), which unjson writes of a block alone\n'
+    begins, may_be = 'the input begins as JSON does, and ', 'the input is something else. If it is JSON: '
+    with new_folder() as top:
+        it = Answering(top)
+        for given, piped, command, said in (
+                (b'{}', False, 'import', begins + of_block), (b' \r\n\t[1]', False, 'init', begins + of_block),
+                (b'{', False, 'check', begins + of_other), (b'{', False, 'assemble', begins + of_other),
+                (b'{}', True, 'import', may_be + of_block), (b'{}', True, 'check', may_be + of_other),
+                (b'\3\0\0\0', False, 'import', 'the input is something else\n'), (b'0x{}', False, 'init', 'the input is something else\n')):
+            ran = it.ran([command], given, piped)
+            must_be((ran.status, ran.out), (9, b''), command)
+            must_be(ran.err.decode(), 'ckbdev: status 9: the size at the start of an item is below 4 or above its limit: ' + said, command)
 
 
 def check_script_builds_once(_):
@@ -270,6 +458,62 @@ def check_script_builds_once(_):
         os.remove(it.at('build/ckbdev'))
         it.must_build(b'two', 3, 'after the program was removed')
         must_be(it.copies(), [], 'what is left of the builds')
+
+
+NO_PYTHON = '#!/bin/sh\nexit 1\n'
+# as before edition 4.9
+FIND_WITHOUT_LISTS = '#!/bin/sh\ncase $* in *-files0-from*) exit 1 ;; esac\nexec %s "$@"\n' % shutil.which('find')
+
+
+def changes_of(it):
+    """What may happen to the sources, each with what takes it back."""
+    for name in ('low/src/lib.rt', 'low/specs/Low.antt', 'ckbdev/proofs/main/Lemmas.antt'):
+        path = it.at('crates/' + name)
+        with open(path, encoding='utf-8') as f:
+            text = f.read()
+        times = os.stat(path)
+
+        def change(name=name, path=path, text=text, times=times):
+            it.write('crates/' + name, text + '// changed')
+            os.utime(path, ns=(times.st_atime_ns, times.st_mtime_ns))
+
+        def write(name=name, text=text):
+            it.write('crates/' + name, text)
+
+        yield 'a change in place of %s, with its time put back' % name, change, write
+        yield 'the removal of %s' % name, functools.partial(os.remove, path), write
+    for name in ('low/src/more.rt', 'ckbdev/proofs/main/More.antt', 'low/proofs/Part.antt'):
+        yield 'the addition of %s' % name, functools.partial(it.write, 'crates/' + name, ''), functools.partial(os.remove, it.at('crates/' + name))
+    moved = it.at('crates/low'), it.at('crates/moved')
+    yield 'the removal of a crate', functools.partial(os.rename, *moved), functools.partial(os.rename, *reversed(moved))
+    yield 'a line of crates.txt', functools.partial(it.write, 'crates.txt', 'low:\nckbdev: low other\nother:\n'), functools.partial(it.write, 'crates.txt', CRATES)
+
+
+def must_see(it, what, change):
+    """The build is taken before a change, and is not after it."""
+    # a tick of the system's clock for files apart
+    time.sleep(0.01)
+    os.utime(it.at('build/ckbdev.stamp'))
+    time.sleep(0.01)
+    it.must_run(b'one', 'before ' + what)
+    change()
+    must(b'of other sources' in it.run(words=['--version'])[1], 'it does not see ' + what)
+
+
+def check_script_sees_each_change(_):
+    """It needs no Python to see that nothing was changed, and what was."""
+    with new_folder() as top:
+        it = Checkout(top)
+        it.write('crates/low/specs/Low.antt', '-- low')
+        it.write('crates/ckbdev/proofs/main/Lemmas.antt', '-- main')
+        it.must_build(b'one', 1, 'a build')
+        it.write_program('bin/python3', NO_PYTHON)
+        for count, find in ((None, None), (2, FIND_WITHOUT_LISTS)):
+            if find:
+                it.write_program('bin/find', find)
+            for what, change, undo in itertools.islice(changes_of(it), count):
+                must_see(it, what, change)
+                undo()
 
 
 def check_script_says_how_far_a_build_is(_):
@@ -373,24 +617,6 @@ def check_script_takes_the_build_of_the_gate(_):
 
 # ------------------------------------------------------------ what is shown
 
-def check_make_store(_):
-    """make_store.py makes what its words ask for."""
-    makes = [sys.executable, os.path.join(TOP, 'examples', 'make_store.py')]
-    must_answer(Ran(makes), 0, FIRST_INIT, 'make_store.py without options')
-    words = ['--window', '2', '11', '--output', '23100000000', contract.CONTRACT.hex()]
-    must_answer(Ran(makes + words), 0, CONTRACT_INIT, 'make_store.py with a contract')
-    for words, why in ((['--window', '3', '2'], b'S3'), (['--output', '4200000000', '0a0b'], b'G7')):
-        ran = Ran(makes + words)
-        must_be((ran.status, ran.out), (2, b''), repr(words))
-        must(why in ran.err, '%r: it does not say why' % words)
-    words = ['--epoch-length', '4', '--window', '1', '3', '--timestamp', '5', '--maturity', '0x40000000001',
-             '--output', '4300000000', '0a0b']
-    given = Ran(makes + words).out
-    with new_folder() as folder:
-        ran = Ran([SCRIPT, folder, 'init'], given)
-        must_answer(ran, 0, b'genesis 0x%s\n' % ckbhash(given[120:328]).hex().encode(), repr(words))
-
-
 def check_documents(_):
     """What docs/ shows of JSON is what comes."""
     text = block_json.of_block(first.GENESIS.item())
@@ -414,12 +640,6 @@ def check_documents(_):
             lines = [line.removeprefix('./')] + wanted.splitlines()
             must(''.join('    %s\n' % it for it in lines) in document, 'docs/%s does not show %s with what it prints' % (name, line))
             must_answer(Ran(['sh', '-c', line], cwd=away), 0, wanted.encode(), line)
-
-
-def live_line(cell, height):
-    """What `cell` prints of a live cell without a type script, made at this height."""
-    return ('live %d %d %d 0x%s - 0x%s %d\n' % (cell.capacity, cell.occupied(), height, cell.lock.hash().hex(),
-                                              data_hash(cell.content).hex(), len(cell.content))).encode()
 
 
 def check_lines_of_the_rules(_):
@@ -458,10 +678,10 @@ def check_refusals(_):
             must(len(found) == 1, 'docs/%s has %d rows of %s' % (page, len(found), name % number))
 
 
-def blocks_of_items():
+def blocks_of_items(chain):
     """Three blocks after the chain with a contract: the first and the third are assembled of two transactions, the second of none."""
     items = [contract.TRANSFER, contract.FORCES]
-    for given, (lines, joined) in zip(('items', 'examples/witness.bin', 'items'), assembled_on_contract(items, [], items)):
+    for given, (lines, joined) in zip(('items', 'examples/witness.bin', 'items'), assembled_on(chain, items, [], items)):
         yield './ckbdev contract assemble < %s | python3 examples/take_block.py block' % given, 0, lines
         yield './ckbdev contract import < block', 0, joined
 
@@ -490,19 +710,22 @@ def check_readme(_):
         ("printf 'addi x17,x0,93\\naddi x10,x0,0\\necall\\n' | ./ckbdev chain asm > exit0.elf", 0, b''),
         ('./ckbdev chain exec 505 < exit0.elf', 0, b'exit 0 505\n'),
     ]
-    makes = ('python3 examples/make_store.py --window 2 11 --output 23100000000 '
-             '"$(od -An -v -tx1 examples/scripts/exit.elf)"')
+    makes = 'python3 examples/make_store.py --window 2 11 --cell examples/scripts/exit.elf | ./ckbdev contract init'
+    # what comes on standard error
+    told = {makes: contract_cell_line()}
     coin = './ckbdev contract cell 0x%s 1' % contract.First.hash.hex()
     text_of_contract = first.input_and_text(contract.contract_chain()[0])[1]
     of_contract = [
-        (makes + ' | ./ckbdev contract init', 0, CONTRACT_LINE),
+        (makes, 0, CONTRACT_LINE),
         (coin, 0, live_line(contract.First.outputs[1], 0)),
         ('./ckbdev contract import < examples/contract-chain.bin | grep refused', 0,
          b''.join(it for it in text_of_contract.splitlines(keepends=True) if it.startswith(b'refused'))),
         ('./ckbdev contract check < examples/transfer.bin', 0, (contract.transfer()[1] + '\n').encode()),
         ('./ckbdev contract check < examples/refused.bin', 1, (contract.refused()[1] + '\n').encode()),
     ]
-    of_assembled = [('cat examples/witness.bin examples/transfer.bin examples/refused.bin > items', 0, b''), *blocks_of_items()]
+    chain = contract_chain()
+    of_assembled = [('cat examples/witness.bin examples/transfer.bin examples/refused.bin > items', 0, b''),
+                    *blocks_of_items(chain), *mined_on_page(chain)]
     with new_folder() as away:
         for folder, page in (('chain', readme), ('own', examples), ('contract', readme)):
             must('\nmkdir %s\n' % folder in page, 'no page makes the folder %s' % folder)
@@ -512,8 +735,9 @@ def check_readme(_):
         for page, lines in ((readme, of_chain), (examples, of_own_chain), (readme, of_contract), (examples, of_assembled),
                             (readme, of_program), (examples, of_code)):
             for line, status, wanted in lines:
-                must('\n%s\n%s' % (line, wanted.decode()) in page, 'no page shows %s with what it prints' % line)
-                must_answer(Ran(['sh', '-c', line], cwd=away), status, wanted, line)
+                ran, text = Ran(['sh', '-c', line], cwd=away), told.get(line, b'')
+                must('\n%s\n%s' % (line, (text + wanted).decode()) in page, 'no page shows %s with what it prints' % line)
+                must_be((ran.status, ran.out, ran.err), (status, wanted, text), line)
         must_answer(Ran(['sh', '-c', coin], cwd=away), 0, b'none\n', coin + ' after the import')
         ran = Ran(['sh', os.path.join(TOP, 'examples', 'first-chain.sh'), 'new'], cwd=away)
         must_be((ran.status, ran.err), (0, b''), 'first-chain.sh')

@@ -21,14 +21,13 @@ ROWS = os.path.join(TOP, 'tests', 'rows')
 OTHERS = None
 # the parts of each file, in order: the scripts of rows/ that make them
 PARTS = {
-    'crates/tx_vectors/stdin': ('live_cells', 'transactions', 'script_groups'),
-    'crates/rule_vectors/stdin': (OTHERS, 'rule_blocks', 'windows', 'uncles', 'rewards'),
-    'crates/reorg_vectors/stdin': ('moves',),
+    'crates/tx_vectors/stdin': ('live_cells', 'moves', 'transactions', 'script_groups'),
+    'crates/rule_vectors/stdin': (OTHERS, 'rule_blocks', 'windows', 'uncles', 'rewards', 'totals'),
     'crates/store_vectors/stdin': (OTHERS, 'kept_bodies', 'snapshots'),
     'crates/format_vectors/stdin': (OTHERS, 'sample_blocks', OTHERS),
-    'crates/run_vectors/stdin': (OTHERS, 'branch_runs', 'snapshot_stops', 'stream_faults'),
+    'crates/run_vectors/stdin': (OTHERS, 'branch_runs', 'snapshot_stops', 'stream_faults', 'audit_runs'),
     'tests/rows/runs.txt': (OTHERS, 'stopped_logs', 'rule_runs', OTHERS, 'reward_runs', OTHERS, 'dao_amounts', 'branch_runs',
-                            'snapshot_runs', 'stream_faults', 'assembled_runs'),
+                            'snapshot_runs', 'stream_faults', 'assembled_runs', 'audit_runs'),
 }
 # of a script that makes both: the rows of lists of runs, and those of runs by themselves
 ROWS_OF = {'crates/run_vectors/stdin': lambda row: is_of_list(row), 'tests/rows/runs.txt': lambda row: not is_of_list(row)}
@@ -41,7 +40,7 @@ SLOWEST = ('script_groups', 'moves', 'live_cells')
 def is_of_list(row):
     """Whether a row of a run, or one that makes runs, is of a list: it has the columns of its streams."""
     columns = row.split(b'\t')
-    return columns[0] in (b'list', b'faults') or len(columns) == 7
+    return columns[0] in (b'list', b'faults', b'more') or len(columns) == 7
 
 
 def stored(*names):
@@ -111,7 +110,8 @@ def check_import_lines(_):
 def check_stored_samples(_):
     """The files of examples/ that its scripts make."""
     files = {'spec.bin': first.SPEC.item(), 'genesis.bin': first.GENESIS.item(),
-             'witness.bin': contract.WITNESS, 'genesis.json': json.dumps(block_json.tree_of(first.GENESIS.item()), indent=2).encode() + b'\n'}
+             'witness.bin': contract.WITNESS, 'timed.bin': contract.TIMED.item,
+             'genesis.json': json.dumps(block_json.tree_of(first.GENESIS.item()), indent=2).encode() + b'\n'}
     for name, items in (('first-blocks', first.first_blocks()[0]), ('contract-chain', contract.contract_chain()[0]),
                         ('transfer', [contract.transfer()]), ('refused', [contract.refused()])):
         files[name + '.bin'], files[name + '.txt'] = first.input_and_text(items)
