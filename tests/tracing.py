@@ -199,7 +199,7 @@ def check_trace_words_and_streams(_):
 def check_trace_document(program):
     """What docs/COMMANDS.md shows of a page is what comes, and is the plain machine's."""
     with open(os.path.join(TOP, 'docs', 'COMMANDS.md'), encoding='utf-8') as f:
-        lines = f.read().split('\n# How a program ended, on a page\n')[1].splitlines()
+        lines = f.read().split('\n## How a program ended, on a page\n')[1].splitlines()
     shown_lines = [line[4:] for line in lines if line.startswith('    ')][1:]
     must_be([line.split(' ')[0] for line in shown_lines[:2]], ['printf', 'ckbtrace'], 'what is shown')
     made, traced, *page = shown_lines
