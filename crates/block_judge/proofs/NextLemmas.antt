@@ -16,15 +16,16 @@ use Rattle.tx_rules.specs.Copying.{row_in}
 use Rattle.cell_defs.specs.Row.{Row}
 use Rattle.cell_defs.specs.Ext.{Ext}
 use Rattle.rule_defs.specs.Site.{Site, site_at}
+use Rattle.rule_defs.specs.TransactionRules.{form_rules, cell_rules}
 use Rattle.rule_defs.specs.Window.{earliest}
 use Rattle.rule_defs.specs.Capacity.{fee, fees_from}
 use Rattle.rule_defs.specs.Field.{freed_from, interest_from}
 use Rattle.verdict_defs.specs.Scene.{scene_of}
-use Rattle.verdict_defs.specs.ScriptRules.{cycles_of}
+use Rattle.verdict_defs.specs.ScriptRules.{cycles_of, script_rules}
 use Rattle.verdict_defs.specs.Transactions.{transaction_rules, rules_from, rules_of_transactions}
 use Rattle.verdict_defs.specs.Ext.{rows_spent, spent_from, ext_of}
 use Rattle.verdict_defs.specs.Judged.{judged, judged_where, judged_transactions, passed_at, transactions_passed}
-use Rattle.verdict_defs.proofs.JudgedLemmas.{judged-passes-by, judged-passes-with, passes-with}
+use Rattle.verdict_defs.proofs.JudgedLemmas.{judged-passes-by, passes-by, passes-with}
 use Rattle.block_judge.specs.declared.stop.JudgeStop.{JudgeStop}
 use Rattle.block_judge.specs.declared.transactions.PassedTransaction.{PassedTransaction}
 use Rattle.block_judge.specs.declared.all_transactions.Outcome.{Outcome}
@@ -49,13 +50,15 @@ pub proposed-here : (spec : Specification) (on : List Block) (ids : List (List �
 proposed-here spec on ids height are last id = are id ∙ ap (λ (n : ℕ). is_some (earliest spec on id n)) last
 
 -- What was answered of the next transaction is taken, and so what it passes with.
-pub is-taken : {C : Type 0} (stored : List Stored) (at : AtValue) (rows : OutPoint → Option Row) (site : Site) (left : ℕ) (t : Transaction) (passed : PassedTransaction)
-    (e : ℕ) (old new : Progress C) → at.parent < length at.entries → IsSiteOf stored at rows site → e ≡ length at.entries
-    → IsOkAnd (judged site left t) (λ is. IsPassed (blocks_of stored) at.parent is passed) → AddsAnswered e passed old new
-    → IsOkAnd (judged site left t) (λ is. AddsJudged (blocks_of stored) at.parent site is old new)
-is-taken stored at rows site left t passed e old new placed is last passes taken =
-    let by = judged-passes-by site left t (λ it. IsPassed (blocks_of stored) at.parent it passed) passes in
-    judged-passes-with site left t (λ it. AddsJudged (blocks_of stored) at.parent site it old new) by.0 (record {
+pub is-taken : {C : Type 0} (stored : List Stored) (at : AtValue) (rows : OutPoint → Option Row) (site : Site) (left : ℕ) (t : Transaction) (proposed : Bool)
+    (passed : PassedTransaction) (e : ℕ) (old new : Progress C) → at.parent < length at.entries → IsSiteOf stored at rows site → e ≡ length at.entries
+    → IsOkAnd (judged_where proposed site left t) (λ is. IsPassed (blocks_of stored) at.parent is passed) → AddsAnswered e passed old new
+    → IsOkAnd (judged_where proposed site left t) (λ is. AddsJudged (blocks_of stored) at.parent site is old new)
+unfolding judged_where
+is-taken stored at rows site left t proposed passed e old new placed is last passes taken =
+    let first = first_failing (form_rules t ++ (19, proposed) ∷ cell_rules site t ++ script_rules (scene_of site t) left) in
+    let by = passes-by (passed_at site left t) first (λ it. IsPassed (blocks_of stored) at.parent it passed) passes in
+    passes-with (passed_at site left t) first (λ it. AddsJudged (blocks_of stored) at.parent site it old new) by.0 (record {
       left_is = taken.left_is ∙ ap (λ (n : ℕ). old.left - n) by.1.cycles_are;
       fees_are = taken.fees_are ∙ ap (λ (n : ℕ). old.ext.fees ++ n ∷ []) by.1.fee_is;
       rows_are = taken.rows_are

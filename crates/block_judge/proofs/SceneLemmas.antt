@@ -10,7 +10,7 @@ use Rattle.std.proofs.lemmas.List.Elements.{All-head, All-tail}
 use Rattle.std.proofs.lemmas.Option.{slice_get_within, slice_get-map, same_Some}
 use Rattle.std.proofs.lemmas.Slice.Eq.{bytes_eq-Decides}
 use Rattle.chain_defs.specs.Schema.{OutPoint, Header, CellOutput, Block, CellInput, Transaction}
-use Rattle.chain_defs.specs.Specification.{Specification}
+use Rattle.chain_defs.specs.Specification.{Specification, is_second_at}
 use Rattle.chain_defs.specs.Hashes.{transaction_hash}
 use Rattle.chain_defs.specs.Kept.{block_at, place_of}
 use Rattle.chain_defs.specs.Branch.{branch, branch_places}
@@ -24,7 +24,7 @@ use Rattle.chain_tree.proofs.BlockLemmas.{len-same}
 use Rattle.cell_defs.specs.Cell.{Cell, script_hash, data_hash}
 use Rattle.cell_defs.specs.Row.{Row, row_of}
 use Rattle.cell_model.specs.Copies.{ResolvedValue, ResolvedTxValue}
-use Rattle.rule_defs.specs.Site.{Site, Found, all_there}
+use Rattle.rule_defs.specs.Site.{Site, Found, all_there, height_at}
 use Rattle.rule_defs.specs.Resolving.{inputs, deps, heights}
 use Rattle.tx_rules.specs.At.{AtValue, IsSiteOf, place_of_height}
 use Rattle.tx_rules.specs.Outcome.{Copies, IsFormed, IsResolved}
@@ -255,20 +255,20 @@ whole entries t resolved formed =
 -- Over kept blocks that are known what a transaction resolves to shows its scene at its site.
 scene-same : (stored : List Stored) (at : AtValue) (rows : OutPoint → Option Row) (site : Site) (entries : List Entry) (t : Transaction)
     (resolved : ResolvedTxValue) → IsSiteOf stored at rows site → IsFormed entries t resolved → IsResolved (blocks_of stored) at.parent site t resolved
-    → scene_shown site.spec.epoch_length stored resolved ≡ Some (scene_of site t)
+    → scene_shown site.second site.spec.epoch_length stored resolved ≡ Some (scene_of site t)
 unfolding scene_shown scene_of
 scene-same stored at rows site entries t resolved is formed resolves =
-    ap (λ (b : Bool). if b then scene_with length_of resolved.tx (cells_shown stored resolved.headers resolved.inputs)
+    ap (λ (b : Bool). if b then scene_with site.second length_of resolved.tx (cells_shown stored resolved.headers resolved.inputs)
     (cells_shown stored resolved.headers resolved.deps) (headers_shown stored resolved.headers) else None) (whole entries t resolved formed)
-    ∙ ap (λ (hs : List ℕ). scene_with length_of resolved.tx (cells_shown stored hs resolved.inputs) (cells_shown stored hs resolved.deps) (headers_shown stored hs))
+    ∙ ap (λ (hs : List ℕ). scene_with site.second length_of resolved.tx (cells_shown stored hs resolved.inputs) (cells_shown stored hs resolved.deps) (headers_shown stored hs))
     resolves.headers_are
-    ∙ ap (λ (it : Transaction). scene_with length_of it (cells_shown stored places resolved.inputs) (cells_shown stored places resolved.deps) (headers_shown stored places))
+    ∙ ap (λ (it : Transaction). scene_with site.second length_of it (cells_shown stored places resolved.inputs) (cells_shown stored places resolved.deps) (headers_shown stored places))
     formed.tx
-    ∙ ap (λ (cells : Option (List ShownCell)). scene_with length_of t cells (cells_shown stored places resolved.deps) (headers_shown stored places))
+    ∙ ap (λ (cells : Option (List ShownCell)). scene_with site.second length_of t cells (cells_shown stored places resolved.deps) (headers_shown stored places))
     (cells-there stored at rows site t (inputs site t) resolved.inputs is low resolves.inputs_are)
-    ∙ ap (λ (cells : Option (List ShownCell)). scene_with length_of t (Some (map (shown site t) (inputs site t))) cells (headers_shown stored places))
+    ∙ ap (λ (cells : Option (List ShownCell)). scene_with site.second length_of t (Some (map (shown site t) (inputs site t))) cells (headers_shown stored places))
     (cells-there stored at rows site t (deps site t) resolved.deps is low resolves.deps_are)
-    ∙ ap (scene_with length_of t (Some (map (shown site t) (inputs site t))) (Some (map (shown site t) (deps site t))))
+    ∙ ap (scene_with site.second length_of t (Some (map (shown site t) (inputs site t))) (Some (map (shown site t) (deps site t))))
     (headers-there stored at.parent (heights site t) low
     ∙ ap (λ (blocks : List Block). Some (filter_map (header_on blocks) (heights site t))) (sym is.on_branch))
   where
@@ -282,9 +282,16 @@ scene-same stored at rows site entries t resolved is formed resolves =
     low = subst (λ (blocks : List Block). All (λ h. h < length blocks) (heights site t)) is.on_branch (heights-below site t)
 
 -- with the specification that the code is handed
-pub scene-told : (stored : List Stored) (at : AtValue) (rows : OutPoint → Option Row) (site : Site) (spec : Specification) (resolved : ResolvedTxValue)
+pub scene-told : (stored : List Stored) (at : AtValue) (rows : OutPoint → Option Row) (site : Site) (spec : Specification) (second : Bool) (resolved : ResolvedTxValue)
     → IsSiteOf stored at rows site → IsFormed at.entries resolved.tx resolved → IsResolved (blocks_of stored) at.parent site resolved.tx resolved
-    → spec ≡ at.spec → scene_shown spec.epoch_length stored resolved ≡ Some (scene_of site resolved.tx)
-scene-told stored at rows site spec resolved is formed resolves same =
-    ap (λ (its : Specification). scene_shown its.epoch_length stored resolved) (same ∙ sym is.spec)
+    → spec ≡ at.spec → second ≡ site.second → scene_shown second spec.epoch_length stored resolved ≡ Some (scene_of site resolved.tx)
+scene-told stored at rows site spec second resolved is formed resolves same edition =
+    ap (λ (its : Specification). scene_shown second its.epoch_length stored resolved) (same ∙ sym is.spec)
+    ∙ ap (λ (its : Bool). scene_shown its site.spec.epoch_length stored resolved) edition
     ∙ scene-same stored at rows site at.entries resolved.tx resolved is formed resolves
+
+-- by the edition of its height
+pub edition-told : (stored : List Stored) (at : AtValue) (rows : OutPoint → Option Row) (site : Site) (spec : Specification) (second : Bool) (height : ℕ)
+    → IsSiteOf stored at rows site → spec ≡ at.spec → height ≡ height_at site → second ≡ is_second_at spec height → second ≡ site.second
+edition-told stored at rows site spec second height is same last says =
+    says ∙ ap (λ (its : Specification). is_second_at its height) (same ∙ sym is.spec) ∙ ap (is_second_at site.spec) last ∙ sym is.second

@@ -21,6 +21,7 @@ use Rattle.tx_rules.specs.At.{AtValue, IsSiteOf, IsMade, place_of_height}
 use Rattle.tx_rules.specs.Own.{of_transactions}
 use Rattle.tx_rules.proofs.AllThere.{take-push}
 use Rattle.rule_defs.specs.Site.{site_at, site_after}
+use Rattle.rule_defs.specs.Age.{timestamp_of}
 use Rattle.block_judge.specs.Appending.{next_site}
 use Rattle.block_judge.specs.Standing.{Stands}
 use Rattle.block_judge.proofs.ChangeLemmas.{row_after-nil, row_after-append, row_after-same}
@@ -120,6 +121,8 @@ site-over stored at b count before rows judged stands after = record {
   indexed = stands.indexed;
   spec = refl;
   on_branch = refl;
+  timestamp = sym (ap timestamp_of judged);
+  second = refl;
   sees = λ o. after o ∙ sees o (last_naming o done) refl;
   made = made;
   typed = typed;
@@ -190,22 +193,25 @@ site-in_block stored at b count before rows judged placed stands after =
     site-over stored at b count before rows judged stands (λ o. after (length (branch (blocks_of stored) at.parent)) o some)
 
 -- At the end of a block that has these so far.
-pub site-next : (stored : List Stored) (at : AtValue) (so_far : List Transaction) (before rows : OutPoint → Option Row) → at.block ≡ Some (of_transactions so_far)
+pub site-next : (stored : List Stored) (at : AtValue) (timestamp : ℕ) (so_far : List Transaction) (before rows : OutPoint → Option Row)
+    → at.block ≡ Some (of_transactions timestamp so_far)
     → Stands stored at.entries at.parent before
     → ((o : OutPoint) → rows o ≡ row_after (length at.entries) (events_from 0 so_far (length (branch (blocks_of stored) at.parent))) before o)
-    → IsSiteOf stored at rows (next_site at.spec (branch (blocks_of stored) at.parent) so_far)
-site-next stored at so_far before rows judged stands after =
-    site-over stored at (of_transactions so_far) (length so_far) before rows judged stands (λ o. after o
+    → IsSiteOf stored at rows (next_site at.spec (branch (blocks_of stored) at.parent) timestamp so_far)
+site-next stored at timestamp so_far before rows judged stands after =
+    site-over stored at (of_transactions timestamp so_far) (length so_far) before rows judged stands (λ o. after o
     ∙ ap (λ (these : List Transaction). row_after (length at.entries) (events_from 0 these (length (branch (blocks_of stored) at.parent))) before o)
     (sym (take_all (length so_far) so_far (omega arith))))
 
 -- Alone, after the last block.
-pub site-alone : (stored : List Stored) (at : AtValue) (rows : OutPoint → Option Row) → Stands stored at.entries at.parent rows
+pub site-alone : (stored : List Stored) (at : AtValue) (rows : OutPoint → Option Row) → at.block ≡ None → Stands stored at.entries at.parent rows
     → IsSiteOf stored at rows (site_after at.spec (branch (blocks_of stored) at.parent))
-site-alone stored at rows stands = record {
+site-alone stored at rows none stands = record {
   indexed = stands.indexed;
   spec = refl;
   on_branch = refl;
+  timestamp = sym (ap timestamp_of none);
+  second = refl;
   sees = λ o. stands.live o ∙ live-seen (blocks_of stored) at.parent o;
   made = λ o cell live. inl (cells-are-outputs (branch (blocks_of stored) at.parent) o cell live);
   typed = λ o cell live below. stands.typed o cell live;

@@ -11,13 +11,13 @@ ghost use Rattle.rule_defs.specs.Site.{Site};
 ghost use Rattle.tx_rules.specs.At.{IsPlaced, IsSiteOf};
 ghost use Rattle.chain_tree.specs.Blocks.{IsParent};
 ghost use Rattle.tx_rules.specs.Copying.{row_in};
-ghost use Rattle.verdict_defs.specs.Judged.{judged, judged_transactions};
+ghost use Rattle.verdict_defs.specs.Judged.{judged_transactions, judged_where};
 ghost use Rattle.rule_defs.specs.RuleNumber.{rule_number};
 ghost use Rattle.rule_defs.specs.declared.rule.Rule.{Rule};
 ghost use Rattle.block_judge.specs.declared.stop.JudgeStop.TheVariants.{Broken};
 ghost use Rattle.block_judge.specs.Answers.{Answers, AddsAnswered, IsOutcomeOf, AddsJudged};
 ghost use Rattle.block_judge.specs.BlockCells.{rows_in};
-ghost use Rattle.block_judge.specs.Progress.{AreFew, AreProposed, CanMove};
+ghost use Rattle.block_judge.specs.Progress.{AreFew, CanMove};
 ghost use Rattle.block_judge.specs.Standing.{IsTriedOnTransaction, StandsFor, seen};
 ghost use Rattle.block_judge.specs.Stops.{read_stop_of};
 
@@ -33,7 +33,7 @@ use mol_schema::{BlockView, TxView};
 use outside::{NoMemory, ReadStop};
 use proposal_window::Proposed;
 use std::alloc::Global;
-use tx_rules::{Own, TxAt};
+use tx_rules::{JudgedTx, Own, TxAt};
 
 /// What the transactions of a block come to: their ext, the interest that they withdraw and what the cells occupy that
 /// they spend, in shannons.
@@ -133,19 +133,17 @@ impl<'a, C: Cells> Progress<'a, C> {
         Ok(())
     }
 
-    /// Judges the next transaction, which is at a place after the cellbase and comes with its hash, and takes what it does.
+    /// Judges the next transaction, which is at a place after the cellbase, and takes what it does.
     fn judge_next<B: Blocks>(
         &mut self,
         alloc: Global,
-        tx: &TxView<'_>,
-        hash: &[u8; 32],
+        judged: &JudgedTx<'_, '_>,
         at: &TxAt<'_, '_, '_>,
-        proposed: &Proposed,
         blocks: &mut B,
         place: u32,
     ) -> Result<(), JudgeStop>
         requires placed { IsPlaced at.now }
-        requires hash { hash.now ≡ transaction_hash tx.now }
+        requires hash { judged.now.hash ≡ transaction_hash judged.now.tx.now }
         requires few { AreFew place self.old.left self.old.interest self.old.freed }
         requires counts { B.count blocks.old ≡ length at.now.entries }
         ensures read { HasRead B.told B.count B.loans_of B.faults B.damages blocks.old blocks.new (read_stop_of result) }
@@ -154,28 +152,19 @@ impl<'a, C: Cells> Progress<'a, C> {
         ensures moved { OnOk result (CanMove (place + 1) self.new.interest self.new.freed) }
         ensures fees { OnOk result (length self.new.ext.fees ≡ length self.old.ext.fees + 1) }
         ensures rows { OnOk result ((height : ℕ) (o : OutPoint) → 0 < height
-            → rows_in C.rows self.new.cells o ≡ row_after (length at.now.entries) (events_of tx.now height place) (rows_in C.rows self.old.cells) o) }
+            → rows_in C.rows self.new.cells o ≡ row_after (length at.now.entries) (events_of judged.now.tx.now height place) (rows_in C.rows self.old.cells) o) }
 
         // At the site that its cells make.
         ensures exact { (stored : List Stored) (site : Site) → B.told blocks.old ≡ Some stored
-            → IsSiteOf stored at.now (rows_in C.rows self.old.cells) site → AreProposed site.spec site.branch proposed.now
-            → Answers (λ is _. AddsJudged (blocks_of stored) at.now.parent site is self.old self.new) (judged site self.old.left tx.now) result }
+            → IsSiteOf stored at.now (rows_in C.rows self.old.cells) site
+            → Answers (λ is _. AddsJudged (blocks_of stored) at.now.parent site is self.old self.new)
+            (judged_where judged.now.proposed site self.old.left judged.now.tx.now) result }
     {
-        let is_proposed = proposed.contains(&proposal_id(hash));
-        let passed = match judge_transaction(
-            alloc,
-            tx,
-            *hash,
-            at,
-            is_proposed,
-            &self.cells,
-            blocks,
-            self.left,
-        ) {
+        let passed = match judge_transaction(alloc, judged, at, &self.cells, blocks, self.left) {
             Ok(passed) => passed,
             Err(stop) => return Err(stop),
         };
-        match self.take(tx, hash, &passed, place, at.tree.len()) {
+        match self.take(judged.tx, &judged.hash, &passed, place, at.tree.len()) {
             Ok(()) => Ok(()),
             Err(_) => Err(JudgeStop::Read(ReadStop::NoMemory)),
         }
@@ -238,7 +227,12 @@ pub(crate) fn judge_transactions<C: Cells, B: Blocks>(
     'later: for place in 1..count {
         let tx = block.transactions_item(place);
         let hash = hash_of(block, hashes, &tx, place);
-        match progress.judge_next(alloc, &tx, &hash, &at, &proposed, blocks, place as u32) {
+        let judged = JudgedTx {
+            tx: &tx,
+            hash,
+            proposed: proposed.contains(&proposal_id(&hash)),
+        };
+        match progress.judge_next(alloc, &judged, &at, blocks, place as u32) {
             Ok(()) => {}
             Err(stop) => {
                 drop(progress);

@@ -12,7 +12,7 @@ ghost use Rattle.rule_defs.specs.RuleNumber.{rule_number};
 ghost use Rattle.rule_defs.specs.declared.rule.Rule.{Rule};
 ghost use Rattle.block_judge.specs.declared.stop.JudgeStop.TheVariants.{Broken};
 ghost use Rattle.block_judge.specs.Answers.{Answers, FitsWithin, IsPassed};
-ghost use Rattle.block_judge.specs.Appending.{SeesSoFar, at_next, next_site};
+ghost use Rattle.block_judge.specs.Appending.{SeesSoFar, at_next, next_site, so_far_seen};
 ghost use Rattle.block_judge.specs.ByRows.{SaysByRows};
 ghost use Rattle.block_judge.specs.Inputs.{AreInputsOf};
 ghost use Rattle.block_judge.specs.Standing.{IsTriedAlone, seen};
@@ -25,43 +25,56 @@ use cell_model::Cells;
 use chain_tree::Blocks;
 use mol_schema::TxView;
 use std::alloc::Global;
-use tx_rules::{Own, TxAt};
+use tx_rules::{JudgedTx, Own, TxAt};
 
-/// Judges a transaction, which comes with its hash, as the next one of a block on the context's parent that has these so far,
-/// the cellbase first, within so many cycles: by J18 and J20 to J30. The cells are those that it sees, as [`BlockCells`](crate::BlockCells) has them.
-/// Damaged as `judge` is.
+/// A block that is made, so far: its timestamp in milliseconds, its transactions, the cellbase first, and what these leave,
+/// which is the cells that the next one sees, as [`BlockCells`](crate::BlockCells) has them, and the cycles.
+#[derive(Drop)]
+pub struct BlockSoFar<'a, 'b, S> {
+    pub timestamp: u64,
+    pub transactions: &'a [TxView<'b>],
+    pub cells: &'a S,
+    pub left: u64,
+}
+
+/// Judges a transaction, which comes with its hash, as the next one of a block on the context's parent that has these so far:
+/// by J18 and J20 to J30. Damaged as `judge` is.
 pub fn judge_appended<C: Cells, S: Cells, B: Blocks>(
     alloc: Global,
     context: &Context<'_, C>,
-    so_far: &[TxView<'_>],
-    cells: &S,
+    so_far: &BlockSoFar<'_, '_, S>,
     blocks: &mut B,
     tx: &TxView<'_>,
     hash: [u8; 32],
-    left: u64,
 ) -> Result<PassedTransaction, JudgeStop>
     requires placed { IsParent context.now.tree.now.entries context.now.parent }
     requires counts { B.count blocks.old ≡ length context.now.tree.now.entries }
     requires hash { hash ≡ transaction_hash tx.now }
-    requires left { left ≤ 2 ^ 40 }
+    requires left { so_far.now.left ≤ 2 ^ 40 }
     ensures read { HasRead B.told B.count B.loans_of B.faults B.damages blocks.old blocks.new (read_stop_of result) }
     ensures tried { (rule : Rule) → result ≡ Err (Broken rule) → IsTriedAlone (rule_number rule) }
-    ensures fits { IfOk result (FitsWithin left) }
+    ensures fits { IfOk result (FitsWithin so_far.now.left) }
 
     // Over any source of blocks: J18 and J20, and the cells of its inputs.
-    ensures by_rows { SaysByRows (has_form tx.now) (spends_rows (S.rows cells.now) tx.now) result }
-    ensures copied { IfOk result (λ passed. AreInputsOf (B.told blocks.old) (at_next (seen C.rows context.now) so_far.now) tx.now passed.inputs.items) }
+    ensures by_rows { SaysByRows (has_form tx.now) (spends_rows (S.rows so_far.now.cells.now) tx.now) result }
+    ensures copied { IfOk result (λ passed. AreInputsOf (B.told blocks.old) (at_next (seen C.rows context.now) (so_far_seen S.rows so_far.now)) tx.now passed.inputs.items) }
 
     // Over kept blocks that are known, with the cells after the transactions so far.
-    ensures exact { (stored : List Stored) → B.told blocks.old ≡ Some stored → SeesSoFar stored (seen C.rows context.now) so_far.now (S.rows cells.now)
+    ensures exact { (stored : List Stored) → B.told blocks.old ≡ Some stored → SeesSoFar stored (seen C.rows context.now) (so_far_seen S.rows so_far.now)
         → Answers (IsPassed (blocks_of stored) context.now.parent)
-        (judged_alone (next_site context.now.spec.now (branch (blocks_of stored) context.now.parent) so_far.now) left tx.now) result }
+        (judged_alone (next_site context.now.spec.now (branch (blocks_of stored) context.now.parent) so_far.now.timestamp so_far.now.transactions.now)
+        so_far.now.left tx.now) result }
 {
     let at = TxAt {
         spec: context.spec,
         tree: context.tree,
         parent: context.parent,
-        block: Some(Own::so_far(so_far)),
+        block: Some(Own::so_far(so_far.timestamp, so_far.transactions)),
     };
-    judge_transaction(alloc, tx, hash, &at, true, cells, blocks, left)
+    let judged = JudgedTx {
+        tx,
+        hash,
+        proposed: true,
+    };
+    judge_transaction(alloc, &judged, &at, so_far.cells, blocks, so_far.left)
 }

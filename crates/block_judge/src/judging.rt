@@ -31,7 +31,7 @@ use chain_tree::Blocks;
 use mol_schema::{BlockView, TxView};
 use rule_defs::Rule;
 use std::alloc::Global;
-use tx_rules::TxAt;
+use tx_rules::{JudgedTx, TxAt};
 
 /// Judges a block that has passed at sight, by J17 over the live cells and by J18 to J32: the first rule that it breaks, or
 /// its ext. The hashes are those of its transactions, as `judge_at_sight` answers them. The cells are those of the parent's
@@ -77,7 +77,7 @@ pub fn judge<C: Cells, B: Blocks>(
     }
 }
 
-/// Judges a transaction alone, at the height after the parent, by J18 and J20 to J30 with all cycles of a block: its fee
+/// Judges a transaction alone, at the height after the parent and under the edition of that height, by J18 and J20 to J30 with all cycles of a block: its fee
 /// in shannons and the cycles that its scripts take. Damaged as `judge` is.
 pub fn dry_run<C: Cells, B: Blocks>(
     alloc: Global,
@@ -105,17 +105,12 @@ pub fn dry_run<C: Cells, B: Blocks>(
         parent: context.parent,
         block: None,
     };
-    let hash = tx_hash(tx);
-    match judge_transaction(
-        alloc,
+    let judged = JudgedTx {
         tx,
-        hash,
-        &at,
-        true,
-        context.cells,
-        blocks,
-        spec.max_cycles,
-    ) {
+        hash: tx_hash(tx),
+        proposed: true,
+    };
+    match judge_transaction(alloc, &judged, &at, context.cells, blocks, spec.max_cycles) {
         Ok(passed) => Ok((passed.fee, passed.cycles)),
         Err(stop) => Err(stop),
     }

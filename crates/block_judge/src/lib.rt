@@ -24,7 +24,7 @@ mod spent;
 mod stop;
 mod transactions;
 
-pub use appending::judge_appended;
+pub use appending::{BlockSoFar, judge_appended};
 pub use at_sight::judge_at_sight;
 pub use block_cells::BlockCells;
 pub use cellbase::is_cellbase;

@@ -23,7 +23,7 @@ use cell_model::{Cells, Resolved};
 use chain_tree::Blocks;
 use mol_schema::TxView;
 use std::alloc::Global;
-use tx_rules::{TxAt, TxStop, resolve};
+use tx_rules::{JudgedTx, TxAt, TxStop, resolve};
 
 /// A transaction that keeps its rules: its fee, the interest that it withdraws and what the cells occupy that it spends, in
 /// shannons; the cycles of its scripts, and the cells of its inputs.
@@ -60,19 +60,16 @@ fn stopped(stop: TxStop) -> JudgeStop
     }
 }
 
-/// Judges a transaction, which comes with its hash, within so many cycles, by J18 and J20 to J30, and by J19 where it is said
-/// whether its id is proposed.
+/// Judges a transaction within so many cycles, by J18 to J30.
 pub(crate) fn judge_transaction<C: Cells, B: Blocks>(
     alloc: Global,
-    tx: &TxView<'_>,
-    hash: [u8; 32],
+    judged: &JudgedTx<'_, '_>,
     at: &TxAt<'_, '_, '_>,
-    proposed: bool,
     cells: &C,
     blocks: &mut B,
     left: u64,
 ) -> Result<PassedTransaction, JudgeStop>
-    requires hash { hash ≡ transaction_hash tx.now }
+    requires hash { judged.now.hash ≡ transaction_hash judged.now.tx.now }
     requires placed { IsPlaced at.now }
     requires left { left ≤ 2 ^ 40 }
     requires counts { B.count blocks.old ≡ length at.now.entries }
@@ -80,14 +77,14 @@ pub(crate) fn judge_transaction<C: Cells, B: Blocks>(
     ensures fits { IfOk result (FitsWithin left) }
     ensures rule { (rule : Rule) → result ≡ Err (Broken rule) → IsTriedOnTransaction (rule_number rule) }
     // J18 and J20, and the cells of its inputs, over any source of blocks.
-    ensures by_rows { proposed ≡ true → SaysByRows (has_form tx.now) (spends_rows (C.rows cells.now) tx.now) result }
-    ensures copied { IfOk result (λ passed. AreInputsOf (B.told blocks.old) at.now tx.now passed.inputs.items) }
-    ensures alone { proposed ≡ true → (rule : Rule) → result ≡ Err (Broken rule) → IsTriedAlone (rule_number rule) }
+    ensures by_rows { judged.now.proposed ≡ true → SaysByRows (has_form judged.now.tx.now) (spends_rows (C.rows cells.now) judged.now.tx.now) result }
+    ensures copied { IfOk result (λ passed. AreInputsOf (B.told blocks.old) at.now judged.now.tx.now passed.inputs.items) }
+    ensures alone { judged.now.proposed ≡ true → (rule : Rule) → result ≡ Err (Broken rule) → IsTriedAlone (rule_number rule) }
     // Over kept blocks that are known, at the site of the transaction.
     ensures exact { (stored : List Stored) (site : Site) → B.told blocks.old ≡ Some stored → IsSiteOf stored at.now (C.rows cells.now) site
-        → Answers (IsPassed (blocks_of stored) at.now.parent) (judged_where proposed site left tx.now) result }
+        → Answers (IsPassed (blocks_of stored) at.now.parent) (judged_where judged.now.proposed site left judged.now.tx.now) result }
 {
-    let ok = match resolve(alloc, tx, hash, at, proposed, cells, blocks) {
+    let ok = match resolve(alloc, judged, at, cells, blocks) {
         Ok(ok) => ok,
         Err(stop) => return Err(stopped(stop)),
     };
@@ -102,7 +99,7 @@ pub(crate) fn judge_transaction<C: Cells, B: Blocks>(
     Ok(PassedTransaction {
         fee: ok.fee,
         interest: ok.interest,
-        freed: freed_with(tx, &ok.resolved.inputs),
+        freed: freed_with(judged.tx, &ok.resolved.inputs),
         cycles,
         inputs: ok.resolved.inputs,
     })

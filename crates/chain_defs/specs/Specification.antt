@@ -1,9 +1,9 @@
 -- The chain specification: 100 bytes, little-endian, and the rules S1 to S7 that it keeps (docs/RULES.md, "The chain specification").
-use Rattle.std.specs.Prelude.{ℕ, ◌+◌, ◌^◌, Bool, IsTrue, ◌==◌, ◌&&◌, nat_lt, nat_le, List, [], ◌∷◌, length, Option}
+use Rattle.std.specs.Prelude.{ℕ, ◌+◌, ◌^◌, Bool, false, IsTrue, ◌==◌, ◌&&◌, nat_lt, nat_le, List, [], ◌∷◌, length, Option, Some, None}
 use Rattle.std.specs.List.{slice_range}
 use Rattle.std.specs.Int.{w32, w64, from_le_bytes}
 use Rattle.chain_defs.specs.First.{first_failing}
-use Rattle.chain_defs.specs.Epochs.{is_well_formed}
+use Rattle.chain_defs.specs.Epochs.{is_well_formed, epoch_number}
 
 pub record Specification : Type 0 where
   pub compact_target : ℕ
@@ -23,6 +23,8 @@ pub record Specification : Type 0 where
   -- epochs
   pub halving_interval : ℕ
   pub dao_code_hash : List ℕ
+  -- the epoch from which on the second edition of the rules holds, where there is one. It does not stand in the bytes.
+  pub second_from : Option ℕ
 
 -- the numbers of 4 and of 8 bytes at a place
 abbrev pub u32_field : List ℕ → ℕ → ℕ
@@ -31,7 +33,7 @@ u32_field bytes place = from_le_bytes w32 (slice_range bytes place (place + 4))
 abbrev pub u64_field : List ℕ → ℕ → ℕ
 u64_field bytes place = from_le_bytes w64 (slice_range bytes place (place + 8))
 
--- The fields of the bytes, in their order; the first four bytes hold the size.
+-- The fields of the bytes, in their order; the first four bytes hold the size. They have no edition.
 unfoldable pub specification_of : List ℕ → Specification
 specification_of bytes = record {
   compact_target = u32_field bytes 4;
@@ -46,7 +48,25 @@ specification_of bytes = record {
   secondary_reward = u64_field bytes 52;
   halving_interval = u64_field bytes 60;
   dao_code_hash = slice_range bytes 68 100;
+  second_from = None;
 }
+
+-- ---- The edition (docs/RULES.md, "The two editions")
+
+-- the same specification, with this edition
+abbrev pub with_edition : Option ℕ → Specification → Specification
+with_edition edition spec = record spec { second_from = edition }
+
+-- whether an edition begins at an epoch or before it
+abbrev pub has_begun : Option ℕ → ℕ → Bool
+has_begun None epoch = false
+has_begun (Some first) epoch = nat_le first epoch
+
+-- Whether the block of a height stands under the second edition: its epoch's number is at least that of the edition.
+unfoldable pub is_second_at : Specification → ℕ → Bool
+is_second_at spec height = has_begun spec.second_from (epoch_number spec.epoch_length height)
+
+-- ---- S1 to S7
 
 -- S1: there are 100 bytes, and the size says so.
 abbrev pub keeps_s1 : List ℕ → Bool

@@ -3,7 +3,7 @@
 ghost use Rattle.std.specs.Prelude.{◌≡◌, IsTrue, length};
 ghost use Rattle.chain_defs.specs.Specification as rules;
 
-use crate::epoch_values::well_formed;
+use crate::epoch_values::{epoch_of, well_formed};
 use crate::number::{hash_of, u32_at, u64_at};
 use std::marker::Model;
 
@@ -33,6 +33,8 @@ pub struct Spec {
     pub halving_interval: u64,
     /// The code hash of the DAO script.
     pub dao_code_hash: [u8; 32],
+    /// The epoch from which on the second edition of the rules holds, where there is one.
+    pub second_from: Option<u64>,
 }
 
 impl Model for Spec {
@@ -53,6 +55,7 @@ impl Model for Spec {
       secondary_reward = spec.secondary_reward;
       halving_interval = spec.halving_interval;
       dao_code_hash = spec.dao_code_hash;
+      second_from = spec.second_from;
     } };
 
     ghost invariant = { λ spec. KeepsItsRules spec.epoch_length spec.w_close spec.w_far spec.max_block_bytes spec.max_cycles spec.maturity spec.halving_interval };
@@ -70,14 +73,15 @@ impl Model for Spec {
       secondary_reward = spec.secondary_reward;
       halving_interval = spec.halving_interval;
       dao_code_hash = spec.dao_code_hash;
+      second_from = spec.second_from;
     } };
 }
 
 impl Spec {
     ghost use Rattle.std.specs.Prelude.{Some, None, IfOk, IfErr};
-    ghost use Rattle.chain_defs.specs.Specification.{broken_specification_rule, specification_of};
+    ghost use Rattle.chain_defs.specs.Specification.{broken_specification_rule, specification_of, with_edition, is_second_at};
 
-    /// The specification that the bytes hold, or the number of the first rule that they break.
+    /// The specification that the bytes hold, under no edition, or the number of the first rule that they break.
     pub fn read(b: &[u8]) -> Result<Spec, u8>
         ensures sound { IfOk result (λ spec. broken_specification_rule b.now ≡ None) }
         ensures fields { IfOk result (λ spec. spec ≡ specification_of b.now) }
@@ -105,6 +109,27 @@ impl Spec {
             return Err(7);
         }
         Ok(spec_in(b))
+    }
+
+    /// The same under this edition.
+    pub fn with_edition(&self, edition: Option<u64>) -> Spec
+        ensures { result ≡ with_edition edition self.now }
+    {
+        Spec {
+            second_from: edition,
+            ..*self
+        }
+    }
+
+    /// Whether the block of a height stands under the second edition of the rules.
+    #[tactic(auto, unfolding(chain_defs::specs::Specification::is_second_at))]
+    pub fn is_second_at(&self, height: u64) -> bool
+        ensures { result ≡ is_second_at self.now height }
+    {
+        match self.second_from {
+            None => false,
+            Some(first) => epoch_of(self.epoch_length, height).number >= first,
+        }
     }
 }
 
@@ -194,5 +219,6 @@ fn spec_in(b: &[u8]) -> Spec
         secondary_reward: u64_at(b, 52),
         halving_interval: u64_at(b, 60),
         dao_code_hash: hash_of(&b[68..100]),
+        second_from: None,
     }
 }

@@ -26,6 +26,7 @@ specification = record {
   secondary_reward = 100000000000;
   halving_interval = 1000;
   dao_code_hash = replicate 32 0xda;
+  second_from = None;
 }
 
 -- the 100 bytes of a specification: their count, then its fields in their order (docs/RULES.md, "The chain specification")

@@ -11,7 +11,7 @@ use Rattle.chain_defs.specs.Specification.{Specification}
 use Rattle.chain_defs.specs.Tip.{best_branch}
 use Rattle.rule_defs.specs.Body.{has_proposals}
 use Rattle.verdict_defs.specs.Transactions.{rules_of_transactions, rules_from}
-use Rattle.pool_defs.specs.Start.{started, sealed}
+use Rattle.pool_defs.specs.Start.{started, sealed, committed}
 use Rattle.pool_defs.specs.Assembly.{Assembly, start, take_item, assembly, assembled}
 use Rattle.pool_defs.specs.Laws.{LinesStay, TransactionsKeepTheirRules, CommitsStand, left_from}
 use Rattle.pool_defs.specs.declared.line.Line.{Line}
@@ -71,14 +71,18 @@ holds-all spec branch witness items =
     keep_all (Holds spec branch) (take_item spec branch) (λ done kept item holds. holds-next spec branch done item kept holds) [] items
     (start spec branch witness) (holds-started spec branch witness)
 
--- The sealed block has the same transactions.
+-- The sealed block has the same timestamp and transactions.
+timestamp-sealed : (spec : Specification) (branch : List Block) (b : Block) → b.header.timestamp ≡ (sealed spec branch b).header.timestamp
+unfolding committed
+timestamp-sealed spec branch b = refl
+
 pub rules-sealed : (spec : Specification) (branch : List Block) (done : List (List ℕ)) (all : Assembly) → Holds spec branch done all
     → AllHold (rules_of_transactions spec branch (sealed spec branch all.block))
 rules-sealed spec branch done all holds =
     let b : Block = all.block in
     let rest : List Transaction = drop 1 b.transactions in
     subst AllHold (rules-agree spec branch b (sealed spec branch b) 1 spec.max_cycles rest
-    (agrees spec branch b (sealed spec branch b) [] (sym (append-nil b.transactions)) (1 + length rest) (omega (arith, after-first b.transactions holds.some)))) holds.rules
+    (agrees spec branch b (sealed spec branch b) [] (timestamp-sealed spec branch b) (sym (append-nil b.transactions)) (1 + length rest) (omega (arith, after-first b.transactions holds.some)))) holds.rules
 
 pub transactions-keep : TransactionsKeepTheirRules
 unfolding assembled
@@ -96,5 +100,6 @@ commits-stand chain witness items i paid cycles there =
       found.1,
       found.2,
       found.3,
-      still-committed chain.spec branch all.block (sealed chain.spec branch all.block) [] (sym (append-nil all.block.transactions)) found.1 paid cycles found.4,
+      still-committed chain.spec branch all.block (sealed chain.spec branch all.block) [] (timestamp-sealed chain.spec branch all.block)
+          (sym (append-nil all.block.transactions)) found.1 paid cycles found.4,
     )

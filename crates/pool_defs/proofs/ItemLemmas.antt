@@ -23,15 +23,15 @@ use Rattle.pool_defs.specs.declared.line.Line.TheVariants.{Commit, Propose, Refu
 use Rattle.pool_defs.proofs.StepLemmas.{changes_nothing, by_step}
 use Rattle.pool_defs.proofs.RulesLemmas.{AgreeUpTo, hold-append, site-agrees, rules-agree, left-agrees, rules-push, left-push}
 
--- ---- A block with more transactions after those that it has
+-- ---- A block of the same timestamp with more transactions after those that it has
 
 module _ (spec : Specification) (branch : List Block) (b other : Block) (more : List Transaction)
-    (grown : other.transactions ≡ b.transactions ++ more) where
+    (timestamps : b.header.timestamp ≡ other.header.timestamp) (grown : other.transactions ≡ b.transactions ++ more) where
   agree-within : (place : ℕ) → place ≤ length b.transactions → take place b.transactions ≡ take place other.transactions
   agree-within place within = sym (ap (take place) grown ∙ take-append-le place b.transactions more within)
 
   pub agrees : (end : ℕ) → end ≤ length b.transactions + 1 → AgreeUpTo end b other
-  agrees end within place below = agree-within place (omega (arith, within, below))
+  agrees end within = record { timestamps = timestamps; before = λ place below. agree-within place (omega (arith, within, below)) }
 
   pub left-grown : (place : ℕ) → 0 < place → place ≤ length b.transactions → left_before spec branch b place ≡ left_before spec branch other place
   left-grown place after_cellbase within =
@@ -45,7 +45,7 @@ module _ (spec : Specification) (branch : List Block) (b other : Block) (more : 
   still-committed t paid cycles is =
       let within : is.place < length b.transactions = slice_get_within b.transactions is.place t is.there in
       let site : site_at spec branch b is.place ≡ site_at spec branch other is.place =
-      site-agrees spec branch b other is.place (agree-within is.place (omega (arith, within))) in
+      site-agrees spec branch b other is.place timestamps (agree-within is.place (omega (arith, within))) in
       let left : left_before spec branch b is.place ≡ left_before spec branch other is.place =
       left-grown is.place is.after_cellbase (omega (arith, within)) in
       record {
@@ -86,13 +86,14 @@ module _ (spec : Specification) (branch : List Block) (done : List (List ℕ)) (
   one-more line = length_push so_far.lines line ∙ ap (λ (n : ℕ). n + 1) holds.count ∙ sym (length_push done item)
 
   -- the commits among the lines so far, and one line more, over a block that has grown
-  commits-more : (other : Block) (more : List Transaction) (line : Line) → other.transactions ≡ so_far.block.transactions ++ more
+  commits-more : (other : Block) (more : List Transaction) (line : Line) → so_far.block.header.timestamp ≡ other.header.timestamp
+      → other.transactions ≡ so_far.block.transactions ++ more
       → ((paid cycles : ℕ) → line ≡ Commit paid cycles
       → (t : Transaction) × (decoded transaction item ≡ Some t) × IsCommitted spec branch other t paid cycles)
       → (i paid cycles : ℕ) → slice_get (so_far.lines ++ line ∷ []) i ≡ Some (Commit paid cycles)
       → (it : List ℕ) × (t : Transaction) × (slice_get (done ++ item ∷ []) i ≡ Some it) × (decoded transaction it ≡ Some t)
       × IsCommitted spec branch other t paid cycles
-  commits-more other more line grown last i paid cycles there = by_place (slice_get-pushed so_far.lines line i (Commit paid cycles) there)
+  commits-more other more line timestamps grown last i paid cycles there = by_place (slice_get-pushed so_far.lines line i (Commit paid cycles) there)
     where
       by_place : ((i < length so_far.lines) × (slice_get so_far.lines i ≡ Some (Commit paid cycles))) ⊎ ((i ≡ length so_far.lines) × (line ≡ Commit paid cycles))
           → (it : List ℕ) × (t : Transaction) × (slice_get (done ++ item ∷ []) i ≡ Some it) × (decoded transaction it ≡ Some t)
@@ -103,7 +104,7 @@ module _ (spec : Specification) (branch : List Block) (done : List (List ℕ)) (
             found.1,
             slice_get-before done (item ∷ []) i (slice_get_within done i found.0 found.2) ∙ found.2,
             found.3,
-            still-committed spec branch so_far.block other more grown found.1 paid cycles found.4,
+            still-committed spec branch so_far.block other more timestamps grown found.1 paid cycles found.4,
           )
       by_place (inr at) =
           let found = last paid cycles at.1 in
@@ -118,7 +119,7 @@ module _ (spec : Specification) (branch : List Block) (done : List (List ℕ)) (
     rules = holds.rules;
     left = holds.left;
     count = one-more line;
-    commits = commits-more so_far.block [] line (sym (append-nil so_far.block.transactions)) (no_commit line none);
+    commits = commits-more so_far.block [] line refl (sym (append-nil so_far.block.transactions)) (no_commit line none);
   }
     where
       no_commit : (line : Line) → changes_nothing line ≡ true → (paid cycles : ℕ) → line ≡ Commit paid cycles
@@ -135,10 +136,10 @@ module _ (spec : Specification) (branch : List Block) (done : List (List ℕ)) (
     uncles = holds.uncles;
     header = holds.header;
     ids = keeps;
-    rules = subst AllHold (rules-agree spec branch so_far.block other 1 spec.max_cycles rest (agrees spec branch so_far.block other [] same (1 + length rest) within)) holds.rules;
-    left = holds.left ∙ left-agrees spec branch so_far.block other 1 spec.max_cycles rest (agrees spec branch so_far.block other [] same (1 + length rest) within);
+    rules = subst AllHold (rules-agree spec branch so_far.block other 1 spec.max_cycles rest (agrees spec branch so_far.block other [] refl same (1 + length rest) within)) holds.rules;
+    left = holds.left ∙ left-agrees spec branch so_far.block other 1 spec.max_cycles rest (agrees spec branch so_far.block other [] refl same (1 + length rest) within);
     count = one-more Propose;
-    commits = commits-more other [] Propose same (λ paid cycles is. absurd (cc));
+    commits = commits-more other [] Propose refl same (λ paid cycles is. absurd (cc));
   }
     where
       other : Block
@@ -165,7 +166,7 @@ module _ (spec : Specification) (branch : List Block) (done : List (List ℕ)) (
         (subst AllHold (rules-agree spec branch so_far.block other 1 spec.max_cycles rest agree) holds.rules) kept);
     left = sym left_is;
     count = one-more (Commit (fee here t) (cycles_of (scene_of here t) so_far.left));
-    commits = commits-more other (t ∷ []) (Commit (fee here t) (cycles_of (scene_of here t) so_far.left)) refl
+    commits = commits-more other (t ∷ []) (Commit (fee here t) (cycles_of (scene_of here t) so_far.left)) refl refl
         (λ paid cycles same. (
           t,
           is,
@@ -197,10 +198,10 @@ module _ (spec : Specification) (branch : List Block) (done : List (List ℕ)) (
       kept = (finds_none (transaction_rules here so_far.left t)).0 unbroken
 
       agree : AgreeUpTo (1 + length rest) so_far.block other
-      agree = agrees spec branch so_far.block other (t ∷ []) refl (1 + length rest) (omega (arith, after-first so_far.block.transactions holds.some))
+      agree = agrees spec branch so_far.block other (t ∷ []) refl refl (1 + length rest) (omega (arith, after-first so_far.block.transactions holds.some))
 
       site : here ≡ there
-      site = site-agrees spec branch so_far.block other (length so_far.block.transactions)
+      site = site-agrees spec branch so_far.block other (length so_far.block.transactions) refl
           (sym (take-append-le (length so_far.block.transactions) so_far.block.transactions (t ∷ []) (omega arith)))
 
       left_here : left_from spec branch other 1 spec.max_cycles rest ≡ so_far.left

@@ -5,7 +5,7 @@ use Rattle.std.proofs.lemmas.List.{append-nil, append_assoc}
 use Rattle.std.proofs.lemmas.List.Elements.{All-cons, All-head, All-tail}
 use Rattle.chain_defs.specs.Schema.{OutPoint, Transaction, Block}
 use Rattle.chain_defs.specs.First.{AllHold}
-use Rattle.chain_defs.specs.Specification.{Specification}
+use Rattle.chain_defs.specs.Specification.{Specification, is_second_at}
 use Rattle.cell_defs.specs.Events.{events, events_from, cell_after}
 use Rattle.rule_defs.specs.Site.{Site, site_at}
 use Rattle.verdict_defs.specs.Transactions.{transaction_rules, left_after, rules_from}
@@ -18,36 +18,46 @@ hold-append (rule ∷ rules) later before after =
     (hold-append rules later (All-tail (λ rule. IsTrue rule.1) rule rules before) after)
 
 -- where a transaction stands after these of its block
-abbrev site_after_these : Specification → List Block → List Transaction → Site
-site_after_these spec branch earlier =
-    record { spec = spec; branch = branch; cell = λ (o : OutPoint). cell_after (events branch ++ events_from 0 earlier (length branch)) o }
+abbrev site_after_these : Specification → List Block → ℕ → List Transaction → Site
+site_after_these spec branch timestamp earlier = record {
+  spec = spec;
+  branch = branch;
+  timestamp = timestamp;
+  second = is_second_at spec (length branch);
+  cell = λ (o : OutPoint). cell_after (events branch ++ events_from 0 earlier (length branch)) o;
+}
 
--- Two blocks have the same transactions before a place.
-abbrev pub AgreeUpTo : ℕ → Block → Block → Type 0
-AgreeUpTo end b other = (place : ℕ) → place < end → take place b.transactions ≡ take place other.transactions
+-- Two blocks have one timestamp, and the same transactions before a place.
+pub record AgreeUpTo (end : ℕ) (b other : Block) : Type 0 where
+  pub timestamps : b.header.timestamp ≡ other.header.timestamp
+  pub before : (place : ℕ) → place < end → take place b.transactions ≡ take place other.transactions
 
-pub site-agrees : (spec : Specification) (branch : List Block) (b other : Block) (place : ℕ)
+pub site-agrees : (spec : Specification) (branch : List Block) (b other : Block) (place : ℕ) → b.header.timestamp ≡ other.header.timestamp
     → take place b.transactions ≡ take place other.transactions → site_at spec branch b place ≡ site_at spec branch other place
-site-agrees spec branch b other place agree = ap (site_after_these spec branch) agree
+site-agrees spec branch b other place timestamps agree =
+    ap (λ (timestamp : ℕ). site_after_these spec branch timestamp (take place b.transactions)) timestamps
+    ∙ ap (site_after_these spec branch other.header.timestamp) agree
 
 pub rules-agree : (spec : Specification) (branch : List Block) (b other : Block) (place left : ℕ) (txs : List Transaction)
     → AgreeUpTo (place + length txs) b other → rules_from spec branch b place left txs ≡ rules_from spec branch other place left txs
 unfolding rules_from
 rules-agree spec branch b other place left [] agree = refl
 rules-agree spec branch b other place left (t ∷ later) agree =
-    let here : site_at spec branch b place ≡ site_at spec branch other place = site-agrees spec branch b other place (agree place (omega arith)) in
+    let here : site_at spec branch b place ≡ site_at spec branch other place = site-agrees spec branch b other place agree.timestamps (agree.before place (omega arith)) in
     ap (λ (site : Site). transaction_rules site left t ++ rules_from spec branch b (suc place) (left_after site left t) later) here
     ∙ ap (λ (rest : List (ℕ × Bool)). transaction_rules (site_at spec branch other place) left t ++ rest)
-    (rules-agree spec branch b other (suc place) (left_after (site_at spec branch other place) left t) later (λ p below. agree p (omega (arith, below))))
+    (rules-agree spec branch b other (suc place) (left_after (site_at spec branch other place) left t) later
+    (record { timestamps = agree.timestamps; before = λ p below. agree.before p (omega (arith, below)) }))
 
 pub left-agrees : (spec : Specification) (branch : List Block) (b other : Block) (place left : ℕ) (txs : List Transaction)
     → AgreeUpTo (place + length txs) b other → left_from spec branch b place left txs ≡ left_from spec branch other place left txs
 unfolding left_from
 left-agrees spec branch b other place left [] agree = refl
 left-agrees spec branch b other place left (t ∷ later) agree =
-    let here : site_at spec branch b place ≡ site_at spec branch other place = site-agrees spec branch b other place (agree place (omega arith)) in
+    let here : site_at spec branch b place ≡ site_at spec branch other place = site-agrees spec branch b other place agree.timestamps (agree.before place (omega arith)) in
     ap (λ (site : Site). left_from spec branch b (suc place) (left_after site left t) later) here
-    ∙ left-agrees spec branch b other (suc place) (left_after (site_at spec branch other place) left t) later (λ p below. agree p (omega (arith, below)))
+    ∙ left-agrees spec branch b other (suc place) (left_after (site_at spec branch other place) left t) later
+    (record { timestamps = agree.timestamps; before = λ p below. agree.before p (omega (arith, below)) })
 
 -- one transaction more
 pub rules-push : (spec : Specification) (branch : List Block) (b : Block) (place left : ℕ) (txs : List Transaction) (t : Transaction)

@@ -1,5 +1,5 @@
--- How old the cells of a transaction are (RFC 0017; docs/RULES.md, "Since and time", "Deps").
-use Rattle.std.specs.Prelude.{ℕ, zero, suc, Bool, ◌&&◌, ◌||◌, not, List, ◌++◌, take, Option, Some, None}
+-- How old the cells of a transaction are (RFC 0017; RFC 0028; docs/RULES.md, "Since and time", "Deps").
+use Rattle.std.specs.Prelude.{ℕ, zero, suc, Bool, ◌&&◌, ◌||◌, ◌==◌, not, List, ◌++◌, take, Option, Some, None, if◌then◌else◌}
 use Rattle.std.specs.List.{list_all, zip}
 use Rattle.chain_defs.specs.Schema.{Block, CellInput, Transaction}
 use Rattle.chain_defs.specs.Epochs.{is_span_over}
@@ -27,11 +27,19 @@ abbrev pub timestamp_of : Option Block → ℕ
 timestamp_of None = 0
 timestamp_of (Some b) = b.header.timestamp
 
--- The time from which a cell of this height counts: the median time at the parent of its block; for the genesis its own timestamp
--- (docs/RULES.md, "Since and time").
-unfoldable pub start_of : List Block → ℕ → ℕ
-start_of branch zero = timestamp_of (block_at branch 0)
-start_of branch (suc parent) = median_time (take (suc parent) branch)
+-- The time from which a cell of this height counts (docs/RULES.md, "Since and time"). Under the first edition it is the median time at the parent
+-- of its block; for the genesis its own timestamp.
+unfoldable pub median_start : List Block → ℕ → ℕ
+median_start branch zero = timestamp_of (block_at branch 0)
+median_start branch (suc parent) = median_time (take (suc parent) branch)
+
+-- Under the second edition it is the timestamp of its block, which is the one that is judged at that one's own height.
+unfoldable pub block_start : Site → ℕ → ℕ
+block_start site height = if height == height_at site then site.timestamp else timestamp_of (block_at site.branch height)
+
+-- By the edition under which it is spent.
+abbrev pub start_at : Site → ℕ → ℕ
+start_at site height = if site.second then block_start site height else median_start site.branch height
 
 -- an input that is spent in the next block of the branch
 abbrev pub spending : Site → Found → Spending
@@ -39,7 +47,7 @@ spending site found = record {
   number = height_at site;
   median = median_time site.branch;
   made = found.cell.height;
-  start = start_of site.branch found.cell.height;
+  start = start_at site found.cell.height;
   length = site.spec.epoch_length;
 }
 

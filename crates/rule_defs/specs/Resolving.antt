@@ -1,6 +1,6 @@
 -- The cells and headers that a transaction names (RFC 0022, "Dep Group", "Cell Dep", "Header Dep"; docs/RULES.md, "Deps"). Each list is there
 -- where its rule is kept.
-use Rattle.std.specs.Prelude.{ℕ, Bool, ◌==◌, List, [], ◌∷◌, map, Option, Some, None, if◌then◌else◌, is_some, unwrap_or}
+use Rattle.std.specs.Prelude.{ℕ, Bool, ◌==◌, ◌||◌, List, [], ◌∷◌, map, Option, Some, None, if◌then◌else◌, is_some, unwrap_or}
 use Rattle.std.specs.Option.{option_map, option_and_then}
 use Rattle.std.specs.List.{flat_map}
 use Rattle.chain_defs.specs.Shape.{encoded, decoded}
@@ -60,15 +60,18 @@ has_cell_deps site t = is_some (dep_cells site t)
 
 -- ---- J22: header deps
 
--- The height of the ancestor with a hash, where the span of maturity is over from it (docs/RULES.md, "A block": from the genesis too).
-abbrev pub mature_ancestor : Site → List ℕ → Option ℕ
-mature_ancestor site hash = option_and_then
-    (λ height. if is_span_over site.spec.maturity site.spec.epoch_length height (height_at site) then Some height else None)
-    (place_of site.branch hash)
+-- Whether the header at a height of the branch may be named. Under the first edition the span of maturity has to be over from it (docs/RULES.md,
+-- "A block": from the genesis too); under the second it may be any (RFC 0036).
+abbrev pub may_be_named : Site → ℕ → Bool
+may_be_named site height = site.second || is_span_over site.spec.maturity site.spec.epoch_length height (height_at site)
+
+-- the height of the ancestor with a hash, where its header may be named
+abbrev pub named_ancestor : Site → List ℕ → Option ℕ
+named_ancestor site hash = option_and_then (λ height. if may_be_named site height then Some height else None) (place_of site.branch hash)
 
 -- the heights of the header deps, in their order
 unfoldable pub header_heights : Site → Transaction → Option (List ℕ)
-header_heights site t = all_there (map (mature_ancestor site) t.raw.header_deps)
+header_heights site t = all_there (map (named_ancestor site) t.raw.header_deps)
 
 -- J22: each header dep is the hash of such an ancestor.
 abbrev pub has_header_deps : Site → Transaction → Bool

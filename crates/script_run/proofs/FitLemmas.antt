@@ -169,11 +169,11 @@ some-stored (Some made) h is = (made, refl)
 stored-within : (stored : List Stored) (place : ℕ) (h : Header) → kept_header stored place ≡ Some h → place < length stored
 stored-within stored place h is = let made = some-stored (slice_get stored place) h is in slice_get_within stored place made.0 made.1
 
-pub shown-fits : (entries : List Entry) (epoch_length : ℕ) (stored : List Stored) (it : ResolvedTxValue) (scene : Scene) → length stored ≡ length entries
-    → scene_shown epoch_length stored it ≡ Some scene → unfit entries it ≡ None
+pub shown-fits : (entries : List Entry) (second : Bool) (epoch_length : ℕ) (stored : List Stored) (it : ResolvedTxValue) (scene : Scene) → length stored ≡ length entries
+    → scene_shown second epoch_length stored it ≡ Some scene → unfit entries it ≡ None
 unfolding unfit
-shown-fits entries epoch_length stored it scene long shown =
-    let over = shown-over epoch_length stored it scene shown in
+shown-fits entries second epoch_length stored it scene long shown =
+    let over = shown-over second epoch_length stored it scene shown in
     let a : uncopied it ≡ None = uncopied-none it over.shows.whole in
     let b : untyped entries it.inputs ≡ None = none-untyped entries it.inputs scene.inputs over.shows.inputs in
     let c : untyped entries it.deps ≡ None = none-untyped entries it.deps scene.deps over.shows.deps in

@@ -7,7 +7,6 @@ use Rattle.std.proofs.lemmas.List.{drop_all, length-map}
 use Rattle.std.proofs.lemmas.List.Elements.{All-get_or}
 use Rattle.std.proofs.lemmas.Option.{slice_get_within, get_or_from_slice_get, slice_get-get_or, slice_get-map}
 use Rattle.chain_defs.specs.Schema.{Script}
-use Rattle.cell_model.specs.Copies.{ResolvedValue}
 use Rattle.machine_defs.specs.Program.{Execution, execution}
 use Rattle.machine_defs.specs.Answer.{syscall}
 use Rattle.verdict_defs.specs.declared.failure.Failure.{Failure}
@@ -19,13 +18,13 @@ use Rattle.verdict_defs.specs.Outcome.{has_no_code, lacks_code, or_later, first_
 use Rattle.script_run.specs.declared.stop.ScriptStop.{ScriptStop}
 use Rattle.script_run.specs.declared.stop.ScriptStop.TheVariants.{Failed, Read}
 use Rattle.script_run.specs.Running.{IsOutcome, answer_of, read_stop_of}
-use Rattle.script_run.specs.Shown.{GroupValue, HasItsHash, IsShownAs}
+use Rattle.script_run.specs.Shown.{AreCodesIn, CodesValue, GroupValue, HasItsHash, IsShownAs, ShownTxValue, codes_of}
 
 -- ---- The code of one group
 
 -- what is found for its script, where that is not TYPE_ID
 pub lacks-code : (scene : Scene) (place : ℕ) (group : Group) (script : Script) (code : Code) → script ≡ group.script → is_type_id script ≡ false
-    → code ≡ code_of scene.deps script → lacks_code place code ≡ has_no_code scene place group
+    → code ≡ code_of scene.second scene.deps script → lacks_code place code ≡ has_no_code scene place group
 lacks-code scene place group script code same other is = rw (← same, other) (ap (lacks_code place) is)
 
 -- ---- Groups by their places
@@ -87,25 +86,25 @@ pub of-type-id : (scene : Scene) (left place : ℕ) (group : Group) (result : Re
     → run_group scene left place group ≡ result
 unfolding run_group
 of-type-id scene left place group result is came =
-    ap (λ (test : Bool). cond test (run_type_id scene left place group) (run_code scene left place group (code_of scene.deps group.script))) is ∙ sym came
+    ap (λ (test : Bool). cond test (run_type_id scene left place group) (run_code scene left place group (code_of scene.second scene.deps group.script))) is ∙ sym came
 
 -- by the code of its script
-pub of-code : (scene : Scene) (left place : ℕ) (group : Group) (code : Code) → is_type_id group.script ≡ false → code ≡ code_of scene.deps group.script
+pub of-code : (scene : Scene) (left place : ℕ) (group : Group) (code : Code) → is_type_id group.script ≡ false → code ≡ code_of scene.second scene.deps group.script
     → run_group scene left place group ≡ run_code scene left place group code
 unfolding run_group
 of-code scene left place group code is found =
-    ap (λ (test : Bool). cond test (run_type_id scene left place group) (run_code scene left place group (code_of scene.deps group.script))) is
+    ap (λ (test : Bool). cond test (run_type_id scene left place group) (run_code scene left place group (code_of scene.second scene.deps group.script))) is
     ∙ ap (run_code scene left place group) (sym found)
 
 pub of-execution : (scene : Scene) (left place : ℕ) (group : Group) (code : List ℕ) (came : Execution) (result : Result ℕ Failure) → is_type_id group.script ≡ false
-    → Is code ≡ code_of scene.deps group.script → came ≡ execution (syscall (items scene group)) left code → result ≡ executed place came
+    → Is code ≡ code_of scene.second scene.deps group.script → came ≡ execution (syscall (items scene group)) left code → result ≡ executed place came
     → run_group scene left place group ≡ result
 of-execution scene left place group code came result is found ran ended =
     of-code scene left place group (Is code) is found ∙ ap (executed place) (sym ran) ∙ sym ended
 
--- deps that the codes are those of
-pub deps-shown : (scene : Scene) (codes deps : List ResolvedValue) → codes ≡ deps → AllZip IsShownAs deps scene.deps → AllZip IsShownAs codes scene.deps
-deps-shown scene codes deps same shown = subst (λ (these : List ResolvedValue). AllZip IsShownAs these scene.deps) (sym same) shown
+-- codes of a transaction whose deps are shown
+pub codes-in : (scene : Scene) (codes : CodesValue) (tx : ShownTxValue) → codes ≡ codes_of tx → AllZip IsShownAs tx.it.deps scene.deps → scene.second ≡ tx.second → AreCodesIn codes scene
+codes-in scene codes tx same shown second = subst (λ (these : CodesValue). AreCodesIn these scene) (sym same) (record { deps = shown; second = second })
 
 -- ---- Answers
 

@@ -89,36 +89,38 @@ copy-shown stored headers copy cell shown = by-decoded stored headers copy cell 
 
 -- ---- A scene
 
-pub record SceneParts (epoch_length : ℕ) (tx : Transaction) (inputs deps : Option (List ShownCell)) (headers : Option (List Header)) (scene : Scene) : Type 0 where
+pub record SceneParts (second : Bool) (epoch_length : ℕ) (tx : Transaction) (inputs deps : Option (List ShownCell)) (headers : Option (List Header)) (scene : Scene) : Type 0 where
   pub transaction : scene.transaction ≡ tx
   pub inputs_are : inputs ≡ Some scene.inputs
   pub deps_are : deps ≡ Some scene.deps
   pub headers_are : headers ≡ Some scene.headers
   pub length_is : scene.epoch_length ≡ epoch_length
+  pub second_is : scene.second ≡ second
 
-scene-parts : (epoch_length : ℕ) (tx : Transaction) (inputs deps : Option (List ShownCell)) (headers : Option (List Header)) (scene : Scene)
-    → scene_with epoch_length tx inputs deps headers ≡ Some scene → SceneParts epoch_length tx inputs deps headers scene
-scene-parts epoch_length tx None deps headers scene is = absurd cc
-scene-parts epoch_length tx (Some inputs) None headers scene is = absurd cc
-scene-parts epoch_length tx (Some inputs) (Some deps) None scene is = absurd cc
-scene-parts epoch_length tx (Some inputs) (Some deps) (Some headers) scene is =
-    let made : Scene = record { transaction = tx; inputs = inputs; deps = deps; headers = headers; epoch_length = epoch_length } in
+scene-parts : (second : Bool) (epoch_length : ℕ) (tx : Transaction) (inputs deps : Option (List ShownCell)) (headers : Option (List Header)) (scene : Scene)
+    → scene_with second epoch_length tx inputs deps headers ≡ Some scene → SceneParts second epoch_length tx inputs deps headers scene
+scene-parts second epoch_length tx None deps headers scene is = absurd cc
+scene-parts second epoch_length tx (Some inputs) None headers scene is = absurd cc
+scene-parts second epoch_length tx (Some inputs) (Some deps) None scene is = absurd cc
+scene-parts second epoch_length tx (Some inputs) (Some deps) (Some headers) scene is =
+    let made : Scene = record { transaction = tx; inputs = inputs; deps = deps; headers = headers; epoch_length = epoch_length; second = second } in
     let same : made ≡ scene = some-is made scene is in
-    subst (SceneParts epoch_length tx (Some inputs) (Some deps) (Some headers)) same (record { transaction = refl; inputs_are = refl; deps_are = refl; headers_are = refl; length_is = refl })
+    subst (SceneParts second epoch_length tx (Some inputs) (Some deps) (Some headers)) same (record { transaction = refl; inputs_are = refl; deps_are = refl; headers_are = refl; length_is = refl; second_is = refl })
 
 -- a scene that is shown over kept blocks
-pub record ShownOver (epoch_length : ℕ) (stored : List Stored) (it : ResolvedTxValue) (scene : Scene) : Type 0 where
+pub record ShownOver (second : Bool) (epoch_length : ℕ) (stored : List Stored) (it : ResolvedTxValue) (scene : Scene) : Type 0 where
   pub shows : Shows it scene
   pub headers : ShowsHeaders (kept_header stored) it scene
   pub length_is : scene.epoch_length ≡ epoch_length
+  pub second_is : scene.second ≡ second
 
-by-whole : (epoch_length : ℕ) (stored : List Stored) (it : ResolvedTxValue) (scene : Scene) (whole : Bool) → is_whole it ≡ whole
-    → cond whole (scene_with epoch_length it.tx (cells_shown stored it.headers it.inputs) (cells_shown stored it.headers it.deps) (headers_shown stored it.headers)) None ≡ Some scene
-    → ShownOver epoch_length stored it scene
-by-whole epoch_length stored it scene false test shown = absurd cc
-by-whole epoch_length stored it scene true test shown =
+by-whole : (second : Bool) (epoch_length : ℕ) (stored : List Stored) (it : ResolvedTxValue) (scene : Scene) (whole : Bool) → is_whole it ≡ whole
+    → cond whole (scene_with second epoch_length it.tx (cells_shown stored it.headers it.inputs) (cells_shown stored it.headers it.deps) (headers_shown stored it.headers)) None ≡ Some scene
+    → ShownOver second epoch_length stored it scene
+by-whole second epoch_length stored it scene false test shown = absurd cc
+by-whole second epoch_length stored it scene true test shown =
     let both = and_parts _ _ test in
-    let parts = scene-parts epoch_length it.tx (cells_shown stored it.headers it.inputs) (cells_shown stored it.headers it.deps) (headers_shown stored it.headers) scene shown in
+    let parts = scene-parts second epoch_length it.tx (cells_shown stored it.headers it.inputs) (cells_shown stored it.headers it.deps) (headers_shown stored it.headers) scene shown in
     let by_place : AllZip (λ place shown. kept_header stored place ≡ Some shown) it.headers scene.headers =
     all-zip (kept_header stored) (λ place shown. kept_header stored place ≡ Some shown) (λ place header is. is) it.headers scene.headers parts.headers_are in
     let inputs : AllZip (CopyShown stored it.headers) it.inputs scene.inputs =
@@ -140,25 +142,26 @@ by-whole epoch_length stored it scene true test shown =
         by_place = by_place;
       };
       length_is = parts.length_is;
+      second_is = parts.second_is;
     }
 
-pub shown-over : (epoch_length : ℕ) (stored : List Stored) (it : ResolvedTxValue) (scene : Scene) → scene_shown epoch_length stored it ≡ Some scene → ShownOver epoch_length stored it scene
+pub shown-over : (second : Bool) (epoch_length : ℕ) (stored : List Stored) (it : ResolvedTxValue) (scene : Scene) → scene_shown second epoch_length stored it ≡ Some scene → ShownOver second epoch_length stored it scene
 unfolding scene_shown
-shown-over epoch_length stored it scene shown = by-whole epoch_length stored it scene (is_whole it) refl shown
+shown-over second epoch_length stored it scene shown = by-whole second epoch_length stored it scene (is_whole it) refl shown
 
 -- ---- What surrounds a script
 
-pub if-told : (epoch_length : ℕ) (it : ResolvedTxValue) (group : GroupValue) (told : Option (List Stored)) (P : Items → Type 0)
-    → ((stored : List Stored) (scene : Scene) → told ≡ Some stored → scene_shown epoch_length stored it ≡ Some scene → P (items_of scene group))
-    → IfSome (known_items epoch_length it group told) P
-if-told epoch_length it group None P each = tt
-if-told epoch_length it group (Some stored) P each =
-    elim (scene_shown epoch_length stored it) as (λ shown. scene_shown epoch_length stored it ≡ shown → IfSome (option_map (λ scene. items_of scene group) shown) P) [
+pub if-told : (second : Bool) (epoch_length : ℕ) (it : ResolvedTxValue) (group : GroupValue) (told : Option (List Stored)) (P : Items → Type 0)
+    → ((stored : List Stored) (scene : Scene) → told ≡ Some stored → scene_shown second epoch_length stored it ≡ Some scene → P (items_of scene group))
+    → IfSome (known_items second epoch_length it group told) P
+if-told second epoch_length it group None P each = tt
+if-told second epoch_length it group (Some stored) P each =
+    elim (scene_shown second epoch_length stored it) as (λ shown. scene_shown second epoch_length stored it ≡ shown → IfSome (option_map (λ scene. items_of scene group) shown) P) [
       | None ↦ λ none. tt
       | Some scene ↦ λ some. each stored scene refl some
     ] refl
 
-pub told-is : (epoch_length : ℕ) (it : ResolvedTxValue) (group : GroupValue) (told : Option (List Stored)) (stored : List Stored) (scene : Scene) → told ≡ Some stored
-    → scene_shown epoch_length stored it ≡ Some scene → known_items epoch_length it group told ≡ Some (items_of scene group)
-told-is epoch_length it group told stored scene told_are shown =
-    ap (known_items epoch_length it group) told_are ∙ ap (option_map (λ s. items_of s group)) shown
+pub told-is : (second : Bool) (epoch_length : ℕ) (it : ResolvedTxValue) (group : GroupValue) (told : Option (List Stored)) (stored : List Stored) (scene : Scene) → told ≡ Some stored
+    → scene_shown second epoch_length stored it ≡ Some scene → known_items second epoch_length it group told ≡ Some (items_of scene group)
+told-is second epoch_length it group told stored scene told_are shown =
+    ap (known_items second epoch_length it group) told_are ∙ ap (option_map (λ s. items_of s group)) shown

@@ -1,5 +1,5 @@
 -- What a script is answered, by what was found for it.
-use Rattle.std.proofs.Common.{◌≡◌, ℕ, List, Option, Some, None, refl, subst}
+use Rattle.std.proofs.Common.{◌≡◌, ℕ, Bool, List, Option, Some, None, refl, subst}
 use Rattle.std.specs.Prelude.{IfSome, IsSomeAnd, slice_get}
 use Rattle.std.specs.Option.{option_map}
 use Rattle.chain_defs.specs.Schema.{Header}
@@ -18,18 +18,18 @@ abbrev pub Sought : ℕ → ResolvedTxValue → GroupValue → Call → Lookup �
 Sought epoch_length it group call look = (headers : ℕ → Option Header) (scene : Scene) → Shows it scene → ShowsHeaders headers it scene → scene.epoch_length ≡ epoch_length
     → IsFound headers epoch_length (items_of scene group call) look
 
-found-over : (epoch_length : ℕ) (it : ResolvedTxValue) (group : GroupValue) (call : Call) (look other : Lookup) → Sought epoch_length it group call look → look ≡ other
-    → (stored : List Stored) (scene : Scene) → scene_shown epoch_length stored it ≡ Some scene → IsFound (kept_header stored) epoch_length (items_of scene group call) other
-found-over epoch_length it group call look other look_up is stored scene shown =
-    let over = shown-over epoch_length stored it scene shown in
+found-over : (second : Bool) (epoch_length : ℕ) (it : ResolvedTxValue) (group : GroupValue) (call : Call) (look other : Lookup) → Sought epoch_length it group call look → look ≡ other
+    → (stored : List Stored) (scene : Scene) → scene_shown second epoch_length stored it ≡ Some scene → IsFound (kept_header stored) epoch_length (items_of scene group call) other
+found-over second epoch_length it group call look other look_up is stored scene shown =
+    let over = shown-over second epoch_length stored it scene shown in
     subst (λ (l : Lookup). IsFound (kept_header stored) epoch_length (items_of scene group call) l) is (look_up (kept_header stored) scene over.shows over.headers over.length_is)
 
-pub by-look : (epoch_length : ℕ) (it : ResolvedTxValue) (group : GroupValue) (told : Option (List Stored)) (call : Call) (look other : Lookup) → Sought epoch_length it group call look → look ≡ other
+pub by-look : (second : Bool) (epoch_length : ℕ) (it : ResolvedTxValue) (group : GroupValue) (told : Option (List Stored)) (call : Call) (look other : Lookup) → Sought epoch_length it group call look → look ≡ other
     → (P : Items → Type 0)
     → ((stored : List Stored) (scene : Scene) → told ≡ Some stored → IsFound (kept_header stored) epoch_length (items_of scene group call) other → P (items_of scene group))
-    → IfSome (known_items epoch_length it group told) P
-by-look epoch_length it group told call look other look_up is P each =
-    if-told epoch_length it group told P (λ stored scene told_are shown. each stored scene told_are (found-over epoch_length it group call look other look_up is stored scene shown))
+    → IfSome (known_items second epoch_length it group told) P
+by-look second epoch_length it group told call look other look_up is P each =
+    if-told second epoch_length it group told P (λ stored scene told_are shown. each stored scene told_are (found-over second epoch_length it group call look other look_up is stored scene shown))
 
 -- a block that is kept at a place
 pub record Kept (stored : List Stored) (place : ℕ) (P : Header → Type 0) : Type 0 where

@@ -1,5 +1,5 @@
 -- What is found for a script, beside what it is answered.
-use Rattle.std.specs.Prelude.{◌≡◌, ⊤, true, ℕ, ◌*◌, ◌<◌, ◌==◌, List, Option, Some, None, IsSome, IsSomeAnd, slice_get, if◌then◌else◌}
+use Rattle.std.specs.Prelude.{◌≡◌, ⊤, Bool, true, ℕ, ◌*◌, ◌<◌, ◌==◌, List, Option, Some, None, IsSome, IsSomeAnd, slice_get, if◌then◌else◌}
 use Rattle.std.specs.Option.{option_map, option_and_then}
 use Rattle.std.specs.List.{AllZip, list_any}
 use Rattle.chain_defs.specs.Shape.{encoded}
@@ -131,11 +131,11 @@ abbrev pub kept_header : List Stored → ℕ → Option Header
 kept_header stored place = option_map (λ it. it.block.header) (slice_get stored place)
 
 -- What surrounds the script of a group, where the kept blocks are known and show a scene.
-abbrev pub known_items : ℕ → ResolvedTxValue → GroupValue → Option (List Stored) → Option Items
-known_items epoch_length it group told =
-    option_and_then (λ stored. option_map (λ scene. items_of scene group) (scene_shown epoch_length stored it)) told
+abbrev pub known_items : Bool → ℕ → ResolvedTxValue → GroupValue → Option (List Stored) → Option Items
+known_items second epoch_length it group told =
+    option_and_then (λ stored. option_map (λ scene. items_of scene group) (scene_shown second epoch_length stored it)) told
 
 -- where that is known, the kept blocks are
-pub blocks-known : (epoch_length : ℕ) (it : ResolvedTxValue) (group : GroupValue) (told : Option (List Stored)) → IsSome (known_items epoch_length it group told) → IsSome told
-blocks-known epoch_length it group None known = known
-blocks-known epoch_length it group (Some stored) known = λ i. true
+pub blocks-known : (second : Bool) (epoch_length : ℕ) (it : ResolvedTxValue) (group : GroupValue) (told : Option (List Stored)) → IsSome (known_items second epoch_length it group told) → IsSome told
+blocks-known second epoch_length it group None known = known
+blocks-known second epoch_length it group (Some stored) known = λ i. true

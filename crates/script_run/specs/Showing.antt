@@ -47,16 +47,16 @@ headers_shown stored headers = all_there (map (λ place. option_map (λ it. it.b
 abbrev pub is_whole : ResolvedTxValue → Bool
 is_whole it = bytes_eq it.hash (transaction_hash it.tx) && (length it.inputs == length it.tx.raw.inputs)
 
-abbrev pub scene_with : ℕ → Transaction → Option (List ShownCell) → Option (List ShownCell) → Option (List Header) → Option Scene
-scene_with epoch_length tx None deps headers = None
-scene_with epoch_length tx (Some inputs) None headers = None
-scene_with epoch_length tx (Some inputs) (Some deps) None = None
-scene_with epoch_length tx (Some inputs) (Some deps) (Some headers) =
-    Some (record { transaction = tx; inputs = inputs; deps = deps; headers = headers; epoch_length = epoch_length })
+abbrev pub scene_with : Bool → ℕ → Transaction → Option (List ShownCell) → Option (List ShownCell) → Option (List Header) → Option Scene
+scene_with second epoch_length tx None deps headers = None
+scene_with second epoch_length tx (Some inputs) None headers = None
+scene_with second epoch_length tx (Some inputs) (Some deps) None = None
+scene_with second epoch_length tx (Some inputs) (Some deps) (Some headers) =
+    Some (record { transaction = tx; inputs = inputs; deps = deps; headers = headers; epoch_length = epoch_length; second = second })
 
 -- What is shown over kept blocks that are known, where the transaction is whole.
-unfoldable pub scene_shown : ℕ → List Stored → ResolvedTxValue → Option Scene
-scene_shown epoch_length stored it =
+unfoldable pub scene_shown : Bool → ℕ → List Stored → ResolvedTxValue → Option Scene
+scene_shown second epoch_length stored it =
     if is_whole it
-    then scene_with epoch_length it.tx (cells_shown stored it.headers it.inputs) (cells_shown stored it.headers it.deps) (headers_shown stored it.headers)
+    then scene_with second epoch_length it.tx (cells_shown stored it.headers it.inputs) (cells_shown stored it.headers it.deps) (headers_shown stored it.headers)
     else None

@@ -1,5 +1,5 @@
 -- A transaction with what it resolves to, beside the scene that its scripts are shown.
-use Rattle.std.specs.Prelude.{◌≡◌, ℕ, List, map, length, Some}
+use Rattle.std.specs.Prelude.{◌≡◌, ℕ, Bool, List, map, length, Some}
 use Rattle.std.specs.Option.{option_map}
 use Rattle.std.specs.List.{AllZip, enumerate_from}
 use Rattle.chain_defs.specs.Shape.{decoded}
@@ -41,12 +41,13 @@ output_row t (index, output) = row_of 0 (record { output = output; content = dat
 unfoldable pub output_rows : Transaction → List Row
 output_rows t = map (output_row t) (enumerate_from 0 t.raw.outputs)
 
--- the transaction, the rows of its outputs, how many blocks an epoch has, and how many are kept
+-- the transaction, the rows of its outputs, how many blocks an epoch has, how many are kept, and whether code is found by the second edition
 pub record ShownTxValue : Type 0 where
   pub it : ResolvedTxValue
   pub rows : List Row
   pub epoch_length : ℕ
   pub kept : ℕ
+  pub second : Bool
 
 -- ---- Groups and codes
 
@@ -57,6 +58,19 @@ pub record GroupValue : Type 0 where
 
 pub record HasItsHash (it : GroupValue) : Type 0 where
   pub hash : it.hash ≡ script_hash it.group.script
+
+-- the resolved deps, and whether code is found among them by the second edition
+pub record CodesValue : Type 0 where
+  pub deps : List ResolvedValue
+  pub second : Bool
+
+abbrev pub codes_of : ShownTxValue → CodesValue
+codes_of tx = record { deps = tx.it.deps; second = tx.second }
+
+-- they are those of a scene
+pub record AreCodesIn (it : CodesValue) (scene : Scene) : Type 0 where
+  pub deps : AllZip IsShownAs it.deps scene.deps
+  pub second : scene.second ≡ it.second
 
 abbrev pub code_meaning : Located → codes.Code
 code_meaning NoCode = codes.NoCode

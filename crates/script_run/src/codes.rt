@@ -1,12 +1,11 @@
 // The codes of scripts, among the resolved deps (RFC 0022, "Code Locating").
-ghost use Rattle.std.specs.Prelude.{◌≡◌, ℕ, List, IfOk};
+ghost use Rattle.std.specs.Prelude.{◌≡◌, ◌||◌, not, ℕ, List, IfOk};
 ghost use Rattle.std.specs.HashMap.{get};
-ghost use Rattle.std.specs.List.{AllZip};
 ghost use Rattle.std.specs.Str.{bytes_eq};
 ghost use Rattle.verdict_defs.specs.Codes.{code_of, code_by_data, code_by_type};
-ghost use Rattle.verdict_defs.specs.Scene.{ShownCell};
+ghost use Rattle.verdict_defs.specs.Scene.{Scene};
 ghost use Rattle.script_run.specs.Locating.{first_with_data, typed_with};
-ghost use Rattle.script_run.specs.Shown.{IsShownAs, code_meaning};
+ghost use Rattle.script_run.specs.Shown.{AreCodesIn, code_meaning};
 
 use cell_model::Resolved;
 use mol_schema::ScriptView;
@@ -26,7 +25,7 @@ const BY_TYPE: u8 = 1;
 pub(crate) enum Located<'a> {
     /// No dep is named.
     NoCode,
-    /// More than one is, by a type script.
+    /// More than one is, by a type script, and they are not one code.
     ManyCodes,
     At(&'a [u8]),
 }
@@ -36,14 +35,16 @@ pub(crate) enum Located<'a> {
 struct Typed {
     /// The place of the first of them.
     first: usize,
-    /// There is another one.
-    again: bool,
+    /// There are others, and with them it is not one code.
+    many: bool,
 }
 
-/// The resolved deps, found by their hashes. Clauses see the list of the deps.
+/// The resolved deps, found by their hashes. Clauses see the list of the deps, and whether code is found by the second
+/// edition.
 #[derive(Drop)]
 pub(crate) struct Codes<'a> {
     deps: &'a [Resolved],
+    second: bool,
     /// The place of the first dep with a hash of its data.
     by_data: HashMap<[u8; 32], usize>,
     by_type: HashMap<[u8; 32], Typed>,
@@ -53,15 +54,15 @@ impl<'a> Model for Codes<'a> {
     ghost use Rattle.std.specs.Prelude.{◌≡◌, ℕ, List};
     ghost use Rattle.std.specs.HashMap.{get};
     ghost use Rattle.std.specs.Str.{bytes_eq};
-    ghost use Rattle.cell_model.specs.Copies.{ResolvedValue};
     ghost use Rattle.script_run.specs.Locating.{first_with_data, typed_with};
+    ghost use Rattle.script_run.specs.Shown.{CodesValue};
 
-    ghost Value = { List ResolvedValue };
+    ghost Value = { CodesValue };
 
-    ghost view = { λ codes. codes.deps.now };
+    ghost view = { λ codes. record { deps = codes.deps.now; second = codes.second } };
 
     ghost invariant = { λ codes. (hash : List ℕ) → (get bytes_eq codes.by_data hash ≡ first_with_data hash 0 codes.deps.now)
-        × (get bytes_eq codes.by_type hash ≡ typed_with hash 0 codes.deps.now) };
+        × (get bytes_eq codes.by_type hash ≡ typed_with codes.second hash 0 codes.deps.now) };
 }
 
 /// The place of the first of the deps with each hash of their data.
@@ -79,19 +80,34 @@ fn places_by_data(alloc: Global, deps: &[Resolved]) -> Result<HashMap<[u8; 32], 
     Ok(places)
 }
 
-/// The deps with each hash of their type script.
-fn places_by_type(alloc: Global, deps: &[Resolved]) -> Result<HashMap<[u8; 32], Typed>, NoMemory>
-    ensures { (hash : List ℕ) → IfOk result (λ places. get bytes_eq places hash ≡ typed_with hash 0 deps.now) }
+/// Whether a dep and the later ones with its type script are not one code: `next` is the first of these, and `many` says it of
+/// them. Data is compared under the second edition alone, and that of each dep once.
+fn are_many(dep: &Resolved, next: &Resolved, many: bool, second: bool) -> bool
+    ensures { result ≡ many || not second || not (bytes_eq next.now.content dep.now.content) }
 {
-    let mut places = HashMap::new(alloc);
+    many || !second || next.content.as_slice() != dep.content.as_slice()
+}
+
+/// The deps with each hash of their type script.
+fn places_by_type(
+    alloc: Global,
+    deps: &[Resolved],
+    second: bool,
+) -> Result<HashMap<[u8; 32], Typed>, NoMemory>
+    ensures { (hash : List ℕ) → IfOk result (λ places. get bytes_eq places hash ≡ typed_with second hash 0 deps.now) }
+{
+    let mut places: HashMap<[u8; 32], Typed> = HashMap::new(alloc);
     'deps: for done in 0..deps.len() {
         let first = deps.len() - 1 - done;
         let dep = &deps[first];
         let meta = &dep.meta;
         let type_hash = meta.type_hash;
         if let Some(hash) = type_hash {
-            let again = places.contains_key(&hash);
-            places.insert(hash, Typed { first, again })?;
+            let many = match places.get(&hash) {
+                None => false,
+                Some(later) => are_many(dep, &deps[later.first], later.many, second),
+            };
+            places.insert(hash, Typed { first, many })?;
         }
     }
     Ok(places)
@@ -99,20 +115,26 @@ fn places_by_type(alloc: Global, deps: &[Resolved]) -> Result<HashMap<[u8; 32], 
 
 impl<'a> Codes<'a> {
     /// Takes each dep by its row's hashes, once.
-    pub(crate) fn of(alloc: Global, deps: &'a [Resolved]) -> Result<Codes<'a>, NoMemory>
-        ensures { IfOk result (λ codes. codes ≡ deps.now) }
+    pub(crate) fn of(
+        alloc: Global,
+        deps: &'a [Resolved],
+        second: bool,
+    ) -> Result<Codes<'a>, NoMemory>
+        ensures deps { IfOk result (λ codes. codes.deps ≡ deps.now) }
+        ensures second { IfOk result (λ codes. codes.second ≡ second) }
     {
         let by_data = places_by_data(alloc, deps)?;
-        let by_type = places_by_type(alloc, deps)?;
+        let by_type = places_by_type(alloc, deps, second)?;
         Ok(Codes {
             deps,
+            second,
             by_data,
             by_type,
         })
     }
 
     fn with_data_hash(&self, hash: [u8; 32]) -> Located<'a>
-        ensures { (cells : List ShownCell) → AllZip IsShownAs self.now cells → code_meaning result ≡ code_by_data cells hash }
+        ensures { (scene : Scene) → AreCodesIn self.now scene → code_meaning result ≡ code_by_data scene.deps hash }
     {
         match self.by_data.get(&hash) {
             None => Located::NoCode,
@@ -124,12 +146,12 @@ impl<'a> Codes<'a> {
     }
 
     fn with_type_hash(&self, hash: [u8; 32]) -> Located<'a>
-        ensures { (cells : List ShownCell) → AllZip IsShownAs self.now cells → code_meaning result ≡ code_by_type cells hash }
+        ensures { (scene : Scene) → AreCodesIn self.now scene → code_meaning result ≡ code_by_type scene.second scene.deps hash }
     {
         match self.by_type.get(&hash) {
             None => Located::NoCode,
             Some(typed) => {
-                if typed.again {
+                if typed.many {
                     Located::ManyCodes
                 } else {
                     let dep = &self.deps[typed.first];
@@ -142,7 +164,7 @@ impl<'a> Codes<'a> {
     /// The code of a script.
     #[tactic(auto, unfolding(verdict_defs::specs::Codes::code_of))]
     pub(crate) fn find(&self, script: &ScriptView<'_>) -> Located<'a>
-        ensures { (cells : List ShownCell) → AllZip IsShownAs self.now cells → code_meaning result ≡ code_of cells script.now }
+        ensures { (scene : Scene) → AreCodesIn self.now scene → code_meaning result ≡ code_of scene.second scene.deps script.now }
     {
         let mut hash = [0; 32];
         hash.copy_from_slice(script.code_hash());

@@ -1,6 +1,6 @@
 // All script groups of a transaction, one after the other.
 ghost use Rattle.std.specs.Prelude.{◌≡◌, ◌^◌, ◌<◌, ◌≤◌, List, map, Some, None, Err, IfOk, IfSome, IsSome, length};
-ghost use Rattle.std.specs.List.{All, AllZip};
+ghost use Rattle.std.specs.List.{All};
 ghost use Rattle.outside.specs.declared.disk.Area.TheVariants.{Log};
 ghost use Rattle.outside.specs.declared.disk.Damage.{Damage};
 ghost use Rattle.outside.specs.declared.disk.ReadStop.TheVariants.{Damaged};
@@ -12,7 +12,7 @@ ghost use Rattle.verdict_defs.specs.Outcome as defs;
 ghost use Rattle.script_run.specs.Fitting as fitting;
 ghost use Rattle.script_run.specs.Running.{ExitsWithin, IsOutcome, answer_of, read_stop_of};
 ghost use Rattle.script_run.specs.Showing.{scene_shown};
-ghost use Rattle.script_run.specs.Shown.{HasItsHash, IsShownAs};
+ghost use Rattle.script_run.specs.Shown.{AreCodesIn, HasItsHash, codes_of};
 ghost use Rattle.script_run.specs.declared.stop.ScriptStop.TheVariants.{Read};
 
 use crate::codes::{Codes, Located};
@@ -33,7 +33,7 @@ use verdict_defs::Failure;
 
 /// Why the code of a group is not found. Of TYPE_ID none is looked for.
 fn lacks_code(codes: &Codes<'_>, group: &Group<'_>, place: u32) -> Option<Failure>
-    ensures { (scene : Scene) → AllZip IsShownAs codes.now scene.deps → result ≡ defs.has_no_code scene place group.now.group }
+    ensures { (scene : Scene) → AreCodesIn codes.now scene → result ≡ defs.has_no_code scene place group.now.group }
 {
     if is_type_id(&group.script) {
         return None;
@@ -48,7 +48,7 @@ fn lacks_code(codes: &Codes<'_>, group: &Group<'_>, place: u32) -> Option<Failur
 /// Why the code of the first group without one is not found.
 fn first_without_code(codes: &Codes<'_>, groups: &[Group<'_>]) -> Option<Failure>
     requires few { length groups.now < 2 ^ 32 }
-    ensures { (scene : Scene) → AllZip IsShownAs codes.now scene.deps → result ≡ defs.first_without_code scene 0 (map (λ it. it.group) groups.now) }
+    ensures { (scene : Scene) → AreCodesIn codes.now scene → result ≡ defs.first_without_code scene 0 (map (λ it. it.group) groups.now) }
 {
     'groups: for i in 0..groups.len() {
         if let Some(failure) = lacks_code(codes, &groups[i], i as u32) {
@@ -120,10 +120,10 @@ fn run_group<B: Blocks>(
 ) -> Result<u64, ScriptStop>
     requires left { left ≤ 2 ^ 40 }
     requires counts { B.count blocks.old ≡ tx.now.kept }
-    requires codes { codes.now ≡ tx.now.it.deps }
+    requires codes { codes.now ≡ codes_of tx.now }
     ensures read { HasRead B.told B.count B.loans_of B.faults B.damages blocks.old blocks.new (read_stop_of result) }
     ensures within { IfOk result (λ cycles. cycles ≤ left) }
-    ensures exact { (stored : List Stored) (scene : Scene) → B.told blocks.old ≡ Some stored → scene_shown tx.now.epoch_length stored tx.now.it ≡ Some scene
+    ensures exact { (stored : List Stored) (scene : Scene) → B.told blocks.old ≡ Some stored → scene_shown tx.now.second tx.now.epoch_length stored tx.now.it ≡ Some scene
         → HasItsHash group.now → IsOutcome (defs.run_group scene left place group.now.group) result }
     ensures undamaged { IsSome (B.told blocks.old) → (damage : Damage) → result ≡ Err (Read (Damaged damage)) → ⊥ }
 {
@@ -153,10 +153,10 @@ fn run_each<B: Blocks>(
     requires few { length groups.now < 2 ^ 32 }
     requires budget { budget ≤ 2 ^ 40 }
     requires counts { B.count blocks.old ≡ tx.now.kept }
-    requires codes { codes.now ≡ tx.now.it.deps }
+    requires codes { codes.now ≡ codes_of tx.now }
     ensures read { HasRead B.told B.count B.loans_of B.faults B.damages blocks.old blocks.new (read_stop_of result) }
     ensures within { IfOk result (λ cycles. cycles ≤ budget) }
-    ensures exact { (stored : List Stored) (scene : Scene) → B.told blocks.old ≡ Some stored → scene_shown tx.now.epoch_length stored tx.now.it ≡ Some scene
+    ensures exact { (stored : List Stored) (scene : Scene) → B.told blocks.old ≡ Some stored → scene_shown tx.now.second tx.now.epoch_length stored tx.now.it ≡ Some scene
         → All HasItsHash groups.now → IsOutcome (defs.run_from scene budget 0 (map (λ it. it.group) groups.now)) result }
     ensures undamaged { IsSome (B.told blocks.old) → (damage : Damage) → result ≡ Err (Read (Damaged damage)) → ⊥ }
 {
@@ -182,10 +182,10 @@ fn run_shown<'a, B: Blocks>(
 ) -> Result<u64, ScriptStop>
     requires budget { budget ≤ 2 ^ 40 }
     requires counts { B.count blocks.old ≡ tx.now.kept }
-    requires codes { codes.now ≡ tx.now.it.deps }
+    requires codes { codes.now ≡ codes_of tx.now }
     ensures read { HasRead B.told B.count B.loans_of B.faults B.damages blocks.old blocks.new (read_stop_of result) }
     ensures within { IfOk result (λ cycles. cycles ≤ budget) }
-    ensures exact { (stored : List Stored) (scene : Scene) → B.told blocks.old ≡ Some stored → scene_shown tx.now.epoch_length stored tx.now.it ≡ Some scene
+    ensures exact { (stored : List Stored) (scene : Scene) → B.told blocks.old ≡ Some stored → scene_shown tx.now.second tx.now.epoch_length stored tx.now.it ≡ Some scene
         → IsOutcome (defs.outcome_of scene budget) result }
     ensures undamaged { IsSome (B.told blocks.old) → (damage : Damage) → result ≡ Err (Read (Damaged damage)) → ⊥ }
 {
@@ -200,8 +200,8 @@ fn run_shown<'a, B: Blocks>(
 }
 
 /// Runs the script groups of a transaction within a budget in cycles: `Ok` has the cycles that they take. No group runs
-/// where the code of one is not found, and nothing is asked of the blocks where what it resolves to does not fit, which is
-/// damage.
+/// where the code of one is not found, which is by the second edition of the rules or by the first as `second` says. Nothing
+/// is asked of the blocks where what it resolves to does not fit, which is damage.
 pub fn run_groups<B: Blocks>(
     alloc: Global,
     spec: &Spec,
@@ -209,6 +209,7 @@ pub fn run_groups<B: Blocks>(
     tree: &Tree,
     blocks: &mut B,
     budget: u64,
+    second: bool,
 ) -> Result<u64, ScriptStop>
     requires budget { budget ≤ 2 ^ 40 }
     requires counts { B.count blocks.old ≡ length tree.now.entries }
@@ -219,22 +220,22 @@ pub fn run_groups<B: Blocks>(
     ensures unfit { IfSome (fitting.unfit tree.now.entries tx.now) (λ at. result ≡ Err (Read (Damaged (record { area = Log; at = at })))) }
 
     // Over kept blocks that are known, where it shows a scene.
-    ensures exact { (stored : List Stored) (scene : Scene) → B.told blocks.old ≡ Some stored → scene_shown spec.now.epoch_length stored tx.now ≡ Some scene
+    ensures exact { (stored : List Stored) (scene : Scene) → B.told blocks.old ≡ Some stored → scene_shown second spec.now.epoch_length stored tx.now ≡ Some scene
         → IsOutcome (defs.outcome_of scene budget) result }
-    ensures undamaged { (stored : List Stored) (scene : Scene) → B.told blocks.old ≡ Some stored → scene_shown spec.now.epoch_length stored tx.now ≡ Some scene
+    ensures undamaged { (stored : List Stored) (scene : Scene) → B.told blocks.old ≡ Some stored → scene_shown second spec.now.epoch_length stored tx.now ≡ Some scene
         → (damage : Damage) → result ≡ Err (Read (Damaged damage)) → ⊥ }
 
     // Over kept blocks that are known what fits is not damaged.
     ensures fit { IsSome (B.told blocks.old) → fitting.unfit tree.now.entries tx.now ≡ None → (damage : Damage) → result ≡ Err (Read (Damaged damage)) → ⊥ }
 {
-    let shown = match ShownTx::of(alloc, tx, tree, spec.epoch_length) {
+    let shown = match ShownTx::of(alloc, tx, tree, spec.epoch_length, second) {
         Ok(shown) => shown,
         Err(stop) => {
             blocks.report(stop);
             return Err(ScriptStop::Read(stop));
         }
     };
-    let codes = match Codes::of(alloc, &tx.deps) {
+    let codes = match Codes::of(alloc, &tx.deps, second) {
         Ok(codes) => codes,
         Err(NoMemory) => return Err(ScriptStop::Read(ReadStop::NoMemory)),
     };

@@ -14,13 +14,14 @@ use std::alloc::Global;
 use std::marker::Model;
 
 /// A transaction with what it resolves to, which fits, the rows of its outputs, so that each is hashed once, how many
-/// blocks an epoch has, and how many are kept.
+/// blocks an epoch has, how many are kept, and whether code is found by the second edition.
 #[derive(Drop)]
 pub(crate) struct ShownTx<'a> {
     pub(crate) it: &'a ResolvedTx<'a>,
     pub(crate) outputs: Vec<CellMeta>,
     pub(crate) epoch_length: u32,
     pub(crate) kept: u32,
+    pub(crate) second: bool,
 }
 
 impl<'a> Model for ShownTx<'a> {
@@ -30,7 +31,7 @@ impl<'a> Model for ShownTx<'a> {
 
     ghost Value = { ShownTxValue };
 
-    ghost view = { λ shown. record { it = shown.it.now; rows = shown.outputs.items; epoch_length = shown.epoch_length; kept = shown.kept } };
+    ghost view = { λ shown. record { it = shown.it.now; rows = shown.outputs.items; epoch_length = shown.epoch_length; kept = shown.kept; second = shown.second } };
 
     ghost invariant = { λ shown. (shown.outputs.items ≡ output_rows shown.it.now.tx) × Fits shown.kept shown.it.now × (length shown.it.now.inputs < 2 ^ 32) };
 }
@@ -42,11 +43,13 @@ impl<'a> ShownTx<'a> {
         it: &'a ResolvedTx<'a>,
         tree: &Tree,
         epoch_length: u32,
+        second: bool,
     ) -> Result<ShownTx<'a>, ReadStop>
         ensures unfit { IfSome (fitting.unfit tree.now.entries it.now) (λ at. result ≡ Err (Damaged (record { area = Log; at = at }))) }
         ensures fit { fitting.unfit tree.now.entries it.now ≡ None → IfErr result (λ stop. stop ≡ no_memory) }
         ensures it { IfOk result (λ shown. shown.it ≡ it.now) }
         ensures epoch_length { IfOk result (λ shown. shown.epoch_length ≡ epoch_length) }
+        ensures second { IfOk result (λ shown. shown.second ≡ second) }
         ensures kept { IfOk result (λ shown. shown.kept ≡ length tree.now.entries) }
     {
         if let Some(at) = unfit(it, tree) {
@@ -63,6 +66,7 @@ impl<'a> ShownTx<'a> {
             outputs,
             epoch_length,
             kept: tree.len(),
+            second,
         })
     }
 }

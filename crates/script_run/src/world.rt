@@ -44,7 +44,7 @@ impl<'a, 'w, 'b, B: Blocks> World for GroupWorld<'a, 'w, 'b, B> {
     ghost use Rattle.chain_tree.specs.Told.{Stored};
     ghost use Rattle.script_run.specs.Lookups.{blocks-known, bytes_of, found_in, known_items};
 
-    ghost told = { λ world. known_items world.tx.now.epoch_length world.tx.now.it world.group.now (B.told world.blocks.now) };
+    ghost told = { λ world. known_items world.tx.now.second world.tx.now.epoch_length world.tx.now.it world.group.now (B.told world.blocks.now) };
 
     ghost here = { λ world. option_map bytes_of world.hand };
 
@@ -61,7 +61,7 @@ impl<'a, 'w, 'b, B: Blocks> World for GroupWorld<'a, 'w, 'b, B> {
     // Over blocks that are known.
     ghost IsSound = { λ loans. IsSome loans.2 };
 
-    ghost sound_where_told = { λ world known. blocks-known world.tx.now.epoch_length world.tx.now.it world.group.now (B.told world.blocks.now) known };
+    ghost sound_where_told = { λ world known. blocks-known world.tx.now.second world.tx.now.epoch_length world.tx.now.it world.group.now (B.told world.blocks.now) known };
 
     fn find(&mut self, call: Call) -> Result<Found, ReadStop> {
         let tx = self.tx;
@@ -171,7 +171,7 @@ pub(crate) fn run_code<'a, 'w, B: Blocks>(
     requires budget { budget ≤ 2 ^ 40 }
     requires counts { B.count blocks.old ≡ tx.now.kept }
     ensures read { HasRead B.told B.count B.loans_of B.faults B.damages blocks.old blocks.new (stop_of result) }
-    ensures came { (stored : List Stored) (scene : Scene) → B.told blocks.old ≡ Some stored → scene_shown tx.now.epoch_length stored tx.now.it ≡ Some scene
+    ensures came { (stored : List Stored) (scene : Scene) → B.told blocks.old ≡ Some stored → scene_shown tx.now.second tx.now.epoch_length stored tx.now.it ≡ Some scene
         → HasItsHash group.now → IfOk result (λ came. execution_of came ≡ execution (syscall (items scene group.now.group)) budget code.now) }
     ensures within { IfOk result (ExitsWithin budget) }
     ensures undamaged { IsSome (B.told blocks.old) → (damage : Damage) → result ≡ Err (Damaged damage) → ⊥ }

@@ -12,6 +12,7 @@ use Rattle.chain_defs.specs.Fold.{keep}
 use Rattle.chain_defs.proofs.FoldLemmas.{keep-push}
 use Rattle.chain_defs.specs.Specification.{Specification}
 use Rattle.chain_defs.specs.Branch.{branch}
+use Rattle.chain_defs.specs.Median.{median_time}
 use Rattle.chain_defs.specs.Hashes.{transaction_hash, proposal_id, are_distinct}
 use Rattle.chain_tree.specs.Told.{Stored, blocks_of}
 use Rattle.cell_defs.specs.Row.{Row, row_after}
@@ -35,14 +36,14 @@ use Rattle.verdict_defs.specs.Judged.{Passed, judged, judged_alone, passed_at}
 use Rattle.verdict_defs.proofs.JudgedLemmas.{judged-breaks-first, judged-passes-by, judged-proposed}
 use Rattle.pool_defs.specs.Size.{size_with}
 use Rattle.pool_defs.specs.Start as start
-use Rattle.pool_defs.specs.Start.{cellbase}
+use Rattle.pool_defs.specs.Start.{cellbase, header_after, next_timestamp}
 use Rattle.pool_defs.specs.Assembly as pool
 use Rattle.pool_defs.specs.Assembly.{Assembly, take_item}
 use Rattle.pool_defs.specs.declared.line.Line.{Line}
 use Rattle.pool_defs.specs.declared.line.Line.TheVariants.{Commit, Propose, Refused, Later}
 use Rattle.pool_defs.proofs.GrowthLemmas.{size-transaction, size-id, counted-size, cellbase-grows, proposals-grow, distinct-push}
 use Rattle.pool_defs.specs.Size.{most_items}
-use Rattle.tx_pool.specs.Draft.{DraftValue, Fits, IsEmpty, IsPut, IsSoFar, has, with_line}
+use Rattle.tx_pool.specs.Draft.{DraftValue, Fits, IsEmpty, IsPut, IsSoFar, has, so_far_in, with_line}
 use Rattle.tx_pool.proofs.GrownLemmas.{each-push, has-push, has-hash-push, moved-push, moved-same, moved-nothing, sees-push, sees-none}
 
 -- ---- What each draft keeps
@@ -100,9 +101,10 @@ empty-size : size_with [] [] ≡ 240
 unfolding size_with
 empty-size = refl
 
-pub fits-started : (spec : Specification) (base : OutPoint → Option Row) (draft put : DraftValue) (e : ℕ) (t : Transaction) → IsEmpty spec base draft → IsPut e t draft put
+pub fits-started : (spec : Specification) (timestamp : ℕ) (base : OutPoint → Option Row) (draft put : DraftValue) (e : ℕ) (t : Transaction)
+    → IsEmpty spec timestamp base draft → IsPut e t draft put
     → length (encoded transaction t) < 2 ^ 30 → draft.left ≤ 2 ^ 40 → Fits put
-fits-started spec base draft put e t empty is_put size few =
+fits-started spec timestamp base draft put e t empty is_put size few =
     let txs : put.transactions ≡ t ∷ [] = is_put.transactions ∙ ap (λ (them : List Transaction). them ++ t ∷ []) empty.transactions in
     let alone : length put.transactions ≡ 1 = ap length txs in
     let length_of = is_put.length_is in
@@ -147,6 +149,7 @@ not-not false = refl
 pub so-far-line : (stored : List Stored) (on : ContextValue) (so_far : Assembly) (draft : DraftValue) (line : Line) → IsSoFar stored on so_far draft
     → IsSoFar stored on (pool.with_line so_far line) (with_line draft line)
 so-far-line stored on so_far draft line is = record {
+  timestamp_is = is.timestamp_is;
   sees = is.sees;
   fills = is.fills;
   begins = is.begins;
@@ -184,15 +187,22 @@ start-is-cellbase : (spec : Specification) (on : List Block) (witness : Cellbase
 unfolding cellbase
 start-is-cellbase spec on witness = no-output null_index
 
-pub started-so-far : (stored : List Stored) (on : ContextValue) (witness : CellbaseWitness) (e : ℕ) (t : Transaction) (draft put : DraftValue)
-    → on.parent < length on.entries → e ≡ length on.entries → StandsFor stored on → IsEmpty on.spec on.rows draft → IsPut e t draft put
+-- the header's timestamp
+header-time : (spec : Specification) (on : List Block) → (header_after spec on).timestamp ≡ next_timestamp (median_time on)
+unfolding header_after
+header-time spec on = refl
+
+pub started-so-far : (stored : List Stored) (on : ContextValue) (witness : CellbaseWitness) (timestamp e : ℕ) (t : Transaction) (draft put : DraftValue)
+    → on.parent < length on.entries → timestamp ≡ next_timestamp (median_time (branch (blocks_of stored) on.parent)) → e ≡ length on.entries
+    → StandsFor stored on → IsEmpty on.spec timestamp on.rows draft → IsPut e t draft put
     → t ≡ start.cellbase on.spec (branch (blocks_of stored) on.parent) witness
     → IsSoFar stored on (pool.start on.spec (branch (blocks_of stored) on.parent) witness) put
-started-so-far stored on witness e t draft put placed last stands empty is_put same =
+started-so-far stored on witness timestamp e t draft put placed time last stands empty is_put same =
     let alone : put.transactions ≡ start.cellbase on.spec (branch (blocks_of stored) on.parent) witness ∷ [] =
     is_put.transactions ∙ ap (λ (them : List Transaction). them ++ t ∷ []) empty.transactions ∙ ap (λ (it : Transaction). it ∷ []) same in record {
-      sees = subst (λ (it : Transaction). SeesSoFar stored on (it ∷ []) put.rows) same
-          (sees-push stored on [] t e draft.rows put.rows placed last (sees-none stored on draft.rows stands empty.rows)
+      timestamp_is = is_put.timestamp ∙ empty.timestamp_is ∙ time ∙ sym (header-time on.spec (branch (blocks_of stored) on.parent));
+      sees = subst (λ (it : Transaction). SeesSoFar stored on (so_far_in put (it ∷ []))) same
+          (sees-push stored on (so_far_in (record put { rows = draft.rows }) []) t e put.rows placed last (sees-none stored on put.timestamp draft.rows stands empty.rows)
           (λ height o above. is_put.rows height o above ∙ ap (λ (txs : List Transaction). row_after e (events_of t height (length txs)) draft.rows o) empty.transactions));
       fills = record { header_is = refl; no_uncles = refl; transactions_are = alone; ids_are = is_put.proposals ∙ empty.proposals };
       begins = alone-begins _ _ refl (start-is-cellbase on.spec (branch (blocks_of stored) on.parent) witness);
@@ -280,12 +290,14 @@ module _ (stored : List Stored) (on : ContextValue) (so_far : Assembly) (draft :
       (le-leb (length draft.proposals + 1) on.spec.max_proposals few)
       ∙ ap (λ (test : Bool). cond (not test) (pool.proposed so_far id) (pool.with_line so_far Later)) new
 
-  pub proposed-so-far : (id : List ℕ) (after : DraftValue) → length id ≡ 10 → draft.has_id id ≡ false → after.rows ≡ draft.rows → after.transactions ≡ draft.transactions
+  pub proposed-so-far : (id : List ℕ) (after : DraftValue) → length id ≡ 10 → draft.has_id id ≡ false → after.timestamp ≡ draft.timestamp
+      → after.rows ≡ draft.rows → after.transactions ≡ draft.transactions
       → ((hash : List ℕ) → after.has_hash hash ≡ draft.has_hash hash) → after.proposals ≡ draft.proposals ++ id ∷ []
       → ((other : List ℕ) → after.has_id other ≡ (draft.has_id other || bytes_eq id other)) → after.left ≡ draft.left → after.interest ≡ draft.interest
       → after.freed ≡ draft.freed → after.lines ≡ draft.lines → IsSoFar stored on (pool.proposed so_far id) (with_line after Propose)
-  proposed-so-far id after ten new rows txs hashes ids has_ids left interest freed lines = record {
-    sees = subst (λ (them : OutPoint → Option Row). SeesSoFar stored on so_far.block.transactions them) (sym rows) is.sees;
+  proposed-so-far id after ten new timestamp rows txs hashes ids has_ids left interest freed lines = record {
+    timestamp_is = timestamp ∙ is.timestamp_is;
+    sees = record { stands = is.sees.stands; rows_are = λ o. ap (λ (them : OutPoint → Option Row). them o) rows ∙ is.sees.rows_are o };
     fills = record {
       header_is = is.fills.header_is;
       no_uncles = is.fills.no_uncles;
@@ -335,7 +347,9 @@ module _ (stored : List Stored) (on : ContextValue) (so_far : Assembly) (draft :
       → after.interest ≡ put.interest +ℤ passed.interest
       → IsSoFar stored on (pool.committed_at (pool.next_site on.spec on_branch so_far.block) so_far t) (with_line after (Commit passed.fee passed.cycles))
   committed-so-far t e put after passed placed last is_put begins comes same sum = record {
-    sees = sees-push stored on so_far.block.transactions t e draft.rows after.rows placed last is.sees
+    timestamp_is = ap (λ (it : DraftValue). it.timestamp) same ∙ is_put.timestamp ∙ is.timestamp_is;
+    sees = sees-push stored on (so_far_in (record draft { timestamp = after.timestamp }) so_far.block.transactions) t e after.rows placed last
+        (record { stands = is.sees.stands; rows_are = is.sees.rows_are })
         (λ height o above. ap (λ (it : DraftValue). it.rows o) same ∙ is_put.rows height o above
         ∙ ap (λ (txs : List Transaction). row_after e (events_of t height (length txs)) draft.rows o) is.fills.transactions_are);
     fills = record {
@@ -387,23 +401,24 @@ module _ (stored : List Stored) (on : ContextValue) (so_far : Assembly) (draft :
   abbrev branch_on : List Block
   branch_on = branch (blocks_of stored) on.parent
 
-  pub sees-as : SeesSoFar stored on txs draft.rows
-  sees-as = subst (λ (these : List Transaction). SeesSoFar stored on these draft.rows) (sym (same ∙ is.fills.transactions_are)) is.sees
+  pub sees-as : SeesSoFar stored on (so_far_in draft txs)
+  sees-as = subst (λ (these : List Transaction). SeesSoFar stored on (so_far_in draft these)) (sym (same ∙ is.fills.transactions_are)) is.sees
 
   -- what comes of it after the transactions of the draft is what comes of it after those of the block: J19 is kept by one that is proposed
   judged-as : IsTrue (is_proposed on.spec branch_on t)
-      → judged_alone (appending.next_site on.spec branch_on txs) draft.left t ≡ judged (pool.next_site on.spec branch_on so_far.block) so_far.left t
+      → judged_alone (appending.next_site on.spec branch_on draft.timestamp txs) draft.left t ≡ judged (pool.next_site on.spec branch_on so_far.block) so_far.left t
   judged-as proposed =
-      ap (λ (these : List Transaction). judged_alone (appending.next_site on.spec branch_on these) draft.left t) (same ∙ is.fills.transactions_are)
+      ap (λ (time : ℕ). judged_alone (appending.next_site on.spec branch_on time txs) draft.left t) is.timestamp_is
+      ∙ ap (λ (these : List Transaction). judged_alone (appending.next_site on.spec branch_on so_far.block.header.timestamp these) draft.left t) (same ∙ is.fills.transactions_are)
       ∙ ap (λ (left : ℕ). judged_alone (pool.next_site on.spec branch_on so_far.block) left t) is.left_is
       ∙ judged-proposed (pool.next_site on.spec branch_on so_far.block) so_far.left t proposed
 
   pub refused-so-far : (stop : JudgeStop) (rule : Rule) (number : ℕ) → stop ≡ Broken rule → number ≡ rule_number rule → IsTrue (is_proposed on.spec branch_on t)
-      → StopsAs (judged_alone (appending.next_site on.spec branch_on txs) draft.left t) stop
+      → StopsAs (judged_alone (appending.next_site on.spec branch_on draft.timestamp txs) draft.left t) stop
       → IsSoFar stored on (pool.judge on.spec branch_on so_far t (first_failing (transaction_rules (pool.next_site on.spec branch_on so_far.block) so_far.left t)))
       (with_line draft (Refused number))
   refused-so-far stop rule number was numbered proposed stops =
-      let broken = subst (StopsAs (judged_alone (appending.next_site on.spec branch_on txs) draft.left t)) was stops in
+      let broken = subst (StopsAs (judged_alone (appending.next_site on.spec branch_on draft.timestamp txs) draft.left t)) was stops in
       so-far-answered stored on so_far _ draft (Refused number)
       (ap (pool.judge on.spec branch_on so_far t)
       (judged-breaks-first (pool.next_site on.spec branch_on so_far.block) so_far.left t (rule_number rule) (sym (judged-as proposed) ∙ broken))
@@ -411,7 +426,7 @@ module _ (stored : List Stored) (on : ContextValue) (so_far : Assembly) (draft :
 
   -- one that passes is put into the block, where it fits
   pub judged-commits : (passed : PassedTransaction) → IsTrue (is_proposed on.spec branch_on t)
-      → IsOkAnd (judged_alone (appending.next_site on.spec branch_on txs) draft.left t) (λ passes. IsPassed (blocks_of stored) on.parent passes passed)
+      → IsOkAnd (judged_alone (appending.next_site on.spec branch_on draft.timestamp txs) draft.left t) (λ passes. IsPassed (blocks_of stored) on.parent passes passed)
       → (pool.judge on.spec branch_on so_far t (first_failing (transaction_rules (pool.next_site on.spec branch_on so_far.block) so_far.left t))
       ≡ pool.commit on.spec branch_on so_far t)
       × IsPassed (blocks_of stored) on.parent (passed_at (pool.next_site on.spec branch_on so_far.block) so_far.left t) passed

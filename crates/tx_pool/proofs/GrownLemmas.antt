@@ -16,7 +16,7 @@ use Rattle.cell_defs.specs.Row.{Row, row_after}
 use Rattle.rule_defs.specs.Site.{Site, site_at}
 use Rattle.rule_defs.specs.Capacity.{interest}
 use Rattle.rule_defs.specs.Field.{freed_by, freed_from, interest_from}
-use Rattle.block_judge.specs.Appending.{SeesSoFar}
+use Rattle.block_judge.specs.Appending.{SoFarValue, SeesSoFar}
 use Rattle.block_judge.specs.Progress.{AreMoved}
 use Rattle.block_judge.specs.Standing.{ContextValue, StandsFor}
 use Rattle.block_judge.proofs.ChangeLemmas.{row_after-nil, row_after-append, row_after-same}
@@ -61,20 +61,20 @@ interest-agrees : (spec : Specification) (branch : List Block) (b other : Block)
 unfolding interest_from
 interest-agrees spec branch b other place [] agree = refl
 interest-agrees spec branch b other place (t ∷ later) agree =
-    let here : site_at spec branch b place ≡ site_at spec branch other place = site-agrees spec branch b other place (agree place (omega arith)) in
+    let here : site_at spec branch b place ≡ site_at spec branch other place = site-agrees spec branch b other place agree.timestamps (agree.before place (omega arith)) in
     ap (λ (site : Site). interest site t +ℤ interest_from spec branch b (suc place) later) here
     ∙ ap (λ (rest : ℤ). interest (site_at spec branch other place) t +ℤ rest)
-    (interest-agrees spec branch b other (suc place) later (λ p below. agree p (omega (arith, below))))
+    (interest-agrees spec branch b other (suc place) later (record { timestamps = agree.timestamps; before = λ p below. agree.before p (omega (arith, below)) }))
 
 freed-agrees : (spec : Specification) (branch : List Block) (b other : Block) (place : ℕ) (txs : List Transaction)
     → AgreeUpTo (place + length txs) b other → freed_from spec branch b place txs ≡ freed_from spec branch other place txs
 unfolding freed_from
 freed-agrees spec branch b other place [] agree = refl
 freed-agrees spec branch b other place (t ∷ later) agree =
-    let here : site_at spec branch b place ≡ site_at spec branch other place = site-agrees spec branch b other place (agree place (omega arith)) in
+    let here : site_at spec branch b place ≡ site_at spec branch other place = site-agrees spec branch b other place agree.timestamps (agree.before place (omega arith)) in
     ap (λ (site : Site). freed_by site t + freed_from spec branch b (suc place) later) here
     ∙ ap (λ (rest : ℕ). freed_by (site_at spec branch other place) t + rest)
-    (freed-agrees spec branch b other (suc place) later (λ p below. agree p (omega (arith, below))))
+    (freed-agrees spec branch b other (suc place) later (record { timestamps = agree.timestamps; before = λ p below. agree.before p (omega (arith, below)) }))
 
 at-end : (one : ℤ) → one +ℤ pos 0 ≡ pos 0 +ℤ one
 at-end one = omega (arith, ints)
@@ -116,13 +116,15 @@ module _ (spec : Specification) (on : List Block) (b : Block) (t : Transaction) 
   rest = drop 1 b.transactions
 
   agree : AgreeUpTo (1 + length rest) b other
-  agree place below =
-      sym (take-append-le place b.transactions (t ∷ []) (omega (arith, below, after-first b.transactions some)))
+  agree = record {
+    timestamps = refl;
+    before = λ place below. sym (take-append-le place b.transactions (t ∷ []) (omega (arith, below, after-first b.transactions some)));
+  }
 
   site : site_at spec on other (1 + length rest) ≡ next_site spec on b
   site =
       ap (site_at spec on other) (after-first b.transactions some)
-      ∙ site-agrees spec on other b (length b.transactions) (take-append-le (length b.transactions) b.transactions (t ∷ []) (omega arith))
+      ∙ site-agrees spec on other b (length b.transactions) refl (take-append-le (length b.transactions) b.transactions (t ∷ []) (omega arith))
 
   interest-grown : interest_from spec on other 1 (drop 1 other.transactions) ≡ interest_from spec on b 1 rest +ℤ interest (next_site spec on b) t
   interest-grown =
@@ -149,8 +151,8 @@ module _ (spec : Specification) (on : List Block) (b : Block) (t : Transaction) 
 pub moved-same : (spec : Specification) (on : List Block) (b : Block) (id : List ℕ) (moves : ℤ) (frees : ℕ) → AreMoved spec on b moves frees
     → AreMoved spec on (with_proposal b id) moves frees
 moved-same spec on b id moves frees moved = record {
-  interest_is = moved.interest_is ∙ interest-agrees spec on b (with_proposal b id) 1 (drop 1 b.transactions) (λ place below. refl);
-  freed_is = moved.freed_is ∙ freed-agrees spec on b (with_proposal b id) 1 (drop 1 b.transactions) (λ place below. refl);
+  interest_is = moved.interest_is ∙ interest-agrees spec on b (with_proposal b id) 1 (drop 1 b.transactions) (record { timestamps = refl; before = λ place below. refl });
+  freed_is = moved.freed_is ∙ freed-agrees spec on b (with_proposal b id) 1 (drop 1 b.transactions) (record { timestamps = refl; before = λ place below. refl });
 }
 
 -- a cellbase alone moves nothing
@@ -174,12 +176,19 @@ events-push place (first ∷ later) t height =
     ∙ sym (append_assoc (events_of first height place) (events_from (place + 1) later height) (events_of t height ((place + 1) + length later)))
     ∙ ap (λ (n : ℕ). (events_of first height place ++ events_from (place + 1) later height) ++ events_of t height n) at
 
-pub sees-push : (stored : List Stored) (on : ContextValue) (so_far : List Transaction) (t : Transaction) (e : ℕ) (before after : OutPoint → Option Row)
-    → on.parent < length on.entries → e ≡ length on.entries → SeesSoFar stored on so_far before
-    → ((height : ℕ) (o : OutPoint) → 0 < height → after o ≡ row_after e (events_of t height (length so_far)) before o)
-    → SeesSoFar stored on (so_far ++ t ∷ []) after
-sees-push stored on so_far t e before after placed last sees put = record { stands = sees.stands; rows_are = rows }
+-- a block so far with one transaction more, and these rows
+abbrev pub with_more : SoFarValue → Transaction → (OutPoint → Option Row) → SoFarValue
+with_more so_far t rows = record { timestamp = so_far.timestamp; transactions = so_far.transactions ++ t ∷ []; rows = rows }
+
+pub sees-push : (stored : List Stored) (on : ContextValue) (before : SoFarValue) (t : Transaction) (e : ℕ) (after : OutPoint → Option Row)
+    → on.parent < length on.entries → e ≡ length on.entries → SeesSoFar stored on before
+    → ((height : ℕ) (o : OutPoint) → 0 < height → after o ≡ row_after e (events_of t height (length before.transactions)) before.rows o)
+    → SeesSoFar stored on (with_more before t after)
+sees-push stored on before t e after placed last sees put = record { stands = sees.stands; rows_are = rows }
   where
+    so_far : List Transaction
+    so_far = before.transactions
+
     height : ℕ
     height = length (branch (blocks_of stored) on.parent)
 
@@ -196,15 +205,15 @@ sees-push stored on so_far t e before after placed last sees put = record { stan
     rows : (o : OutPoint) → after o ≡ row_after (length on.entries) (events_from 0 (so_far ++ t ∷ []) height) on.rows o
     rows o =
         put height o some
-        ∙ ap (λ (n : ℕ). row_after n (events_of t height (length so_far)) before o) last
-        ∙ row_after-same (length on.entries) (events_of t height (length so_far)) before (row_after (length on.entries) (events_from 0 so_far height) on.rows) o (sees.rows_are o)
+        ∙ ap (λ (n : ℕ). row_after n (events_of t height (length so_far)) before.rows o) last
+        ∙ row_after-same (length on.entries) (events_of t height (length so_far)) before.rows (row_after (length on.entries) (events_from 0 so_far height) on.rows) o (sees.rows_are o)
         ∙ sym (row_after-append (length on.entries) (events_from 0 so_far height) (events_of t height (length so_far)) on.rows o)
         ∙ ap (λ (all : List Event). row_after (length on.entries) all on.rows o) (sym (events-push 0 so_far t height ∙ at_end))
 
 -- before any transaction
-pub sees-none : (stored : List Stored) (on : ContextValue) (rows : OutPoint → Option Row) → StandsFor stored on → ((o : OutPoint) → rows o ≡ on.rows o)
-    → SeesSoFar stored on [] rows
-sees-none stored on rows stands same = record {
+pub sees-none : (stored : List Stored) (on : ContextValue) (timestamp : ℕ) (rows : OutPoint → Option Row) → StandsFor stored on
+    → ((o : OutPoint) → rows o ≡ on.rows o) → SeesSoFar stored on (record { timestamp = timestamp; transactions = []; rows = rows })
+sees-none stored on timestamp rows stands same = record {
   stands = stands;
   rows_are = λ o. same o ∙ sym (row_after-nil (length on.entries) on.rows o);
 }

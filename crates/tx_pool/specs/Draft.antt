@@ -13,7 +13,7 @@ use Rattle.cell_defs.specs.Events.{events_of}
 use Rattle.cell_defs.specs.Row.{Row, row_after}
 use Rattle.rule_defs.specs.Cellbase.{has_cellbase}
 use Rattle.block_judge.specs.BlockCells.{rows_in}
-use Rattle.block_judge.specs.Appending.{SeesSoFar}
+use Rattle.block_judge.specs.Appending.{SoFarValue, SeesSoFar}
 use Rattle.block_judge.specs.Progress.{AreMoved, CanMove}
 use Rattle.block_judge.specs.Standing.{ContextValue}
 use Rattle.pool_defs.specs.Size.{size_with}
@@ -22,9 +22,10 @@ use Rattle.pool_defs.specs.declared.line.Line.{Line}
 use Rattle.tx_pool.specs.Sealing.{Fills}
 use Rattle.tx_pool.specs.declared.draft.Draft.{Draft}
 
--- What the code has: the rows that the next transaction sees, the transactions and the proposal ids, whether a hash or an id is among them, the
--- bytes of the block, the cycles that are left, what the transactions move, and the lines.
+-- What the code has: the timestamp, the rows that the next transaction sees, the transactions and the proposal ids, whether a hash or an id is among
+-- them, the bytes of the block, the cycles that are left, what the transactions move, and the lines.
 pub record DraftValue : Type 0 where
+  pub timestamp : ℕ
   pub rows : OutPoint → Option Row
   pub transactions : List Transaction
   pub has_hash : List ℕ → Bool
@@ -39,6 +40,7 @@ pub record DraftValue : Type 0 where
 -- by what the branch's cells have as rows
 abbrev pub draft_of : {C : Type 0} → (C → OutPoint → Option Row) → Draft C → DraftValue
 draft_of rows draft = record {
+  timestamp = draft.timestamp;
   rows = rows_in rows draft.cells;
   transactions = draft.transactions.items;
   has_hash = contains bytes_eq draft.hashes;
@@ -68,8 +70,9 @@ pub record Fits (draft : DraftValue) : Type 0 where
 
 -- ---- One transaction more
 
--- A draft with nothing in it yet, over the rows of a branch.
-pub record IsEmpty (spec : Specification) (base : OutPoint → Option Row) (draft : DraftValue) : Type 0 where
+-- A draft with nothing in it yet, of this timestamp and over the rows of a branch.
+pub record IsEmpty (spec : Specification) (timestamp : ℕ) (base : OutPoint → Option Row) (draft : DraftValue) : Type 0 where
+  pub timestamp_is : draft.timestamp ≡ timestamp
   pub rows : (o : OutPoint) → draft.rows o ≡ base o
   pub transactions : draft.transactions ≡ []
   pub hashes : (hash : List ℕ) → draft.has_hash hash ≡ false
@@ -83,6 +86,7 @@ pub record IsEmpty (spec : Specification) (base : OutPoint → Option Row) (draf
 
 -- A transaction was put at the end of one draft, which is another then: its rows have the place `e`.
 pub record IsPut (e : ℕ) (t : Transaction) (before after : DraftValue) : Type 0 where
+  pub timestamp : after.timestamp ≡ before.timestamp
   pub rows : (height : ℕ) (o : OutPoint) → 0 < height → after.rows o ≡ row_after e (events_of t height (length before.transactions)) before.rows o
   pub transactions : after.transactions ≡ before.transactions ++ t ∷ []
   pub hashes : (hash : List ℕ) → after.has_hash hash ≡ (before.has_hash hash || bytes_eq (transaction_hash t) hash)
@@ -99,9 +103,14 @@ pub record IsPut (e : ℕ) (t : Transaction) (before after : DraftValue) : Type 
 abbrev pub has : List (List ℕ) → List ℕ → Bool
 has values value = list_any (λ other. bytes_eq other value) values
 
+-- the block so far that has these transactions, as the next one is judged in it
+abbrev pub so_far_in : DraftValue → List Transaction → SoFarValue
+so_far_in draft transactions = record { timestamp = draft.timestamp; transactions = transactions; rows = draft.rows }
+
 -- Over kept blocks for which the context stands, the draft is what the items came to so far after the parent's branch.
 pub record IsSoFar (stored : List Stored) (on : ContextValue) (so_far : Assembly) (draft : DraftValue) : Type 0 where
-  pub sees : SeesSoFar stored on so_far.block.transactions draft.rows
+  pub timestamp_is : draft.timestamp ≡ so_far.block.header.timestamp
+  pub sees : SeesSoFar stored on (so_far_in draft so_far.block.transactions)
   pub fills : Fills on.spec (branch (blocks_of stored) on.parent) so_far.block draft.transactions draft.proposals
   pub begins : IsTrue (has_cellbase so_far.block)
   pub distinct : are_distinct so_far.block.proposals ≡ true

@@ -26,7 +26,10 @@ ghost use Rattle.pool_defs.specs.Assembly as pool;
 ghost use Rattle.pool_defs.specs.Size.{most_items, most_bytes};
 ghost use Rattle.tx_pool.specs.Draft.{Fits, IsEmpty, IsPut, IsSoFar, draft_of, with_line};
 
-use block_judge::{BlockCells, Context, JudgeStop, PassedTransaction, is_cellbase, judge_appended};
+use crate::sealing::timestamp_on;
+use block_judge::{
+    BlockCells, BlockSoFar, Context, JudgeStop, PassedTransaction, is_cellbase, judge_appended,
+};
 use cell_model::{Cells, proposal_id, tx_hash};
 use chain_tree::Blocks;
 use mol_schema::TxView;
@@ -39,10 +42,11 @@ use std::collections::HashSet;
 /// The bytes of a block with no transaction and no proposal id.
 const EMPTY_LENGTH: u64 = 240;
 
-/// The block so far: its transactions, the cellbase first, and its proposal ids, with how many bytes it has; what its
-/// transactions leave: the cells, the cycles, and what they move; and what became of each item.
+/// The block so far: its timestamp, its transactions, the cellbase first, and its proposal ids, with how many bytes it has;
+/// what its transactions leave: the cells, the cycles, and what they move; and what became of each item.
 #[derive(Drop)]
 pub(crate) struct Draft<'c, 'a, C: Cells> {
+    timestamp: u64,
     cells: BlockCells<'c, C>,
     pub(crate) transactions: Vec<TxView<'a>>,
     hashes: HashSet<[u8; 32]>,
@@ -56,13 +60,14 @@ pub(crate) struct Draft<'c, 'a, C: Cells> {
 }
 
 impl<'c, 'a, C: Cells> Draft<'c, 'a, C> {
-    /// A draft with nothing in it yet.
-    fn empty(alloc: Global, context: &Context<'c, C>) -> Draft<'c, 'a, C>
-        ensures empty { IsEmpty context.now.spec.now (C.rows context.now.cells.now) (draft_of C.rows result) }
+    /// A draft of this timestamp with nothing in it yet.
+    fn empty(alloc: Global, context: &Context<'c, C>, timestamp: u64) -> Draft<'c, 'a, C>
+        ensures empty { IsEmpty context.now.spec.now timestamp (C.rows context.now.cells.now) (draft_of C.rows result) }
         ensures few { result.left ≤ 2 ^ 40 }
     {
         let spec = context.spec;
         Draft {
+            timestamp,
             cells: BlockCells::of(alloc, context.cells),
             transactions: Vec::new(alloc),
             hashes: HashSet::new(alloc),
@@ -92,7 +97,8 @@ impl<'c, 'a, C: Cells> Draft<'c, 'a, C> {
             → IfOk result (λ draft. IsSoFar stored (seen C.rows context.now)
             (pool.start context.now.spec.now (branch (blocks_of stored) context.now.parent) witness) (draft_of C.rows draft)) }
     {
-        let mut draft = Draft::empty(alloc, context);
+        let timestamp = timestamp_on(context.tree, context.parent);
+        let mut draft = Draft::empty(alloc, context, timestamp);
         let tx = TxView::from_encoding(cellbase);
         let hash = tx_hash(&tx);
         let e = context.tree.len();
@@ -211,16 +217,13 @@ impl<'c, 'a, C: Cells> Draft<'c, 'a, C> {
         ensures undamaged { (stored : List Stored) (so_far : pool.Assembly) → B.told blocks.old ≡ Some stored
             → IsSoFar stored (seen C.rows context.now) so_far (draft_of C.rows self.old) → (damage : Damage) → result ≡ Err (Damaged damage) → ⊥ }
     {
-        let passed = match judge_appended(
-            alloc,
-            context,
-            &self.transactions,
-            &self.cells,
-            blocks,
-            tx,
-            *hash,
-            self.left,
-        ) {
+        let so_far = BlockSoFar {
+            timestamp: self.timestamp,
+            transactions: &self.transactions,
+            cells: &self.cells,
+            left: self.left,
+        };
+        let passed = match judge_appended(alloc, context, &so_far, blocks, tx, *hash) {
             Ok(passed) => passed,
             Err(JudgeStop::Broken(rule)) => return Ok(Line::Refused(rule.number())),
             Err(JudgeStop::Read(stop)) => return Err(stop),

@@ -3,6 +3,7 @@ ghost use Rattle.std.specs.Prelude.{◌≡◌, ◌<◌, ◌^◌, List, length, I
 ghost use Rattle.chain_defs.specs.Shape.{IsA};
 ghost use Rattle.chain_defs.specs.Schema as schema;
 ghost use Rattle.chain_defs.specs.Branch.{branch};
+ghost use Rattle.chain_defs.specs.Median.{median_time};
 ghost use Rattle.chain_tree.specs.Blocks.{IsParent, IndexesBlocks};
 ghost use Rattle.rule_defs.specs.Field as field;
 ghost use Rattle.block_judge.specs.Progress.{AreMoved};
@@ -94,6 +95,14 @@ fn commitments_of<C>(
     })
 }
 
+/// The timestamp of the block after a kept block, in milliseconds.
+pub(crate) fn timestamp_on(tree: &Tree, parent: u32) -> u64
+    requires { parent < length tree.now.entries }
+    ensures { (kept : List schema.Block) → IndexesBlocks kept tree.now.entries → result ≡ start.next_timestamp (median_time (branch kept parent)) }
+{
+    timestamp_after(tree.median(parent))
+}
+
 /// The header of a block after a kept block, with these commitments.
 fn header_after(
     alloc: Global,
@@ -112,7 +121,7 @@ fn header_after(
     let before = tree.entry(parent);
     let number = before.number + 1;
     let epoch = field(epoch_of(spec.epoch_length, number));
-    let timestamp = timestamp_after(tree.median(parent));
+    let timestamp = timestamp_on(tree, parent);
     header_row(
         alloc,
         spec.compact_target,

@@ -1,10 +1,10 @@
 -- The block that made a cell which a transaction sees: its height, and the time from which the cell counts.
-use Rattle.std.proofs.Common.{◌≡◌, ℕ, zero, suc, ◌+◌, ◌-◌, ◌<◌, Bool, true, ◌&&◌, ◌||◌, ◌==◌, not, nat_lt, get_or, map, List, [], ◌∷◌, length, take, Option, Some, Result, Ok, Err, refl, sym, ap, ◌∙◌, subst, inl, inr, ◌⊎◌, arith, add-one}
-use Rattle.std.specs.Prelude.{slice_get, IfSome, OnOk, IfErr, is_ok}
+use Rattle.std.proofs.Common.{◌≡◌, ℕ, zero, suc, ◌+◌, ◌-◌, ◌<◌, Bool, true, false, ◌&&◌, ◌||◌, ◌==◌, not, nat_lt, get_or, map, List, [], ◌∷◌, length, take, Option, Some, Result, Ok, Err, refl, sym, ap, ◌∙◌, subst, inl, inr, ◌⊎◌, arith, add-one}
+use Rattle.std.specs.Prelude.{slice_get, if◌then◌else◌, IfSome, IfOk, OnOk, IfErr, is_ok}
 use Rattle.std.specs.Option.{option_map, option_and_then}
 use Rattle.std.proofs.lemmas.List.{take_all, length-take-le, length-map}
-use Rattle.std.proofs.lemmas.Bool.{cases_order}
-use Rattle.std.proofs.lemmas.Bool.Decides.{nat_tests}
+use Rattle.std.proofs.lemmas.Bool.{cases_order, false_from_ne_true}
+use Rattle.std.proofs.lemmas.Bool.Decides.{nat_tests, Decides-eqb}
 use Rattle.std.proofs.lemmas.Option.{slice_get_within, slice_get-map, get_or_from_slice_get, same_Some}
 use Rattle.chain_defs.specs.Schema.{OutPoint, Block}
 use Rattle.chain_defs.specs.Kept.{block_hash, block_at, place_of, IsKept}
@@ -19,7 +19,7 @@ use Rattle.chain_tree.specs.Told.{Stored, blocks_of}
 use Rattle.chain_tree.proofs.BlockLemmas.{DescribedAt, described, len-same}
 use Rattle.cell_defs.specs.Row.{Row}
 use Rattle.rule_defs.specs.Site.{Site, Found, height_at}
-use Rattle.rule_defs.specs.Age.{timestamp_of, start_of, spending}
+use Rattle.rule_defs.specs.Age.{timestamp_of, median_start, block_start, start_at, spending}
 use Rattle.chain_defs.specs.Since.{Spending, is_valid, is_met}
 use Rattle.since_rules.specs.declared.rules.SinceFault.{SinceFault}
 use Rattle.since_rules.specs.declared.rules.SinceFault.TheVariants.{Invalid, Immature}
@@ -206,16 +206,16 @@ branch-of-parent kept entries parent height place entry indexes below on_branch 
     within : entry.parent < length kept
     within = slice_get_within kept entry.parent found.0 kept_there
 
--- ---- The time from which a cell counts
+-- ---- The time from which a cell counts under the first edition
 
 -- one of the genesis
 pub start-first : (stored : List Stored) (at : AtValue) (rows : OutPoint → Option Row) (site : Site) (found : Found) (row : Row) (entry : Entry)
     → IsPlaced at → IsSiteOf stored at rows site → IsRowOf (blocks_of stored) at.parent site found row
-    → entry_at at.entries row.block ≡ Some entry → row.block ≡ 0 → entry.timestamp ≡ start_of site.branch found.cell.height
-unfolding start_of
+    → entry_at at.entries row.block ≡ Some entry → row.block ≡ 0 → entry.timestamp ≡ median_start site.branch found.cell.height
+unfolding median_start
 start-first stored at rows site found row entry placed is its there first =
     here.is.timestamp
-    ∙ sym (ap (start_of site.branch) none
+    ∙ sym (ap (median_start site.branch) none
     ∙ ap (λ (blocks : List Block). timestamp_of (block_at blocks 0)) is.on_branch
     ∙ ap (λ (height : ℕ). timestamp_of (block_at (branch (blocks_of stored) at.parent) height)) (sym none)
     ∙ ap timestamp_of (block-made stored at rows site found row entry placed is its there))
@@ -233,8 +233,8 @@ start-first stored at rows site found row entry placed is its there first =
 pub start-later : (stored : List Stored) (at : AtValue) (rows : OutPoint → Option Row) (site : Site) (found : Found) (row : Row) (entry : Entry)
     → IsPlaced at → IsSiteOf stored at rows site → IsRowOf (blocks_of stored) at.parent site found row
     → entry_at at.entries row.block ≡ Some entry → 0 < row.block
-    → median_time (branch (blocks_of stored) entry.parent) ≡ start_of site.branch found.cell.height
-unfolding start_of
+    → median_time (branch (blocks_of stored) entry.parent) ≡ median_start site.branch found.cell.height
+unfolding median_start
 start-later stored at rows site found row entry placed is its there later = by_height found.cell.height refl
   where
     here : DescribedAt (blocks_of stored) row.block entry
@@ -253,20 +253,20 @@ start-later stored at rows site found row entry placed is its there later = by_h
     parent = let long : length at.entries ≡ length (blocks_of stored) = len-same (blocks_of stored) at.entries is.indexed in
         let within : at.parent < length at.entries = placed.parent in omega (arith, within, long)
 
-    by_height : (height : ℕ) → found.cell.height ≡ height → median_time (branch (blocks_of stored) entry.parent) ≡ start_of site.branch found.cell.height
+    by_height : (height : ℕ) → found.cell.height ≡ height → median_time (branch (blocks_of stored) entry.parent) ≡ median_start site.branch found.cell.height
     by_height zero same = absurd (omega (arith, same, some))
     by_height (suc height) same =
         let kept : IsKeptRow stored at found.out_point found.cell row = kept-row stored at rows site found row placed is its below in
         ap median_time (branch-of-parent (blocks_of stored) at.entries at.parent height row.block entry is.indexed parent
         (ap (slice_get (branch_places (blocks_of stored) at.parent)) (sym same) ∙ kept.place) there later)
         ∙ ap (λ (blocks : List Block). median_time (take (suc height) blocks)) (sym is.on_branch)
-        ∙ ap (start_of site.branch) (sym same)
+        ∙ ap (median_start site.branch) (sym same)
 
 -- one of the block that is judged
 pub start-own : (stored : List Stored) (at : AtValue) (rows : OutPoint → Option Row) (site : Site) (found : Found) (row : Row)
     → IsPlaced at → IsSiteOf stored at rows site → IsRowOf (blocks_of stored) at.parent site found row
-    → row.block ≡ length at.entries → median_time site.branch ≡ start_of site.branch found.cell.height
-unfolding start_of
+    → row.block ≡ length at.entries → median_time site.branch ≡ median_start site.branch found.cell.height
+unfolding median_start
 start-own stored at rows site found row placed is its last = by_height found.cell.height refl
   where
     height_is : height_at site ≡ found.cell.height
@@ -279,16 +279,55 @@ start-own stored at rows site found row placed is its last = by_height found.cel
         let same : length site.branch ≡ length (branch (blocks_of stored) at.parent) = ap length is.on_branch in
         omega (arith, long, same)
 
-    by_height : (height : ℕ) → found.cell.height ≡ height → median_time site.branch ≡ start_of site.branch found.cell.height
+    by_height : (height : ℕ) → found.cell.height ≡ height → median_time site.branch ≡ median_start site.branch found.cell.height
     by_height zero same = absurd (omega (arith, same, some, height_is))
     by_height (suc height) same =
         ap median_time (sym (take_all (suc height) site.branch (omega (arith, same, height_is))))
-        ∙ ap (start_of site.branch) (sym same)
+        ∙ ap (median_start site.branch) (sym same)
+
+-- ---- The same under the second edition
+
+-- of a kept block
+pub block-start-kept : (stored : List Stored) (at : AtValue) (rows : OutPoint → Option Row) (site : Site) (found : Found) (row : Row) (entry : Entry)
+    → IsPlaced at → IsSiteOf stored at rows site → IsRowOf (blocks_of stored) at.parent site found row
+    → entry_at at.entries row.block ≡ Some entry → entry.timestamp ≡ block_start site found.cell.height
+unfolding block_start
+block-start-kept stored at rows site found row entry placed is its there =
+    here.is.timestamp
+    ∙ sym (ap (λ (b : Bool). if b then site.timestamp else timestamp_of (block_at site.branch found.cell.height)) below
+    ∙ ap (λ (blocks : List Block). timestamp_of (block_at blocks found.cell.height)) is.on_branch
+    ∙ ap timestamp_of (block-made stored at rows site found row entry placed is its there))
+  where
+    here : DescribedAt (blocks_of stored) row.block entry
+    here = described (blocks_of stored) at.entries row.block entry is.indexed.each there
+
+    below : (found.cell.height == height_at site) ≡ false
+    below = let made = made-kept stored at rows site found row entry placed is its there in
+        false_from_ne_true (found.cell.height == height_at site) (λ same. let equal = (Decides-eqb found.cell.height (height_at site)).0 same in omega (arith, made.0, made.1, equal))
+
+-- of the block that is judged
+pub block-start-own : (stored : List Stored) (at : AtValue) (rows : OutPoint → Option Row) (site : Site) (found : Found) (row : Row)
+    → IsPlaced at → IsSiteOf stored at rows site → IsRowOf (blocks_of stored) at.parent site found row
+    → row.block ≡ length at.entries → timestamp_of at.block ≡ block_start site found.cell.height
+unfolding block_start
+block-start-own stored at rows site found row placed is its last =
+    sym (ap (λ (b : Bool). if b then site.timestamp else timestamp_of (block_at site.branch found.cell.height)) same ∙ is.timestamp)
+  where
+    same : (found.cell.height == height_at site) ≡ true
+    same = (Decides-eqb found.cell.height (height_at site)).1 (sym (made-own stored at rows site found row placed is its last))
+
+-- by the edition
+pub start-by : {E : Type 0} (site : Site) (height : ℕ) (result : Result ℕ E) (second : Bool) → site.second ≡ second
+    → IfOk result (λ start. start ≡ (if second then block_start site height else median_start site.branch height))
+    → IfOk result (λ start. start ≡ start_at site height)
+start-by site height (Ok start) second is same =
+    same ∙ ap (λ (b : Bool). if b then block_start site height else median_start site.branch height) (sym is)
+start-by site height (Err damage) second is same = tt
 
 -- ---- Since
 
 pub spending-same : (site : Site) (found : Found) (number median made start blocks : ℕ) → number ≡ height_at site → median ≡ median_time site.branch
-    → made ≡ found.cell.height → start ≡ start_of site.branch found.cell.height → blocks ≡ site.spec.epoch_length
+    → made ≡ found.cell.height → start ≡ start_at site found.cell.height → blocks ≡ site.spec.epoch_length
     → ◌≡◌ {A = Spending} (record { number = number; median = median; made = made; start = start; length = blocks }) (spending site found)
 spending-same site found number median made start blocks one two three four five = cc
 

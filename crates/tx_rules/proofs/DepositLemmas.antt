@@ -7,7 +7,6 @@ use Rattle.std.proofs.lemmas.List.Elements.{All-nil, All-head, All-tail}
 use Rattle.std.proofs.lemmas.Bool.{ne_eqb, eqb-true, eq-eqb, lt-ltb, le-ltb, cases_eq}
 use Rattle.std.proofs.lemmas.Option.{slice_get_within, slice_get-map, get_or_from_slice_get, same_Some, cond_some}
 use Rattle.chain_defs.specs.Schema.{OutPoint, Block, Transaction}
-use Rattle.chain_defs.specs.Epochs.{is_span_over}
 use Rattle.chain_defs.specs.Kept.{place_of}
 use Rattle.chain_defs.specs.Branch.{branch_places, branch}
 use Rattle.chain_defs.proofs.KeptLaws.{slice_get-below, place_of-below}
@@ -18,8 +17,8 @@ use Rattle.chain_tree.specs.Told.{Stored, blocks_of}
 use Rattle.chain_tree.proofs.BlockLemmas.{len-same}
 use Rattle.cell_defs.specs.Cell.{Cell}
 use Rattle.cell_defs.specs.Row.{Row}
-use Rattle.rule_defs.specs.Site.{Site, Found, height_at}
-use Rattle.rule_defs.specs.Resolving.{inputs, mature_ancestor, header_heights, heights}
+use Rattle.rule_defs.specs.Site.{Site, Found}
+use Rattle.rule_defs.specs.Resolving.{inputs, may_be_named, named_ancestor, header_heights, heights}
 use Rattle.rule_defs.specs.Withdrawals.{deposit_index, deposit_height}
 use Rattle.tx_rules.specs.At.{AtValue, IsPlaced, IsSiteOf}
 use Rattle.cell_model.specs.Copies.{ResolvedValue, IsCopyOf}
@@ -32,16 +31,16 @@ use Rattle.tx_rules.proofs.AgeLemmas.{row-of, made-kept}
 
 -- ---- Their heights are those of the branch
 
-ancestor-below : (site : Site) (hash : List ℕ) (height : ℕ) → mature_ancestor site hash ≡ Some height → height < length site.branch
+ancestor-below : (site : Site) (hash : List ℕ) (height : ℕ) → named_ancestor site hash ≡ Some height → height < length site.branch
 ancestor-below site hash height is = by_place (place_of site.branch hash) refl is
   where
     by_place : (found : Option ℕ) → place_of site.branch hash ≡ found
-        → option_and_then (λ (h : ℕ). if is_span_over site.spec.maturity site.spec.epoch_length h (height_at site) then Some h else None) found ≡ Some height
+        → option_and_then (λ (h : ℕ). if may_be_named site h then Some h else None) found ≡ Some height
         → height < length site.branch
     by_place None there same = absurd (cc)
     by_place (Some h) there same =
         let low : h < length site.branch = place_of-below site.branch hash h there in
-        let at : h ≡ height = (cond_some (is_span_over site.spec.maturity site.spec.epoch_length h (height_at site)) h height same).1 in
+        let at : h ≡ height = (cond_some (may_be_named site h) h height same).1 in
         omega (arith, low, at)
 
 pub heights-below : (site : Site) (t : Transaction) → All (λ h. h < length site.branch) (heights site t)
@@ -51,7 +50,7 @@ heights-below site t = by_heights (header_heights site t) refl
     by_heights : (found : Option (List ℕ)) → header_heights site t ≡ found → All (λ h. h < length site.branch) (unwrap_or found [])
     by_heights None is = All-nil (λ h. h < length site.branch)
     by_heights (Some hs) is =
-        all_there-all (λ h. h < length site.branch) (mature_ancestor site) t.raw.header_deps hs (ancestor-below site) is
+        all_there-all (λ h. h < length site.branch) (named_ancestor site) t.raw.header_deps hs (ancestor-below site) is
 
 -- ---- The entry of a height
 

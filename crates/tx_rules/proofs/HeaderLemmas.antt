@@ -1,5 +1,5 @@
 -- Hashes on the branch of a parent, and in the tree.
-use Rattle.std.proofs.Common.{◌≡◌, ℕ, ◌<◌, ◌≤◌, List, [], ◌∷◌, ◌++◌, length, Option, Some, None, refl, sym, ap, ◌∙◌, Bool, inl, inr, ◌⊎◌, arith}
+use Rattle.std.proofs.Common.{◌≡◌, ℕ, ◌<◌, ◌≤◌, List, [], ◌∷◌, ◌++◌, length, Option, Some, None, refl, sym, ap, ◌∙◌, Bool, true, false, inl, inr, ◌⊎◌, ◌||◌, arith}
 use Rattle.std.specs.Prelude.{slice_get, slice_index, if◌then◌else◌}
 use Rattle.std.specs.Option.{option_map, option_and_then}
 use Rattle.std.specs.List.{AllZip}
@@ -15,7 +15,7 @@ use Rattle.chain_tree.specs.Entries.{entry_at}
 use Rattle.chain_tree.specs.Blocks.{IndexesBlocks}
 use Rattle.chain_tree.proofs.BlockLemmas.{len-same}
 use Rattle.rule_defs.specs.Site.{Site, height_at}
-use Rattle.rule_defs.specs.Resolving.{mature_ancestor}
+use Rattle.rule_defs.specs.Resolving.{may_be_named, named_ancestor}
 use Rattle.tx_rules.proofs.BranchLemmas.{branch-block, PlaceOfHeight, place-of-height, number-on-branch}
 
 -- A kept block is found by its hash.
@@ -132,17 +132,25 @@ zip-push R [] (z ∷ zs) x y each last = absurd each
 zip-push R (z ∷ zs) [] x y each last = absurd each
 zip-push R (z ∷ zs) (w ∷ ws) x y each last = (each.0, zip-push R zs ws x y each.1 last)
 
--- ---- Maturity
+-- ---- Whether a header may be named
 
-pub mature-none : (site : Site) (hash : List ℕ) (place : ℕ → ℕ) → place_of site.branch hash ≡ None → None ≡ option_map place (mature_ancestor site hash)
-mature-none site hash place none =
-    sym (ap (λ (found : Option ℕ). option_map place (option_and_then
-    (λ height. if is_span_over site.spec.maturity site.spec.epoch_length height (height_at site) then Some height else None) found)) none)
+pub named-none : (site : Site) (hash : List ℕ) (place : ℕ → ℕ) → place_of site.branch hash ≡ None → None ≡ option_map place (named_ancestor site hash)
+named-none site hash place none =
+    sym (ap (λ (found : Option ℕ). option_map place (option_and_then (λ height. if may_be_named site height then Some height else None) found)) none)
 
-pub mature-by : (site : Site) (hash : List ℕ) (place : ℕ → ℕ) (height : ℕ) (is_over : Bool) → place_of site.branch hash ≡ Some height
-    → is_span_over site.spec.maturity site.spec.epoch_length height (height_at site) ≡ is_over
-    → option_map place (if is_over then Some height else None) ≡ option_map place (mature_ancestor site hash)
-mature-by site hash place height is_over found is =
+pub named-by : (site : Site) (hash : List ℕ) (place : ℕ → ℕ) (height : ℕ) (may : Bool) → place_of site.branch hash ≡ Some height
+    → may_be_named site height ≡ may → option_map place (if may then Some height else None) ≡ option_map place (named_ancestor site hash)
+named-by site hash place height may found is =
     ap (λ (b : Bool). option_map place (if b then Some height else None)) (sym is)
-    ∙ sym (ap (λ (at : Option ℕ). option_map place (option_and_then
-    (λ height. if is_span_over site.spec.maturity site.spec.epoch_length height (height_at site) then Some height else None) at)) found)
+    ∙ sym (ap (λ (at : Option ℕ). option_map place (option_and_then (λ height. if may_be_named site height then Some height else None) at)) found)
+
+-- under the second edition any
+pub may-second : (site : Site) (height : ℕ) (second : Bool) → second ≡ site.second → second ≡ true → second ≡ may_be_named site height
+may-second site height second is true_is =
+    true_is ∙ ap (λ (b : Bool). b || is_span_over site.spec.maturity site.spec.epoch_length height (height_at site)) (sym true_is ∙ is)
+
+-- under the first by the span
+pub may-first : (site : Site) (height : ℕ) (second over : Bool) → second ≡ site.second → second ≡ false
+    → over ≡ is_span_over site.spec.maturity site.spec.epoch_length height (height_at site) → over ≡ may_be_named site height
+may-first site height second over is false_is span =
+    span ∙ ap (λ (b : Bool). b || is_span_over site.spec.maturity site.spec.epoch_length height (height_at site)) (sym false_is ∙ is)

@@ -3,7 +3,7 @@ use Rattle.std.specs.Prelude.{◌≡◌, ◌⊎◌, ℕ, ◌<◌, nat_lt, Bool, 
 use Rattle.std.specs.Option.{option_map}
 use Rattle.std.specs.List.{All}
 use Rattle.chain_defs.specs.Schema.{OutPoint, Transaction, Block}
-use Rattle.chain_defs.specs.Specification.{Specification}
+use Rattle.chain_defs.specs.Specification.{Specification, is_second_at}
 use Rattle.chain_defs.specs.Kept.{block_at}
 use Rattle.chain_defs.specs.Branch.{branch, branch_places}
 use Rattle.chain_tree.specs.declared.entry.Entry.{Entry}
@@ -13,6 +13,7 @@ use Rattle.cell_defs.specs.Cell.{Cell, holds_its_own}
 use Rattle.cell_defs.specs.Row.{Row, row_of, IsOutputOf}
 use Rattle.rule_defs.specs.Site.{Site, Found, height_at, all_there}
 use Rattle.rule_defs.specs.Resolving.{spends_each_once}
+use Rattle.rule_defs.specs.Age.{timestamp_of}
 
 -- The specification, the entries of the tree, the place of the parent, and the block that is judged, where the transaction stands in one.
 pub record AtValue : Type 0 where
@@ -48,6 +49,10 @@ pub record IsSiteOf (stored : List Stored) (at : AtValue) (rows : OutPoint → O
   pub indexed : IndexesBlocks (blocks_of stored) at.entries
   pub spec : site.spec ≡ at.spec
   pub on_branch : site.branch ≡ branch (blocks_of stored) at.parent
+  -- of the block that is judged, where there is one
+  pub timestamp : site.timestamp ≡ timestamp_of at.block
+  -- by the epoch of its height
+  pub second : site.second ≡ is_second_at site.spec (height_at site)
   -- the rows are those of just the cells that the transaction sees, each an output with its out-point
   pub sees : (o : OutPoint) → rows o ≡ option_map (λ cell. row_of (place_of_height (blocks_of stored) at.parent cell.height) cell) (site.cell o)
   pub made : (o : OutPoint) (cell : Cell) → site.cell o ≡ Some cell → IsMade site.branch at.block o cell

@@ -4,12 +4,12 @@ use Rattle.chain_defs.specs.Schema.{Header, Transaction, Block}
 use Rattle.tx_rules.specs.declared.at.Held.{Held}
 use Rattle.tx_rules.specs.declared.at.Held.TheVariants.{Block as whole, Apart as apart}
 
--- a header at which nothing looks
-abbrev pub no_header : Header
-no_header = record {
+-- a header of which nothing but the timestamp is looked at
+abbrev pub header_with : ℕ → Header
+header_with timestamp = record {
   version = 0;
   compact_target = 0;
-  timestamp = 0;
+  timestamp = timestamp;
   number = 0;
   epoch = 0;
   parent_hash = [];
@@ -20,10 +20,10 @@ no_header = record {
   nonce = 0;
 }
 
--- a block that has these transactions
-abbrev pub of_transactions : List Transaction → Block
-of_transactions transactions = record { header = no_header; uncles = []; transactions = transactions; proposals = [] }
+-- a block that has this timestamp and these transactions
+abbrev pub of_transactions : ℕ → List Transaction → Block
+of_transactions timestamp transactions = record { header = header_with timestamp; uncles = []; transactions = transactions; proposals = [] }
 
 abbrev pub block_of : Held → Block
 block_of (whole b) = b
-block_of (apart transactions) = of_transactions transactions.now
+block_of (apart timestamp transactions) = of_transactions timestamp transactions.now

@@ -90,14 +90,14 @@ pub(crate) fn are_mature(
     Ok(true)
 }
 
-/// The time from which a cell counts, in milliseconds: the median time at the parent of the block that made it, the
-/// genesis' own timestamp. `median` is the median time at the parent of the block that the transaction stands in.
+/// The time from which a cell counts under the first edition, in milliseconds: the median time at the parent of the block that
+/// made it, the genesis' own timestamp. `median` is the median time at the parent of the block that the transaction stands in.
 /// Damaged where a row's block is not kept.
-fn start_at(at: &TxAt<'_, '_, '_>, median: u64, meta: &CellMeta) -> Result<u64, Damage>
+fn median_start(at: &TxAt<'_, '_, '_>, median: u64, meta: &CellMeta) -> Result<u64, Damage>
     requires placed { IsPlaced at.now }
     ensures start { (stored : List Stored) (rows : OutPoint → Option Row) (site : Site) (found : Found) → IsSiteOf stored at.now rows site
         → median ≡ median_time site.branch → IsRowOf (blocks_of stored) at.now.parent site found meta.now
-        → IfOk result (λ start. start ≡ rules.start_of site.branch found.cell.height) }
+        → IfOk result (λ start. start ≡ rules.median_start site.branch found.cell.height) }
     ensures undamaged { (stored : List Stored) (rows : OutPoint → Option Row) (site : Site) (found : Found) → IsSiteOf stored at.now rows site
         → median ≡ median_time site.branch → IsRowOf (blocks_of stored) at.now.parent site found meta.now
         → (damage : Damage) → result ≡ Err damage → ⊥ }
@@ -115,6 +115,43 @@ fn start_at(at: &TxAt<'_, '_, '_>, median: u64, meta: &CellMeta) -> Result<u64, 
         Ok(entry.timestamp)
     } else {
         Ok(at.tree.median(entry.parent))
+    }
+}
+
+/// The same under the second edition: the timestamp of the block that made it. Damaged where a row's block is not kept.
+fn block_start(at: &TxAt<'_, '_, '_>, meta: &CellMeta) -> Result<u64, Damage>
+    requires placed { IsPlaced at.now }
+    ensures start { (stored : List Stored) (rows : OutPoint → Option Row) (site : Site) (found : Found) → IsSiteOf stored at.now rows site
+        → IsRowOf (blocks_of stored) at.now.parent site found meta.now → IfOk result (λ start. start ≡ rules.block_start site found.cell.height) }
+    ensures undamaged { (stored : List Stored) (rows : OutPoint → Option Row) (site : Site) (found : Found) → IsSiteOf stored at.now rows site
+        → IsRowOf (blocks_of stored) at.now.parent site found meta.now → (damage : Damage) → result ≡ Err damage → ⊥ }
+    ensures damage { (damage : Damage) → result ≡ Err damage → damage.area ≡ Log }
+{
+    let kept = at.tree.len();
+    if meta.block == kept {
+        return Ok(at.timestamp());
+    }
+    if meta.block > kept {
+        return Err(damage_of(at, meta));
+    }
+    Ok(at.tree.entry(meta.block).timestamp)
+}
+
+/// The time from which a cell counts, by the edition under which it is spent. Damaged where a row's block is not kept.
+fn start_at(at: &TxAt<'_, '_, '_>, median: u64, meta: &CellMeta) -> Result<u64, Damage>
+    requires placed { IsPlaced at.now }
+    ensures start { (stored : List Stored) (rows : OutPoint → Option Row) (site : Site) (found : Found) → IsSiteOf stored at.now rows site
+        → median ≡ median_time site.branch → IsRowOf (blocks_of stored) at.now.parent site found meta.now
+        → IfOk result (λ start. start ≡ rules.start_at site found.cell.height) }
+    ensures undamaged { (stored : List Stored) (rows : OutPoint → Option Row) (site : Site) (found : Found) → IsSiteOf stored at.now rows site
+        → median ≡ median_time site.branch → IsRowOf (blocks_of stored) at.now.parent site found meta.now
+        → (damage : Damage) → result ≡ Err damage → ⊥ }
+    ensures damage { (damage : Damage) → result ≡ Err damage → damage.area ≡ Log }
+{
+    if at.is_second() {
+        block_start(at, meta)
+    } else {
+        median_start(at, median, meta)
     }
 }
 

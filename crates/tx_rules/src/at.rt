@@ -1,5 +1,5 @@
 // Where a transaction is judged.
-ghost use Rattle.std.specs.Prelude.{◌≡◌};
+ghost use Rattle.std.specs.Prelude.{◌≡◌, ℕ};
 ghost use Rattle.std.specs.Option.{option_map};
 ghost use Rattle.outside.specs.declared.disk.Area.TheVariants.{Log};
 ghost use Rattle.cell_model.specs.Copies.{output_in};
@@ -13,15 +13,15 @@ use mol_schema::{BlockView, OutputView, TxView};
 use outside::{Area, Damage};
 use std::marker::Model;
 
-/// Where transactions stand: in a whole block, or apart.
+/// Where transactions stand: in a whole block, or apart, with the block's timestamp.
 #[derive(Drop)]
 enum Held<'a, 'b> {
     Block(BlockView<'b>),
-    Apart(&'a [TxView<'b>]),
+    Apart(u64, &'a [TxView<'b>]),
 }
 
-/// The transactions of the block that is judged: those of a whole block, or those that were put into one so far. Clauses see
-/// a block with these transactions.
+/// The timestamp and the transactions of the block that is judged: of a whole block, or of one into which they were put so
+/// far. Clauses see a block that has these.
 #[derive(Drop)]
 pub struct Own<'a, 'b> {
     held: Held<'a, 'b>,
@@ -42,7 +42,7 @@ impl<'a, 'b> Own<'a, 'b> {
     ghost use Rattle.cell_model.specs.Copies.{output_in};
     ghost use Rattle.tx_rules.specs.Own.{of_transactions};
 
-    /// Those of a block.
+    /// Those of a whole block.
     pub fn of_block(block: BlockView<'b>) -> Own<'a, 'b>
         ensures { result ≡ block.entry }
     {
@@ -51,12 +51,22 @@ impl<'a, 'b> Own<'a, 'b> {
         }
     }
 
-    /// Those that were put into a block so far, in their order.
-    pub fn so_far(transactions: &'a [TxView<'b>]) -> Own<'a, 'b>
-        ensures { result ≡ of_transactions transactions.now }
+    /// Those that were put into a block of this timestamp so far, in their order.
+    pub fn so_far(timestamp: u64, transactions: &'a [TxView<'b>]) -> Own<'a, 'b>
+        ensures { result ≡ of_transactions timestamp transactions.now }
     {
         Own {
-            held: Held::Apart(transactions),
+            held: Held::Apart(timestamp, transactions),
+        }
+    }
+
+    /// Milliseconds.
+    pub(crate) fn timestamp(&self) -> u64
+        ensures { result ≡ self.now.header.timestamp }
+    {
+        match &self.held {
+            Held::Block(block) => block.header().timestamp(),
+            Held::Apart(timestamp, _) => *timestamp,
         }
     }
 
@@ -71,7 +81,7 @@ impl<'a, 'b> Own<'a, 'b> {
     {
         match &self.held {
             Held::Block(block) => output_at(block, o, meta),
-            Held::Apart(transactions) => output_apart(transactions, o, meta),
+            Held::Apart(_, transactions) => output_apart(transactions, o, meta),
         }
     }
 }
@@ -82,7 +92,7 @@ fn output_apart<'a>(
     o: &OutPoint,
     meta: &CellMeta,
 ) -> Option<(OutputView<'a>, &'a [u8])>
-    ensures { option_map (λ it. (it.0, it.1.now)) result ≡ output_in (of_transactions transactions.now) meta.now.transaction o.now.index }
+    ensures { (timestamp : ℕ) → option_map (λ it. (it.0, it.1.now)) result ≡ output_in (of_transactions timestamp transactions.now) meta.now.transaction o.now.index }
 {
     if meta.tx as usize >= transactions.len() {
         return None;
@@ -123,6 +133,7 @@ impl<'a, 'o, 'b> TxAt<'a, 'o, 'b> {
     ghost use Rattle.chain_tree.specs.Entries.{entry_at};
     ghost use Rattle.chain_tree.specs.Told.{Stored};
     ghost use Rattle.rule_defs.specs.Site.{Site, height_at};
+    ghost use Rattle.rule_defs.specs.Age.{timestamp_of};
     ghost use Rattle.tx_rules.specs.At.{IsPlaced, IsSiteOf};
 
     /// The height of the block that the transaction stands in.
@@ -133,6 +144,24 @@ impl<'a, 'o, 'b> TxAt<'a, 'o, 'b> {
         ensures height { (stored : List Stored) (rows : OutPoint → Option Row) (site : Site) → IsSiteOf stored self.now rows site → result ≡ height_at site }
     {
         self.tree.entry(self.parent).number + 1
+    }
+
+    /// The timestamp of that block, in milliseconds; 0 where there is none.
+    pub(crate) fn timestamp(&self) -> u64
+        ensures { result ≡ timestamp_of self.now.block }
+    {
+        match &self.block {
+            None => 0,
+            Some(own) => own.timestamp(),
+        }
+    }
+
+    /// Whether that block stands under the second edition of the rules.
+    pub(crate) fn is_second(&self) -> bool
+        requires { IsPlaced self.now }
+        ensures { (stored : List Stored) (rows : OutPoint → Option Row) (site : Site) → IsSiteOf stored self.now rows site → result ≡ site.second }
+    {
+        self.spec.is_second_at(self.height())
     }
 }
 

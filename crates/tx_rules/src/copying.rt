@@ -172,6 +172,13 @@ fn copy_row<B: Blocks>(
     }
 }
 
+/// Rows, and an order of them in which those of one block stand side by side: the block and the place of each.
+#[derive(Clone, Copy)]
+struct Ordered<'r> {
+    rows: &'r [(OutPoint, CellMeta)],
+    order: &'r [(u32, usize)],
+}
+
 /// The blocks of rows with the rows' places, those of one block side by side.
 fn by_block(alloc: Global, rows: &[(OutPoint, CellMeta)]) -> Result<Vec<(u32, usize)>, NoMemory>
     ensures places { IfOk result (λ order. All (λ it. it.1 < length rows.now) order.items) }
@@ -212,23 +219,24 @@ fn take_read(
     at: &TxAt<'_, '_, '_>,
     read: &BlockView<'_>,
     block: u32,
-    rows: &[(OutPoint, CellMeta)],
-    order: &[(u32, usize)],
+    these: &Ordered<'_>,
     taken: &mut [Option<Resolved>],
 ) -> Result<(), ReadStop>
     requires placed { IsPlaced at.now }
     requires within { block < length at.now.entries }
-    requires places { All (λ it. it.1 < length rows.now) order.now }
-    requires long { length taken.old ≡ length rows.now }
-    ensures long { length taken.new ≡ length rows.now }
-    ensures taken { (told : Option (List Stored)) → IsBlockAt told block read.now → AreTaken told at.now rows.now taken.old
-        → IfOk result (λ _. AreTaken told at.now rows.now taken.new) }
+    requires places { All (λ it. it.1 < length these.now.rows.now) these.now.order.now }
+    requires long { length taken.old ≡ length these.now.rows.now }
+    ensures long { length taken.new ≡ length these.now.rows.now }
+    ensures taken { (told : Option (List Stored)) → IsBlockAt told block read.now → AreTaken told at.now these.now.rows.now taken.old
+        → IfOk result (λ _. AreTaken told at.now these.now.rows.now taken.new) }
     ensures undamaged { (stored : List Stored) (seen : OutPoint → Option Row) (site : Site) (founds : List Found) → IsBlockAt (Some stored) block read.now
-        → IsSiteOf stored at.now seen site → AreSeen site founds → rows.now ≡ map (found_row (blocks_of stored) at.now.parent) founds
+        → IsSiteOf stored at.now seen site → AreSeen site founds → these.now.rows.now ≡ map (found_row (blocks_of stored) at.now.parent) founds
         → (damage : Damage) → result ≡ Err (Damaged damage) → ⊥ }
     ensures damage { (damage : Damage) → result ≡ Err (Damaged damage) → damage.area ≡ Log }
     ensures unread { result ≡ Err DiskFault → ⊥ }
 {
+    let rows = these.rows;
+    let order = these.order;
     'order: for j in 0..order.len() {
         let place = order[j].1;
         let row = rows[place];
@@ -250,20 +258,19 @@ fn take_kept<B: Blocks>(
     at: &TxAt<'_, '_, '_>,
     blocks: &mut B,
     meta: CellMeta,
-    rows: &[(OutPoint, CellMeta)],
-    order: &[(u32, usize)],
+    these: &Ordered<'_>,
     taken: &mut [Option<Resolved>],
 ) -> Result<(), ReadStop>
     requires placed { IsPlaced at.now }
     requires counts { B.count blocks.old ≡ length at.now.entries }
     requires within { meta.block < length at.now.entries }
-    requires places { All (λ it. it.1 < length rows.now) order.now }
-    requires long { length taken.old ≡ length rows.now }
+    requires places { All (λ it. it.1 < length these.now.rows.now) these.now.order.now }
+    requires long { length taken.old ≡ length these.now.rows.now }
     ensures read { HasRead B.told B.count B.loans_of B.faults B.damages blocks.old blocks.new (stop_of result) }
-    ensures long { length taken.new ≡ length rows.now }
-    ensures taken { AreTaken (B.told blocks.old) at.now rows.now taken.old → IfOk result (λ _. AreTaken (B.told blocks.old) at.now rows.now taken.new) }
+    ensures long { length taken.new ≡ length these.now.rows.now }
+    ensures taken { AreTaken (B.told blocks.old) at.now these.now.rows.now taken.old → IfOk result (λ _. AreTaken (B.told blocks.old) at.now these.now.rows.now taken.new) }
     ensures undamaged { (stored : List Stored) (seen : OutPoint → Option Row) (site : Site) (founds : List Found) → B.told blocks.old ≡ Some stored
-        → IsSiteOf stored at.now seen site → AreSeen site founds → rows.now ≡ map (found_row (blocks_of stored) at.now.parent) founds
+        → IsSiteOf stored at.now seen site → AreSeen site founds → these.now.rows.now ≡ map (found_row (blocks_of stored) at.now.parent) founds
         → (damage : Damage) → result ≡ Err (Damaged damage) → ⊥ }
 {
     match blocks.bring(meta.block) {
@@ -271,7 +278,7 @@ fn take_kept<B: Blocks>(
         Err(stop) => return Err(stop),
     }
     let block = blocks.block();
-    match take_read(alloc, at, &block, meta.block, rows, order, taken) {
+    match take_read(alloc, at, &block, meta.block, these, taken) {
         Ok(()) => Ok(()),
         Err(stop) => {
             blocks.report(stop);
@@ -305,7 +312,11 @@ fn take_several<B: Blocks>(
     'order: for j in 0..order.len() {
         let row = rows[order[j].1];
         if row.1.block < kept && starts_several(order, j) {
-            match take_kept(alloc, at, blocks, row.1, rows, &order[j..], taken) {
+            let these = Ordered {
+                rows,
+                order: &order[j..],
+            };
+            match take_kept(alloc, at, blocks, row.1, &these, taken) {
                 Ok(()) => {}
                 Err(stop) => return Err(stop),
             }

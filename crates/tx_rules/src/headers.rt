@@ -9,7 +9,8 @@ ghost use Rattle.chain_defs.specs.Branch.{branch_places};
 ghost use Rattle.chain_tree.specs.Entries.{entry_at, place_of_hash};
 ghost use Rattle.chain_tree.specs.Told.{Stored, blocks_of};
 ghost use Rattle.rule_defs.specs.Site.{Site};
-ghost use Rattle.rule_defs.specs.Resolving.{header_heights, mature_ancestor};
+ghost use Rattle.rule_defs.specs.Resolving.{header_heights, named_ancestor};
+ghost use Rattle.rule_defs.specs.Resolving as rules;
 ghost use Rattle.tx_rules.specs.At.{IsPlaced, IsSiteOf};
 
 use crate::at::TxAt;
@@ -42,27 +43,36 @@ fn ancestor_with(at: &TxAt<'_, '_, '_>, hash: &[u8; 32]) -> Option<(u32, u64)>
     Some((place, height))
 }
 
-/// The place of a header dep in the tree. None where it is not the hash of an ancestor from which the span of maturity
-/// is over.
-fn mature_place(at: &TxAt<'_, '_, '_>, hash: &[u8; 32]) -> Option<u32>
+/// Whether the header of an ancestor may be named, by its height: under the first edition the span of maturity is over from
+/// it, under the second it may be any.
+fn may_be_named(at: &TxAt<'_, '_, '_>, height: u64) -> bool
+    requires placed { IsPlaced at.now }
+    requires above { IsSomeAnd (entry_at at.now.entries at.now.parent) (λ parent. height ≤ parent.number) }
+    ensures { (stored : List Stored) (rows : OutPoint → Option Row) (site : Site) → IsSiteOf stored at.now rows site → result ≡ rules.may_be_named site height }
+{
+    let spec = at.spec;
+    at.is_second() || span_over(spec.maturity, spec.epoch_length, height, at.height())
+}
+
+/// The place of a header dep in the tree. None where it is not the hash of an ancestor whose header may be named.
+fn header_place(at: &TxAt<'_, '_, '_>, hash: &[u8; 32]) -> Option<u32>
     requires placed { IsPlaced at.now }
     ensures found { IfSome result (λ place. place_of_hash at.now.entries hash.now ≡ Some place) }
     ensures height { (stored : List Stored) (rows : OutPoint → Option Row) (site : Site) → IsSiteOf stored at.now rows site
-        → result ≡ option_map (slice_index (branch_places (blocks_of stored) at.now.parent)) (mature_ancestor site hash.now) }
+        → result ≡ option_map (slice_index (branch_places (blocks_of stored) at.now.parent)) (named_ancestor site hash.now) }
 {
     let Some((place, height)) = ancestor_with(at, hash) else {
         return None;
     };
-    let spec = at.spec;
-    if span_over(spec.maturity, spec.epoch_length, height, at.height()) {
+    if may_be_named(at, height) {
         Some(place)
     } else {
         None
     }
 }
 
-/// The places of its header deps in the tree, in their order. None where one is not the hash of an ancestor from which
-/// the span of maturity is over.
+/// The places of its header deps in the tree, in their order. None where one is not the hash of an ancestor whose
+/// header may be named.
 pub(crate) fn header_places(
     alloc: Global,
     tx: &TxView<'_>,
@@ -75,7 +85,7 @@ pub(crate) fn header_places(
 {
     let mut places = Vec::new(alloc);
     'deps: for i in 0..tx.raw().header_deps_count() {
-        match mature_place(at, &header_dep_at(tx, i)) {
+        match header_place(at, &header_dep_at(tx, i)) {
             None => return Ok(None),
             Some(place) => {
                 if places.push(place).is_err() {

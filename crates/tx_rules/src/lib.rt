@@ -5,7 +5,7 @@
 //! copies of the cells of its inputs and deps, its fee and its interest. What it answers of J18 to J20 stands on the
 //! transaction, its proposal and the rows of its inputs alone, whatever the source tells. It copies the cells of the
 //! inputs where J18 to J25 are kept, those of the deps where all are, and no other. Whether the transaction's id is
-//! proposed (J19) is an argument; what its scripts say (J28 to J30) is left to others.
+//! proposed (J19) is told beside it; what its scripts say (J28 to J30) is left to others.
 //!
 //! Its work is linear in the transaction and the cells that it names, the members of a dep group with them, but for
 //! three things. A kept block is read whole: once for all cells of inputs that it made, once for all those of deps, and
@@ -28,4 +28,4 @@ mod resolving;
 mod withdrawals;
 
 pub use at::{Own, TxAt};
-pub use resolving::{TxOk, TxStop, resolve};
+pub use resolving::{JudgedTx, TxOk, TxStop, resolve};

@@ -71,6 +71,16 @@ impl fmt::Display for TxStop {
 
 impl Error for TxStop {}
 
+/// A transaction that is judged, with what is known of it before.
+#[derive(Clone, Copy)]
+pub struct JudgedTx<'t, 'a> {
+    pub tx: &'t TxView<'a>,
+    /// Its hash.
+    pub hash: [u8; 32],
+    /// Whether its id is proposed (J19): that it is, where nothing is asked of a proposal.
+    pub proposed: bool,
+}
+
 /// What is found of a transaction that keeps J18 to J25: the rows of the cells of its inputs and of its resolved deps, and
 /// the places of its header deps.
 #[derive(Drop)]
@@ -232,38 +242,36 @@ fn report<B: Blocks>(blocks: &mut B, stop: TxStop)
     }
 }
 
-/// J18 to J25, which take no copy of a cell. The transaction comes with its hash.
+/// J18 to J25, which take no copy of a cell.
 fn find<C: Cells, B: Blocks>(
     alloc: Global,
-    tx: &TxView<'_>,
-    hash: [u8; 32],
+    judged: &JudgedTx<'_, '_>,
     at: &TxAt<'_, '_, '_>,
-    proposed: bool,
     cells: &C,
     blocks: &mut B,
 ) -> Result<Finding, TxStop>
-    requires hash { hash ≡ transaction_hash tx.now }
+    requires hash { judged.now.hash ≡ transaction_hash judged.now.tx.now }
     requires placed { IsPlaced at.now }
     requires counts { B.count blocks.old ≡ length at.now.entries }
     ensures read { HasRead B.told B.count B.loans_of B.faults B.damages blocks.old blocks.new (read_stop_of result) }
-    ensures stops { Stops proposed result }
-    ensures by_rows { FollowsRows proposed (C.rows cells.now) tx.now result }
+    ensures stops { Stops judged.now.proposed result }
+    ensures by_rows { FollowsRows judged.now.proposed (C.rows cells.now) judged.now.tx.now result }
     ensures exact { (stored : List Stored) (site : Site) → B.told blocks.old ≡ Some stored → IsSiteOf stored at.now (C.rows cells.now) site
-        → AnswersWith (finding_rules proposed site tx.now)
-        (λ it. AreFound (blocks_of stored) at.now.parent site tx.now it.spent.items it.named.items it.places.items) result }
-    ensures form { IfOk result (λ _. IsTrue (defs.has_form tx.now)) }
-    ensures spent { IfOk result (λ it. input_rows (C.rows cells.now) tx.now ≡ Some it.spent.items) }
-    ensures headers { IfOk result (λ it. AllZip (λ hash place. place_of_hash at.now.entries hash ≡ Some place) tx.now.raw.header_deps it.places.items) }
+        → AnswersWith (finding_rules judged.now.proposed site judged.now.tx.now)
+        (λ it. AreFound (blocks_of stored) at.now.parent site judged.now.tx.now it.spent.items it.named.items it.places.items) result }
+    ensures form { IfOk result (λ _. IsTrue (defs.has_form judged.now.tx.now)) }
+    ensures spent { IfOk result (λ it. input_rows (C.rows cells.now) judged.now.tx.now ≡ Some it.spent.items) }
+    ensures headers { IfOk result (λ it. AllZip (λ hash place. place_of_hash at.now.entries hash ≡ Some place) judged.now.tx.now.raw.header_deps it.places.items) }
 {
-    let spent = match spent_rows(alloc, tx, proposed, cells) {
+    let spent = match spent_rows(alloc, judged.tx, judged.proposed, cells) {
         Ok(spent) => spent,
         Err(stop) => return Err(stop),
     };
-    let (named, places) = match named_rows(alloc, tx, at, cells, blocks) {
+    let (named, places) = match named_rows(alloc, judged.tx, at, cells, blocks) {
         Ok(named) => named,
         Err(stop) => return Err(stop),
     };
-    match try_cells(tx, hash, at, cells, &spent, &named) {
+    match try_cells(judged.tx, judged.hash, at, cells, &spent, &named) {
         Ok(()) => Ok(Finding {
             spent,
             named,
@@ -319,44 +327,41 @@ fn copy_cells<B: Blocks>(
     }
 }
 
-/// Tries the rules on one transaction, which comes with its hash, in their order. An argument says whether the transaction's id is
-/// proposed (J19): that it is, where nothing is asked of a proposal.
+/// Tries the rules on one transaction in their order.
 pub fn resolve<'a, C: Cells, B: Blocks>(
     alloc: Global,
-    tx: &TxView<'a>,
-    hash: [u8; 32],
+    judged: &JudgedTx<'_, 'a>,
     at: &TxAt<'_, '_, '_>,
-    proposed: bool,
     cells: &C,
     blocks: &mut B,
 ) -> Result<TxOk<'a>, TxStop>
-    requires hash { hash ≡ transaction_hash tx.now }
+    requires hash { judged.now.hash ≡ transaction_hash judged.now.tx.now }
     requires placed { IsPlaced at.now }
     requires counts { B.count blocks.old ≡ length at.now.entries }
     ensures read { HasRead B.told B.count B.loans_of B.faults B.damages blocks.old blocks.new (read_stop_of result) }
-    ensures formed { IfOk result (λ ok. IsFormed at.now.entries tx.now ok.resolved) }
+    ensures formed { IfOk result (λ ok. IsFormed at.now.entries judged.now.tx.now ok.resolved) }
     ensures of_rows { IfOk result (λ ok. All (CopiesItsRow (B.told blocks.old) at.now) (ok.resolved.inputs ++ ok.resolved.deps)) }
-    ensures tried { (rule : Rule) → result ≡ Err (TxStop.Broken rule) → IsTried proposed (rule_number rule) }
-    ensures by_rows { FollowsRows proposed (C.rows cells.now) tx.now result }
+    ensures tried { (rule : Rule) → result ≡ Err (TxStop.Broken rule) → IsTried judged.now.proposed (rule_number rule) }
+    ensures by_rows { FollowsRows judged.now.proposed (C.rows cells.now) judged.now.tx.now result }
 
     // It has below 2^32 inputs, each of which counts and holds below 2^64 shannons.
     ensures fits { IfOk result (λ ok. nat_abs ok.interest < 2 ^ 96) }
 
     // Over kept blocks that are known, at the site of the transaction: the first rule that is broken, or what it resolves to. Nothing is damaged.
     ensures exact { (stored : List Stored) (site : Site) → B.told blocks.old ≡ Some stored → IsSiteOf stored at.now (C.rows cells.now) site
-        → AnswersWith (rules_to_27 proposed site tx.now) (ResolvesTo (blocks_of stored) at.now.parent site tx.now) result }
+        → AnswersWith (rules_to_27 judged.now.proposed site judged.now.tx.now) (ResolvesTo (blocks_of stored) at.now.parent site judged.now.tx.now) result }
 {
-    let found = match find(alloc, tx, hash, at, proposed, cells, blocks) {
+    let found = match find(alloc, judged, at, cells, blocks) {
         Ok(found) => found,
         Err(stop) => return Err(stop),
     };
-    let copied = match copy_cells(alloc, tx, at, blocks, &found) {
+    let copied = match copy_cells(alloc, judged.tx, at, blocks, &found) {
         Ok(copied) => copied,
         Err(stop) => return Err(stop),
     };
     let resolved = ResolvedTx {
-        tx: TxView::from_encoding(tx.bytes()),
-        hash,
+        tx: TxView::from_encoding(judged.tx.bytes()),
+        hash: judged.hash,
         inputs: copied.inputs,
         deps: copied.deps,
         headers: found.places,

@@ -169,7 +169,6 @@ fn is_named(ordered: &[u32], block: u32) -> bool
 fn withdraws_well(
     tx: &TxView<'_>,
     at: &TxAt<'_, '_, '_>,
-    height: u64,
     headers: &[u32],
     ordered: &[u32],
     i: usize,
@@ -179,15 +178,15 @@ fn withdraws_well(
     requires rising { IsNonDecreasing ordered.now }
     requires same { IsPermutation headers.now ordered.now }
     ensures well { (stored : List Stored) (rows : OutPoint → Option Row) (site : Site) (found : Found) → IsSiteOf stored at.now rows site
-        → height ≡ height_at site → headers.now ≡ map (slice_index (branch_places (blocks_of stored) at.now.parent)) (heights site tx.now)
+        → headers.now ≡ map (slice_index (branch_places (blocks_of stored) at.now.parent)) (heights site tx.now)
         → IsRowOf (blocks_of stored) at.now.parent site found copy.now.row → IsCopyOf found.cell copy.now
         → IfOk result (λ well. well ≡ rules.withdraws_well site tx.now (i, found)) }
     ensures undamaged { (stored : List Stored) (rows : OutPoint → Option Row) (site : Site) (found : Found) → IsSiteOf stored at.now rows site
-        → height ≡ height_at site → IsRowOf (blocks_of stored) at.now.parent site found copy.now.row → IsCopyOf found.cell copy.now
+        → IsRowOf (blocks_of stored) at.now.parent site found copy.now.row → IsCopyOf found.cell copy.now
         → (damage : Damage) → result ≡ Err damage → ⊥ }
     ensures damage { (damage : Damage) → result ≡ Err damage → damage.area ≡ Log }
 {
-    let made = match withdrawing_made(at, height, copy) {
+    let made = match withdrawing_made(at, at.height(), copy) {
         Ok(Some(made)) => made,
         Ok(None) => return Ok(true),
         Err(damage) => return Err(damage),
@@ -215,10 +214,9 @@ fn all_withdraw_well(
         → (damage : Damage) → result ≡ Err damage → ⊥ }
     ensures damage { (damage : Damage) → result ≡ Err damage → damage.area ≡ Log }
 {
-    let height = at.height();
     'inputs: for i in 0..copies.len() {
         let copy = &copies[i];
-        match withdraws_well(tx, at, height, headers, ordered, i, copy) {
+        match withdraws_well(tx, at, headers, ordered, i, copy) {
             Ok(true) => {}
             Ok(false) => return Ok(false),
             Err(damage) => return Err(damage),

@@ -21,7 +21,7 @@ lacks_code place (Is code) = None
 
 -- of TYPE_ID no code is looked for
 abbrev pub has_no_code : Scene → ℕ → Group → Option Failure
-has_no_code scene place group = if is_type_id group.script then None else lacks_code place (code_of scene.deps group.script)
+has_no_code scene place group = if is_type_id group.script then None else lacks_code place (code_of scene.second scene.deps group.script)
 
 abbrev pub or_later : Option Failure → Option Failure → Option Failure
 or_later (Some f) later = Some f
@@ -63,7 +63,7 @@ run_type_id scene left place group =
 unfoldable pub run_group : Scene → ℕ → ℕ → Group → Result ℕ Failure
 run_group scene left place group =
     if is_type_id group.script then run_type_id scene left place group
-    else run_code scene left place group (code_of scene.deps group.script)
+    else run_code scene left place group (code_of scene.second scene.deps group.script)
 
 -- ---- All groups, one after the other: the cycles that they take, or why the first that fails does
 

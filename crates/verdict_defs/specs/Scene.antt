@@ -1,5 +1,5 @@
 -- What the scripts of a transaction are shown of it (RFC 0009; docs/MACHINE.md, "What a script is shown").
-use Rattle.std.specs.Prelude.{ℕ, ◌==◌, List, map, Option, None, if◌then◌else◌}
+use Rattle.std.specs.Prelude.{ℕ, Bool, ◌==◌, List, map, Option, None, if◌then◌else◌}
 use Rattle.std.specs.Option.{option_map}
 use Rattle.std.specs.List.{list_any, filter_map}
 use Rattle.chain_defs.specs.Schema.{Header, CellOutput, Block, Transaction}
@@ -15,14 +15,15 @@ pub record ShownCell : Type 0 where
   -- the header of the block that made it, where a header dep names that block
   pub header : Option Header
 
--- The transaction, the cells of its inputs, its resolved deps and the headers of its header deps, each in their order, and how many blocks an
--- epoch has.
+-- The transaction, the cells of its inputs, its resolved deps and the headers of its header deps, each in their order, how many blocks an epoch
+-- has, and whether code is found by the second edition of the rules.
 pub record Scene : Type 0 where
   pub transaction : Transaction
   pub inputs : List ShownCell
   pub deps : List ShownCell
   pub headers : List Header
   pub epoch_length : ℕ
+  pub second : Bool
 
 -- ---- Of a transaction at its site
 
@@ -43,4 +44,5 @@ scene_of site t = record {
   deps = map (shown site t) (deps site t);
   headers = filter_map (header_on site.branch) (heights site t);
   epoch_length = site.spec.epoch_length;
+  second = site.second;
 }

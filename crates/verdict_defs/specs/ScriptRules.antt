@@ -21,7 +21,7 @@ keeps rule (Err f) = not (rule_of f == rule)
 
 -- Of these rules the one is broken that the first failure breaks, and the others count as kept.
 
--- J28: the code of every group is found, once.
+-- J28: the code of every group is found, and it is one.
 abbrev pub finds_each_code : Scene → ℕ → Bool
 finds_each_code scene left = keeps 28 (outcome_of scene left)
 

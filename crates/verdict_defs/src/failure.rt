@@ -5,7 +5,7 @@ use std::fmt;
 pub enum Failure {
     /// No resolved dep is the code of the group's script.
     NoCode(u32),
-    /// More than one is, of a script that names its code by a type script.
+    /// More than one is, of a script that names its code by a type script, and they are not one code.
     ManyCodes(u32),
     /// The code is no program: the number of the first condition that it meets.
     BadElf(u32, u8),

@@ -1,17 +1,20 @@
-use Rattle.std.proofs.Common.{◌≡◌, ℕ, ◌-◌, ◌≤◌, Some, Err, refl, ap, ◌∙◌, length, arith, rules}
+use Rattle.std.proofs.Common.{◌≡◌, ℕ, Result, subst, ◌-◌, ◌≤◌, Some, Err, refl, ap, ◌∙◌, length, arith, rules}
+use Rattle.std.specs.Prelude.{IsOkAnd}
 use Rattle.std.specs.Int.{w128}
 use Rattle.std.proofs.lemmas.Int.{to_z-of_z}
 use Rattle.chain_defs.specs.Branch.{branch}
 use Rattle.chain_tree.specs.Told.{blocks_of}
 use Rattle.tx_rules.specs.At.{AtValue}
-use Rattle.verdict_defs.specs.Judged.{judged_transactions}
+use Rattle.rule_defs.specs.Site.{site_at}
+use Rattle.verdict_defs.specs.Judged.{Passed, judged_transactions}
+use Rattle.block_judge.specs.Answers.{AddsJudged, StopsAs}
 use Rattle.block_judge.specs.BlockCells.{rows_in}
 use Rattle.block_judge.proofs.AnswerLemmas.{stops-read}
 use Rattle.block_judge.proofs.MovedLemmas.{can-move-none}
 use Rattle.chain_tree.proofs.ReadLemmas.{unread, read_on, read_short}
 use Rattle.block_judge.proofs.Exits.{as_step, no_error, no_rule}
 use Rattle.block_judge.proofs.SiteLemmas.{rows-after_none, rows-after_more, site-in_block}
-use Rattle.block_judge.proofs.NextLemmas.{proposed-here, passed-none, passed-breaks, passed-more, passed-all}
+use Rattle.block_judge.proofs.NextLemmas.{judged-asked, proposed-here, passed-none, passed-breaks, passed-more, passed-all}
 use Rattle.block_judge.proofs.all_transactions.judge_transactions.Goals as goal
 
 pub judge_next-requires-clause-few : goal.judge_next-requires-clause-few
@@ -83,7 +86,10 @@ later-preserved g c = record {
       (c.in-Ok.ensures.proposed stored tells stands.indexed) (c.height.ensures.height stored _ _ is) in
       passed-more c.args.context.now.spec.now (blocks_of stored) c.args.context.now.parent c.args.block.now c.later.place c.later.progress.left c.later.progress.ext
       c.later.progress.interest c.later.progress.freed (c.later.invariant.judged stored tells stands) c.transactions_item-tx.result c.later.progress c.judge_next.new.self
-      c.transactions_item-tx.ensures refl refl refl refl (c.in-Ok-judge_next.ensures.exact stored _ (c.later.invariant.read.told ∙ tells) is proposed);
+      c.transactions_item-tx.ensures refl refl refl refl (subst (λ (comes : Result Passed ℕ). IsOkAnd comes (λ passes. AddsJudged (blocks_of stored) c.args.context.now.parent
+      (site_at c.args.context.now.spec.now (branch (blocks_of stored) c.args.context.now.parent) c.args.block.now c.later.place) passes c.later.progress c.judge_next.new.self))
+      (judged-asked _ c.later.progress.left c.transactions_item-tx.result _ _ _ _ c.hash_of-hash-in-later.ensures c.proposal_id.ensures c.contains.ensures proposed)
+      (c.in-Ok-judge_next.ensures.exact stored _ (c.later.invariant.read.told ∙ tells) is));
 }
 
 pub returns-in-Err-judge_next : goal.returns-in-Err-judge_next
@@ -99,7 +105,9 @@ returns-in-Err-judge_next g c = record {
       (c.in-Ok.ensures.proposed stored tells stands.indexed) (c.height.ensures.height stored _ _ is) in
       passed-breaks c.args.context.now.spec.now (blocks_of stored) c.args.context.now.parent c.args.block.now c.later.place c.later.progress.left c.later.progress.ext
       c.later.progress.interest c.later.progress.freed (c.later.invariant.judged stored tells stands) c.transactions_item-tx.result c.in-Err-judge_next.stop
-      c.transactions_item-tx.ensures (c.in-Err-judge_next.ensures.exact stored _ (c.later.invariant.read.told ∙ tells) is proposed);
+      c.transactions_item-tx.ensures (subst (λ (comes : Result Passed ℕ). StopsAs comes c.in-Err-judge_next.stop)
+      (judged-asked _ c.later.progress.left c.transactions_item-tx.result _ _ _ _ c.hash_of-hash-in-later.ensures c.proposal_id.ensures c.contains.ensures proposed)
+      (c.in-Err-judge_next.ensures.exact stored _ (c.later.invariant.read.told ∙ tells) is));
 }
 
 pub returns : goal.returns

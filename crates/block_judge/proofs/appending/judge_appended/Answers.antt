@@ -24,9 +24,9 @@ returns g c =
           (record { spec = c.args.context.now.spec.now; entries = c.args.context.now.tree.now.entries; parent = c.args.context.now.parent; block = Some b })
           c.args.tx.now passed.inputs.items)) c.so_far.ensures c.judge_transaction.ensures.copied;
       exact = λ stored tells sees.
-          let site = next_site c.args.context.now.spec.now (branch (blocks_of stored) c.args.context.now.parent) c.args.so_far.now in
+          let site = next_site c.args.context.now.spec.now (branch (blocks_of stored) c.args.context.now.parent) c.args.so_far.now.timestamp c.args.so_far.now.transactions.now in
           subst (λ (comes : Result Passed ℕ). Answers (IsPassed (blocks_of stored) c.args.context.now.parent) comes c.judge_transaction.result)
-          (judged-unasked site c.args.left c.args.tx.now)
+          (judged-unasked site c.args.so_far.now.left c.args.tx.now)
           (c.judge_transaction.ensures.exact stored site tells
-          (site-next stored at c.args.so_far.now (g.C.Cells.rows c.args.context.now.cells.now) (g.S.Cells.rows c.args.cells.now) (ap Some c.so_far.ensures) sees.stands sees.rows_are));
+          (site-next stored at c.args.so_far.now.timestamp c.args.so_far.now.transactions.now (g.C.Cells.rows c.args.context.now.cells.now) (g.S.Cells.rows c.args.so_far.now.cells.now) (ap Some c.so_far.ensures) sees.stands sees.rows_are));
     }

@@ -24,7 +24,7 @@ returns-in-Err g c =
           let site = site_after c.args.context.now.spec.now (branch (blocks_of stored) c.args.context.now.parent) in
           subst (λ (comes : Result Passed ℕ). StopsAs comes c.in-Err.stop)
           (judged-unasked site _ c.args.tx.now ∙ ap (λ (s : Specification). judged_alone site s.max_cycles c.args.tx.now) c.spec.view_is)
-          (c.in-Err.ensures.exact stored site tells (site-alone stored at (g.C.Cells.rows c.args.context.now.cells.now) stands));
+          (c.in-Err.ensures.exact stored site tells (site-alone stored at (g.C.Cells.rows c.args.context.now.cells.now) refl stands));
     }
 
 pub returns-in-Ok : goal.returns-in-Ok
@@ -39,5 +39,5 @@ returns-in-Ok g c =
           pays-and-takes (blocks_of stored) c.args.context.now.parent (judged_alone site c.args.context.now.spec.now.max_cycles c.args.tx.now) c.in-Ok.passed
           (subst (λ (comes : Result Passed ℕ). IsOkAnd comes (λ passes. IsPassed (blocks_of stored) c.args.context.now.parent passes c.in-Ok.passed))
           (judged-unasked site _ c.args.tx.now ∙ ap (λ (s : Specification). judged_alone site s.max_cycles c.args.tx.now) c.spec.view_is)
-          (c.in-Ok.ensures.exact stored site tells (site-alone stored at (g.C.Cells.rows c.args.context.now.cells.now) stands)));
+          (c.in-Ok.ensures.exact stored site tells (site-alone stored at (g.C.Cells.rows c.args.context.now.cells.now) refl stands)));
     }

@@ -19,17 +19,17 @@ returns-in-Err g c = record {
   read = read_as (resolving-stop c.in-Err.stop c.stopped.result c.stopped.ensures) c.in-Err.ensures.read;
   fits = tt;
   rule = λ rule same.
-      tried-resolving c.args.proposed c.in-Err.stop rule (λ number its. c.in-Err.ensures.tried number (ap Err its)) (sym c.stopped.ensures ∙ same_stop same);
+      tried-resolving c.args.judged.now.proposed c.in-Err.stop rule (λ number its. c.in-Err.ensures.tried number (ap Err its)) (sym c.stopped.ensures ∙ same_stop same);
   by_rows = λ proposed.
       let rows = g.C.Cells.rows c.args.cells.now in
-      subst (StopsByRows (has_form c.args.tx.now) (spends_rows rows c.args.tx.now)) (sym c.stopped.ensures)
-      (stops-by-rows c.args.proposed rows c.args.tx.now c.in-Err.stop c.resolve.result proposed c.resolve.ensures.by_rows c.resolve.ensures.tried c.in-Err.is);
+      subst (StopsByRows (has_form c.args.judged.now.tx.now) (spends_rows rows c.args.judged.now.tx.now)) (sym c.stopped.ensures)
+      (stops-by-rows c.args.judged.now.proposed rows c.args.judged.now.tx.now c.in-Err.stop c.resolve.result proposed c.resolve.ensures.by_rows c.resolve.ensures.tried c.in-Err.is);
   copied = tt;
   alone = λ proposed rule same.
-      alone-resolving c.args.proposed c.in-Err.stop rule proposed (λ number its. c.in-Err.ensures.tried number (ap Err its)) (sym c.stopped.ensures ∙ same_stop same);
+      alone-resolving c.args.judged.now.proposed c.in-Err.stop rule proposed (λ number its. c.in-Err.ensures.tried number (ap Err its)) (sym c.stopped.ensures ∙ same_stop same);
   exact = λ stored site told is.
-      subst (StopsAs (judged_where c.args.proposed site c.args.left c.args.tx.now)) (sym c.stopped.ensures)
-      (stops-resolving site c.args.left c.args.tx.now c.args.proposed c.in-Err.stop (c.in-Err.ensures.exact stored site told is));
+      subst (StopsAs (judged_where c.args.judged.now.proposed site c.args.left c.args.judged.now.tx.now)) (sym c.stopped.ensures)
+      (stops-resolving site c.args.left c.args.judged.now.tx.now c.args.judged.now.proposed c.in-Err.stop (c.in-Err.ensures.exact stored site told is));
 }
 
 pub returns-in-Err-run_scripts : goal.returns-in-Err-run_scripts
@@ -39,17 +39,17 @@ returns-in-Err-run_scripts g c = record {
   rule = λ rule same. let its = c.in-Err-run_scripts.ensures.rule rule (as_step same) in (omega (arith, its.0), its.1);
   by_rows = λ proposed.
       later-by-rows _ _ c.in-Err-run_scripts.stop
-      (resolved-by-rows c.args.proposed (g.C.Cells.rows c.args.cells.now) c.args.tx.now c.in-Ok.ok c.resolve.result proposed c.resolve.ensures.by_rows c.in-Ok.is)
+      (resolved-by-rows c.args.judged.now.proposed (g.C.Cells.rows c.args.cells.now) c.args.judged.now.tx.now c.in-Ok.ok c.resolve.result proposed c.resolve.ensures.by_rows c.in-Ok.is)
       (λ rule same. let its = c.in-Err-run_scripts.ensures.rule rule (ap Err same) in omega (arith, its.0));
   copied = tt;
   alone = λ proposed rule same. let its = c.in-Err-run_scripts.ensures.rule rule (as_step same) in inr (omega (arith, its.0), its.1);
   exact = λ stored site told is.
       let its = ap (λ (ok : TxOk). ok.resolved) c.ok.view_is in
       let resolves = c.in-Ok.ensures.exact stored site told is in
-      stops-running site c.args.left c.args.tx.now c.args.proposed _ c.in-Err-run_scripts.stop
-      (its-transaction c.args.tx.now its c.in-Ok.ensures.formed.tx) resolves.0
+      stops-running site c.args.left c.args.judged.now.tx.now c.args.judged.now.proposed _ c.in-Err-run_scripts.stop
+      (its-transaction c.args.judged.now.tx.now its c.in-Ok.ensures.formed.tx) resolves.0
       (c.in-Err-run_scripts.ensures.exact stored (g.C.Cells.rows c.args.cells.now) site (c.resolve.ensures.read.told ∙ told) is
-      (resolved-own (blocks_of stored) c.args.at.now.parent site c.args.tx.now its c.in-Ok.ensures.formed.tx resolves.1.resolved));
+      (resolved-own (blocks_of stored) c.args.at.now.parent site c.args.judged.now.tx.now its c.in-Ok.ensures.formed.tx resolves.1.resolved));
 }
 
 pub returns : goal.returns
@@ -64,20 +64,20 @@ returns g c = record {
   };
   rule = λ rule same. absurd (no_error same);
   by_rows = λ proposed.
-      resolved-by-rows c.args.proposed (g.C.Cells.rows c.args.cells.now) c.args.tx.now c.in-Ok.ok c.resolve.result proposed c.resolve.ensures.by_rows c.in-Ok.is;
+      resolved-by-rows c.args.judged.now.proposed (g.C.Cells.rows c.args.cells.now) c.args.judged.now.tx.now c.in-Ok.ok c.resolve.result proposed c.resolve.ensures.by_rows c.in-Ok.is;
   copied =
-      inputs-of (g.B.Blocks.told c.args.blocks.now) c.args.at.now c.args.tx.now (ap (λ (ok : TxOk). ok.resolved) c.ok.view_is) c.in-Ok.ensures.formed c.in-Ok.ensures.of_rows;
+      inputs-of (g.B.Blocks.told c.args.blocks.now) c.args.at.now c.args.judged.now.tx.now (ap (λ (ok : TxOk). ok.resolved) c.ok.view_is) c.in-Ok.ensures.formed c.in-Ok.ensures.of_rows;
   alone = λ proposed rule same. absurd (no_error same);
   exact = λ stored site told is.
       let its = ap (λ (ok : TxOk). ok.resolved) c.ok.view_is in
       let resolves = c.in-Ok.ensures.exact stored site told is in
-      answers-passed site c.args.left c.args.tx.now c.args.proposed (blocks_of stored) c.args.at.now.parent _ _
-      (its-transaction c.args.tx.now its c.in-Ok.ensures.formed.tx) resolves.0
+      answers-passed site c.args.left c.args.judged.now.tx.now c.args.judged.now.proposed (blocks_of stored) c.args.at.now.parent _ _
+      (its-transaction c.args.judged.now.tx.now its c.in-Ok.ensures.formed.tx) resolves.0
       (c.in-Ok-run_scripts.ensures.exact stored (g.C.Cells.rows c.args.cells.now) site (c.resolve.ensures.read.told ∙ told) is
-      (resolved-own (blocks_of stored) c.args.at.now.parent site c.args.tx.now its c.in-Ok.ensures.formed.tx resolves.1.resolved))
+      (resolved-own (blocks_of stored) c.args.at.now.parent site c.args.judged.now.tx.now its c.in-Ok.ensures.formed.tx resolves.1.resolved))
       (ap (λ (ok : TxOk). ok.fee) c.ok.view_is ∙ resolves.1.fee_is)
       (interest-kept c.in-Ok.ok.interest (ap (λ (ok : TxOk). ok.interest) c.ok.view_is) c.in-Ok.ensures.fits ∙ resolves.1.interest_is)
       (c.freed_with.ensures.freed ∙ ap (sum_by (λ input. input.row.occupied)) c.deref.ensures.value
-      ∙ freed-same (blocks_of stored) c.args.at.now.parent site c.args.tx.now its resolves.1.resolved)
-      (spent-rows (blocks_of stored) c.args.at.now.parent site c.args.tx.now its resolves.1.resolved);
+      ∙ freed-same (blocks_of stored) c.args.at.now.parent site c.args.judged.now.tx.now its resolves.1.resolved)
+      (spent-rows (blocks_of stored) c.args.at.now.parent site c.args.judged.now.tx.now its resolves.1.resolved);
 }

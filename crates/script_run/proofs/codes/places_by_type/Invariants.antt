@@ -5,4 +5,4 @@ use Rattle.script_run.specs.Locating.{typed_with}
 use Rattle.script_run.proofs.codes.places_by_type.Given as goal
 
 abbrev pub invariant-deps : goal.invariant-deps
-invariant-deps l = (hash : List ℕ) → get bytes_eq l.places hash ≡ typed_with hash (length l.deps - l.done) (drop (length l.deps - l.done) l.deps)
+invariant-deps l = (hash : List ℕ) → get bytes_eq l.places hash ≡ typed_with l.second hash (length l.deps - l.done) (drop (length l.deps - l.done) l.deps)

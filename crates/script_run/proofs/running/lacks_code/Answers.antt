@@ -7,4 +7,4 @@ use Rattle.script_run.proofs.running.lacks_code.Goals as goal
 pub returns-in-NoCode : goal.returns-in-NoCode
 returns-in-NoCode c scene shown =
     lacks-code scene c.args.place c.args.group.now.group c.group.inside.script NoCode (ap (λ (it : GroupValue). it.group.script) c.group.view_is)
-    (sym c.is_type_id.ensures ∙ c.if-is_type_id.false) (c.in-NoCode.ensures scene.deps shown)
+    (sym c.is_type_id.ensures ∙ c.if-is_type_id.false) (c.in-NoCode.ensures scene shown)

@@ -12,7 +12,7 @@ abbrev pub invariant-groups : goal.invariant-groups
 invariant-groups g l = record {
   read : HasRead g.B.Blocks.told g.B.Blocks.count g.B.Blocks.loans_of g.B.Blocks.faults g.B.Blocks.damages l.fn.blocks l.blocks None;
   within : l.used ≤ l.budget;
-  ran : (stored : List Stored) (scene : Scene) → g.B.Blocks.told l.fn.blocks ≡ Some stored → scene_shown l.tx.epoch_length stored l.tx.it ≡ Some scene
+  ran : (stored : List Stored) (scene : Scene) → g.B.Blocks.told l.fn.blocks ≡ Some stored → scene_shown l.tx.second l.tx.epoch_length stored l.tx.it ≡ Some scene
       → All HasItsHash l.groups
       → run_from scene l.budget 0 (map (λ (it : GroupValue). it.group) l.groups)
       ≡ with_cycles l.used (run_from scene (l.budget - l.used) l.i (drop l.i (map (λ (it : GroupValue). it.group) l.groups)));

@@ -1,4 +1,4 @@
-use Rattle.std.proofs.Common.{◌≡◌, ℕ, List, Option, Some, length, refl, ap, sym, subst, ◌∙◌}
+use Rattle.std.proofs.Common.{◌≡◌, ℕ, Bool, List, Option, Some, length, refl, ap, sym, subst, ◌∙◌}
 use Rattle.std.specs.Prelude.{IfSome, IsSome}
 use Rattle.chain_tree.specs.Told.{Stored}
 use Rattle.chain_defs.specs.Specification.{Specification}
@@ -18,9 +18,11 @@ report-requires g c = record {
 pub returns : goal.returns
 returns g c =
     let epoch_length : c.in-Ok.shown.epoch_length ≡ c.args.spec.now.epoch_length = c.in-Ok.ensures.epoch_length ∙ ap (λ (s : Specification). s.epoch_length) c.spec.view_is in
-    let there_too : (stored : List Stored) (scene : Scene) → scene_shown c.args.spec.now.epoch_length stored c.args.tx.now ≡ Some scene
-    → scene_shown c.in-Ok.shown.epoch_length stored c.in-Ok.shown.it ≡ Some scene =
-    λ stored scene there. ap (λ (n : ℕ). scene_shown n stored c.in-Ok.shown.it) epoch_length ∙ ap (scene_shown c.args.spec.now.epoch_length stored) c.in-Ok.ensures.it ∙ there in
+    let there_too : (stored : List Stored) (scene : Scene) → scene_shown c.args.second c.args.spec.now.epoch_length stored c.args.tx.now ≡ Some scene
+    → scene_shown c.in-Ok.shown.second c.in-Ok.shown.epoch_length stored c.in-Ok.shown.it ≡ Some scene =
+    λ stored scene there. ap (λ (n : ℕ). scene_shown c.in-Ok.shown.second n stored c.in-Ok.shown.it) epoch_length
+    ∙ ap (λ (b : Bool). scene_shown b c.args.spec.now.epoch_length stored c.in-Ok.shown.it) c.in-Ok.ensures.second
+    ∙ ap (scene_shown c.args.second c.args.spec.now.epoch_length stored) c.in-Ok.ensures.it ∙ there in
     record {
       read = c.run_shown.ensures.read;
       within = c.run_shown.ensures.within;
@@ -39,7 +41,7 @@ returns-in-Err g c = record {
   undamaged = λ stored scene tells there.
       let long : length stored ≡ length c.args.tree.now.entries =
       subst (λ (told : Option (List Stored)). IfSome told (λ all. length all ≡ g.B.Blocks.count c.args.blocks.now)) tells (g.met.B.Blocks.told_all c.args.blocks.now) ∙ c.requires.counts in
-      fit-no-damage _ (c.in-Err.ensures.fit (shown-fits c.args.tree.now.entries c.args.spec.now.epoch_length stored c.args.tx.now scene long there));
+      fit-no-damage _ (c.in-Err.ensures.fit (shown-fits c.args.tree.now.entries c.args.second c.args.spec.now.epoch_length stored c.args.tx.now scene long there));
   fit = λ told fits. fit-no-damage _ (c.in-Err.ensures.fit fits);
 }
 

@@ -14,7 +14,7 @@ use Rattle.script_run.proofs.world.run_code.Goals as goal
 
 pub returns-in-Ok-clause-came : goal.returns-in-Ok-clause-came
 returns-in-Ok-clause-came g c = λ stored scene tells shown hash.
-    c.in-Ok.ensures.came _ (told-is c.args.tx.now.epoch_length c.args.tx.now.it c.args.group.now (g.B.Blocks.told c.args.blocks.now) stored scene tells shown)
+    c.in-Ok.ensures.came _ (told-is c.args.tx.now.second c.args.tx.now.epoch_length c.args.tx.now.it c.args.group.now (g.B.Blocks.told c.args.blocks.now) stored scene tells shown)
     ∙ ap (λ (items : Items). execution (syscall items) c.args.budget c.args.code.now) (same-items scene c.args.group.now hash)
 
 pub returns-in-Err-Running-clause-read : goal.returns-in-Err-Running-clause-read

@@ -3,7 +3,6 @@ use Rattle.chain_defs.specs.Shape.{IsA}
 use Rattle.chain_defs.specs.Schema.{Header, header}
 use Rattle.chain_defs.specs.Specification.{Specification}
 use Rattle.chain_defs.specs.Branch.{branch}
-use Rattle.pool_defs.specs.Start.{next_timestamp}
 use Rattle.tx_rules.proofs.BranchLemmas.{branch-long}
 use Rattle.pool_rows.proofs.Fits.{of-value}
 use Rattle.tx_pool.proofs.SealingLemmas.{header-same, epoch-same}
@@ -23,6 +22,6 @@ returns-clause-header c kept indexes =
     of-value c.header_row.result
     (λ row is. subst (λ (h : Header). IsA header row.items h)
     (header-same c.args.spec.now kept c.args.tree.now.entries c.args.parent c.entry-before.result.now c.args.commitments.now c.spec.inside.compact_target
-    c.timestamp_after-timestamp.result (c.entry-before.result.now.number + 1) c.field-epoch.result indexes there (ap (λ (spec : Specification). spec.compact_target) c.spec.view_is)
-    (c.timestamp_after-timestamp.ensures ∙ ap next_timestamp (c.median.ensures.of_blocks kept indexes)) high epoch) is)
+    c.timestamp_on-timestamp.result (c.entry-before.result.now.number + 1) c.field-epoch.result indexes there (ap (λ (spec : Specification). spec.compact_target) c.spec.view_is)
+    (c.timestamp_on-timestamp.ensures kept indexes) high epoch) is)
     c.header_row.ensures.header

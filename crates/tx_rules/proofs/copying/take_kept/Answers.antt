@@ -1,4 +1,4 @@
-use Rattle.std.proofs.Common.{◌≡◌, List, Option, Some, Err, ap, ◌∙◌, subst}
+use Rattle.std.proofs.Common.{◌≡◌, List, Option, Some, Err, ap, subst}
 use Rattle.chain_tree.specs.Told.{Stored}
 use Rattle.tx_rules.specs.Copying.{IsBlockAt}
 use Rattle.outside.proofs.Endings.{is_told, handed, no_answer}

@@ -5,6 +5,6 @@ use Rattle.tx_rules.proofs.copying.take_read.Given as goal
 
 abbrev pub invariant-order : goal.invariant-order
 invariant-order l = record {
-  long : length l.taken ≡ length l.rows;
-  taken : (told : Option (List Stored)) → IsBlockAt told l.block l.read → AreTaken told l.at l.rows l.fn.taken → AreTaken told l.at l.rows l.taken;
+  long : length l.taken ≡ length l.these.rows.now;
+  taken : (told : Option (List Stored)) → IsBlockAt told l.block l.read → AreTaken told l.at l.these.rows.now l.fn.taken → AreTaken told l.at l.these.rows.now l.taken;
 }

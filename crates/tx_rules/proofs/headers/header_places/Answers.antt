@@ -8,7 +8,7 @@ use Rattle.chain_defs.specs.Branch.{branch_places}
 use Rattle.chain_tree.specs.Entries.{place_of_hash}
 use Rattle.chain_tree.specs.Told.{blocks_of}
 use Rattle.rule_defs.specs.Site.{all_there}
-use Rattle.rule_defs.specs.Resolving.{mature_ancestor, header_heights}
+use Rattle.rule_defs.specs.Resolving.{named_ancestor, header_heights}
 use Rattle.tx_rules.proofs.AllThere.{take-push, all_there-map, there-more, there-none, there-all}
 use Rattle.tx_rules.proofs.HeaderLemmas.{zip-push}
 use Rattle.tx_rules.proofs.headers.header_places.Goals as goal
@@ -26,10 +26,10 @@ returns-in-None c = record {
   found = tt;
   heights = λ stored rows site is.
       let place : ℕ → ℕ = slice_index (branch_places (blocks_of stored) c.args.at.now.parent) in
-      let at : List ℕ → Option ℕ = λ hash. option_map place (mature_ancestor site hash) in
-      let none : at c.header_dep_at.result ≡ None = sym (c.mature_place.ensures.height stored rows site is) ∙ c.in-None.is in
+      let at : List ℕ → Option ℕ = λ hash. option_map place (named_ancestor site hash) in
+      let none : at c.header_dep_at.result ≡ None = sym (c.header_place.ensures.height stored rows site is) ∙ c.in-None.is in
       sym (there-none at c.args.tx.now.raw.header_deps c.deps.i c.header_dep_at.result c.header_dep_at.ensures none)
-      ∙ all_there-map at (mature_ancestor site) place c.args.tx.now.raw.header_deps (λ hash. refl);
+      ∙ all_there-map at (named_ancestor site) place c.args.tx.now.raw.header_deps (λ hash. refl);
 }
 
 pub returns-then-is_err : goal.returns-then-is_err
@@ -52,9 +52,9 @@ deps-preserved c =
           c.in-Some.ensures.found));
       heights = λ stored rows site is.
           ap (λ (places : List ℕ). Some places) items
-          ∙ there-more (λ h. option_map (slice_index (branch_places (blocks_of stored) c.args.at.now.parent)) (mature_ancestor site h)) hashes c.deps.i hash c.in-Some.place
+          ∙ there-more (λ h. option_map (slice_index (branch_places (blocks_of stored) c.args.at.now.parent)) (named_ancestor site h)) hashes c.deps.i hash c.in-Some.place
           c.deps.places.items (c.deps.invariant.heights stored rows site is) c.header_dep_at.ensures
-          (sym (c.mature_place.ensures.height stored rows site is) ∙ c.in-Some.is);
+          (sym (c.header_place.ensures.height stored rows site is) ∙ c.in-Some.is);
     }
 
 pub returns : goal.returns
@@ -68,7 +68,7 @@ returns c =
           (take_all c.deps.i c.args.tx.now.raw.header_deps all) c.deps.invariant.found;
       heights = λ stored rows site is.
           let place : ℕ → ℕ = slice_index (branch_places (blocks_of stored) c.args.at.now.parent) in
-          let at : List ℕ → Option ℕ = λ hash. option_map place (mature_ancestor site hash) in
+          let at : List ℕ → Option ℕ = λ hash. option_map place (named_ancestor site hash) in
           there-all at c.args.tx.now.raw.header_deps c.deps.i c.deps.places.items all (c.deps.invariant.heights stored rows site is)
-          ∙ all_there-map at (mature_ancestor site) place c.args.tx.now.raw.header_deps (λ hash. refl);
+          ∙ all_there-map at (named_ancestor site) place c.args.tx.now.raw.header_deps (λ hash. refl);
     }

@@ -15,23 +15,23 @@ use Rattle.tx_rules.proofs.RowRuleLemmas.{later-stops, follows-on, follows-behin
 use Rattle.tx_rules.proofs.resolving.resolve.Goals as goal
 
 pub from_encoding-requires : goal.from_encoding-requires
-from_encoding-requires g c = (c.args.tx.now, c.bytes.ensures)
+from_encoding-requires g c = (c.args.judged.now.tx.now, c.bytes.ensures)
 
 pub copy_cells-requires-clause-each : goal.copy_cells-requires-clause-each
 copy_cells-requires-clause-each g c =
-    all_there-long (λ (input : CellInput). find_row (g.C.Cells.rows c.args.cells.now) input.previous_output) c.args.tx.now.raw.inputs c.in-Ok.found.spent.items
-    (rows-named (g.C.Cells.rows c.args.cells.now) c.args.tx.now c.in-Ok.found.spent.items c.in-Ok.ensures.spent)
+    all_there-long (λ (input : CellInput). find_row (g.C.Cells.rows c.args.cells.now) input.previous_output) c.args.judged.now.tx.now.raw.inputs c.in-Ok.found.spent.items
+    (rows-named (g.C.Cells.rows c.args.cells.now) c.args.judged.now.tx.now c.in-Ok.found.spent.items c.in-Ok.ensures.spent)
 
 pub returns-in-Err : goal.returns-in-Err
 returns-in-Err g c = record {
   read = c.in-Err.ensures.read;
   formed = tt;
   of_rows = tt;
-  tried = λ rule same. tried-of c.args.proposed _ rule c.in-Err.ensures.stops same;
-  by_rows = follows-on c.args.proposed (g.C.Cells.rows c.args.cells.now) c.args.tx.now c.in-Err.stop c.in-Err.ensures.by_rows;
+  tried = λ rule same. tried-of c.args.judged.now.proposed _ rule c.in-Err.ensures.stops same;
+  by_rows = follows-on c.args.judged.now.proposed (g.C.Cells.rows c.args.cells.now) c.args.judged.now.tx.now c.in-Err.stop c.in-Err.ensures.by_rows;
   fits = tt;
   exact = λ stored site told is.
-      stops-front (finding_rules c.args.proposed site c.args.tx.now) (paying_rules site c.args.tx.now) c.in-Err.stop (c.in-Err.ensures.exact stored site told is);
+      stops-front (finding_rules c.args.judged.now.proposed site c.args.judged.now.tx.now) (paying_rules site c.args.judged.now.tx.now) c.in-Err.stop (c.in-Err.ensures.exact stored site told is);
 }
 
 pub returns-in-Err-copy_cells : goal.returns-in-Err-copy_cells
@@ -39,12 +39,12 @@ returns-in-Err-copy_cells g c = record {
   read = read_on c.in-Ok.ensures.read c.in-Err-copy_cells.ensures.read;
   formed = tt;
   of_rows = tt;
-  tried = λ rule same. tried-of c.args.proposed _ rule (later-stops c.args.proposed c.in-Err-copy_cells.stop c.in-Err-copy_cells.ensures.later) same;
-  by_rows = follows-behind c.args.proposed (g.C.Cells.rows c.args.cells.now) c.args.tx.now c.in-Ok.found _ c.in-Ok.ensures.by_rows c.in-Err-copy_cells.ensures.later;
+  tried = λ rule same. tried-of c.args.judged.now.proposed _ rule (later-stops c.args.judged.now.proposed c.in-Err-copy_cells.stop c.in-Err-copy_cells.ensures.later) same;
+  by_rows = follows-behind c.args.judged.now.proposed (g.C.Cells.rows c.args.cells.now) c.args.judged.now.tx.now c.in-Ok.found _ c.in-Ok.ensures.by_rows c.in-Err-copy_cells.ensures.later;
   fits = tt;
   exact = λ stored site told is.
       let found = c.in-Ok.ensures.exact stored site told is in
-      stops-back (finding_rules c.args.proposed site c.args.tx.now) (paying_rules site c.args.tx.now) c.in-Err-copy_cells.stop found.0
+      stops-back (finding_rules c.args.judged.now.proposed site c.args.judged.now.tx.now) (paying_rules site c.args.judged.now.tx.now) c.in-Err-copy_cells.stop found.0
       (c.in-Err-copy_cells.ensures.exact stored (g.C.Cells.rows c.args.cells.now) site (c.in-Ok.ensures.read.told ∙ told) is found.1);
 }
 
@@ -53,9 +53,9 @@ returns g c = record {
   read = read_on c.in-Ok.ensures.read c.in-Ok-copy_cells.ensures.read;
   formed = record {
     form = c.in-Ok.ensures.form;
-    tx = c.from_encoding.ensures c.args.tx.now c.bytes.ensures;
+    tx = c.from_encoding.ensures c.args.judged.now.tx.now c.bytes.ensures;
     hash = c.requires.hash;
-    inputs = copied-inputs (g.C.Cells.rows c.args.cells.now) c.args.tx.now c.in-Ok.found.spent.items c.in-Ok-copy_cells.copied.inputs.items c.in-Ok.ensures.spent c.in-Ok-copy_cells.ensures.rows;
+    inputs = copied-inputs (g.C.Cells.rows c.args.cells.now) c.args.judged.now.tx.now c.in-Ok.found.spent.items c.in-Ok-copy_cells.copied.inputs.items c.in-Ok.ensures.spent c.in-Ok-copy_cells.ensures.rows;
     headers = c.in-Ok.ensures.headers;
     outputs = c.in-Ok-copy_cells.ensures.outputs;
   };
@@ -63,13 +63,13 @@ returns g c = record {
       subst (λ (told : Option (List Stored)). All (CopiesItsRow told c.args.at.now) (c.in-Ok-copy_cells.copied.inputs.items ++ c.in-Ok-copy_cells.copied.deps.items))
       c.in-Ok.ensures.read.told c.in-Ok-copy_cells.ensures.of_rows;
   tried = λ rule same. absurd (no_answer _ _ same);
-  by_rows = follows-behind c.args.proposed (g.C.Cells.rows c.args.cells.now) c.args.tx.now c.in-Ok.found _ c.in-Ok.ensures.by_rows tt;
+  by_rows = follows-behind c.args.judged.now.proposed (g.C.Cells.rows c.args.cells.now) c.args.judged.now.tx.now c.in-Ok.found _ c.in-Ok.ensures.by_rows tt;
   fits =
       subst (λ (z : ℤ). nat_abs z < 2 ^ 96) (sym (to_z-of_z w128 c.in-Ok-copy_cells.copied.balance.interest (search rules))) c.in-Ok-copy_cells.ensures.fits;
   exact = λ stored site told is.
       let found = c.in-Ok.ensures.exact stored site told is in
       let copied = c.in-Ok-copy_cells.ensures.exact stored (g.C.Cells.rows c.args.cells.now) site (c.in-Ok.ensures.read.told ∙ told) is found.1 in (
-        keeps-all (finding_rules c.args.proposed site c.args.tx.now) (paying_rules site c.args.tx.now) found.0 copied.0,
+        keeps-all (finding_rules c.args.judged.now.proposed site c.args.judged.now.tx.now) (paying_rules site c.args.judged.now.tx.now) found.0 copied.0,
         record {
           resolved = record { inputs_are = copied.1.inputs_are; deps_are = copied.1.deps_are; headers_are = found.1.others.places_are };
           fee_is = copied.1.paid.fee_is;

@@ -13,7 +13,7 @@ returns-in-Err c = record {
   named = λ stored rows site is each are. tt;
   undamaged = λ stored rows site is each are damage same.
       let copy = copy-at (blocks_of stored) c.args.at.now.parent site c.args.tx.now c.args.copies.now c.inputs.i c.index-copies-i.result each c.inputs-test.true c.index-copies-i.is in
-      c.in-Err.ensures.undamaged stored rows site copy.found is (c.height-height.ensures.height stored rows site is) copy.row copy.bytes c.in-Err.damage refl;
+      c.in-Err.ensures.undamaged stored rows site copy.found is copy.row copy.bytes c.in-Err.damage refl;
   damage = λ damage same. c.in-Err.ensures.damage damage (handed c.in-Err.damage _ same);
 }
 
@@ -21,13 +21,13 @@ pub returns-in-Ok-false-clause-named : goal.returns-in-Ok-false-clause-named
 returns-in-Ok-false-clause-named c stored rows site is each are =
     let copy = copy-at (blocks_of stored) c.args.at.now.parent site c.args.tx.now c.args.copies.now c.inputs.i c.index-copies-i.result each c.inputs-test.true c.index-copies-i.is in
     all-fails (withdraws_well site c.args.tx.now) (inputs site c.args.tx.now) c.inputs.i copy.found _ (c.inputs.invariant stored rows site is each are) copy.there
-    (sym (c.in-Ok-false.ensures.well stored rows site copy.found is (c.height-height.ensures.height stored rows site is) are copy.row copy.bytes) ∙ c.in-Ok-false.field-0-test)
+    (sym (c.in-Ok-false.ensures.well stored rows site copy.found is are copy.row copy.bytes) ∙ c.in-Ok-false.field-0-test)
 
 pub inputs-preserved : goal.inputs-preserved
 inputs-preserved c stored rows site is each are =
     let copy = copy-at (blocks_of stored) c.args.at.now.parent site c.args.tx.now c.args.copies.now c.inputs.i c.index-copies-i.result each c.inputs-test.true c.index-copies-i.is in
     all-goes-on (withdraws_well site c.args.tx.now) (inputs site c.args.tx.now) c.inputs.i copy.found _ (c.inputs.invariant stored rows site is each are) copy.there
-    (sym (c.in-Ok-true.ensures.well stored rows site copy.found is (c.height-height.ensures.height stored rows site is) are copy.row copy.bytes) ∙ c.in-Ok-true.field-0-test)
+    (sym (c.in-Ok-true.ensures.well stored rows site copy.found is are copy.row copy.bytes) ∙ c.in-Ok-true.field-0-test)
 
 pub returns-clause-named : goal.returns-clause-named
 returns-clause-named c stored rows site is each are =

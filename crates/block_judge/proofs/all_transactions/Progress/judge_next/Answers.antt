@@ -1,13 +1,9 @@
-use Rattle.std.proofs.Common.{Result, length, ap, ◌∙◌, subst, arith, rules}
-use Rattle.std.specs.Prelude.{ℕ, IsOkAnd}
+use Rattle.std.proofs.Common.{length, ap, ◌∙◌, arith, rules}
 use Rattle.std.proofs.lemmas.List.{length_push}
-use Rattle.chain_tree.specs.Told.{blocks_of}
 use Rattle.chain_tree.proofs.ReadLemmas.{read_short}
-use Rattle.verdict_defs.specs.Judged.{Passed}
-use Rattle.block_judge.specs.Answers.{IsPassed, StopsAs}
 use Rattle.block_judge.proofs.Exits.{as_step, no_error, no_rule}
 use Rattle.block_judge.proofs.MovedLemmas.{can-move-one}
-use Rattle.block_judge.proofs.NextLemmas.{is-taken, judged-asked}
+use Rattle.block_judge.proofs.NextLemmas.{is-taken}
 use Rattle.block_judge.proofs.all_transactions.Progress.judge_next.Goals as goal
 
 pub judge_transaction-requires-clause-left : goal.judge_transaction-requires-clause-left
@@ -27,11 +23,7 @@ returns-in-Err g c = record {
   moved = tt;
   fees = tt;
   rows = tt;
-  exact = λ stored site told is proposed.
-      subst (λ (comes : Result Passed ℕ). StopsAs comes c.in-Err.stop)
-      (judged-asked site c.args.self.now.left c.args.tx.now c.contains-is_proposed.result c.args.proposed.now c.proposal_id.result c.args.hash.now
-      c.requires.hash c.proposal_id.ensures c.contains-is_proposed.ensures proposed)
-      (c.in-Err.ensures.exact stored site told is);
+  exact = λ stored site told is. c.in-Err.ensures.exact stored site told is;
 }
 
 pub returns : goal.returns
@@ -42,7 +34,7 @@ returns g c = record {
   moved = tt;
   fees = tt;
   rows = tt;
-  exact = λ stored site told is proposed. tt;
+  exact = λ stored site told is. tt;
 }
 
 pub returns-in-Ok-take : goal.returns-in-Ok-take
@@ -53,12 +45,7 @@ returns-in-Ok-take g c = record {
   moved = c.in-Ok-take.ensures.moved;
   fees = ap length c.in-Ok-take.ensures.taken.fees_are ∙ length_push _ _;
   rows = search rules;
-  exact = λ stored site told is proposed.
-      is-taken stored c.args.at.now _ site c.args.self.now.left c.args.tx.now c.in-Ok.passed c.len.result _ _ c.requires.placed.parent is
-      (c.len.ensures.len ∙ ap (λ at. length at.entries) c.at.view_is)
-      (subst (λ (comes : Result Passed ℕ). IsOkAnd comes (λ passes. IsPassed (blocks_of stored) c.args.at.now.parent passes c.in-Ok.passed))
-      (judged-asked site c.args.self.now.left c.args.tx.now c.contains-is_proposed.result c.args.proposed.now c.proposal_id.result c.args.hash.now
-      c.requires.hash c.proposal_id.ensures c.contains-is_proposed.ensures proposed)
-      (c.in-Ok.ensures.exact stored site told is))
-      c.in-Ok-take.ensures.taken;
+  exact = λ stored site told is.
+      is-taken stored c.args.at.now _ site c.args.self.now.left c.args.judged.now.tx.now c.args.judged.now.proposed c.in-Ok.passed c.len.result _ _ c.requires.placed.parent is
+      (c.len.ensures.len ∙ ap (λ at. length at.entries) c.at.view_is) (c.in-Ok.ensures.exact stored site told is) c.in-Ok-take.ensures.taken;
 }

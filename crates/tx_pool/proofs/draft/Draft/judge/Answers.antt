@@ -28,7 +28,7 @@ returns-in-Ok-commit-clause-judged g c stored so_far tells is begins proposed =
 
 pub returns-in-Err-Read-clause-undamaged : goal.returns-in-Err-Read-clause-undamaged
 returns-in-Err-Read-clause-undamaged g c stored so_far tells is damage same =
-    subst (StopsAs (judged_alone (next_site c.args.context.now.spec.now (branch (blocks_of stored) c.args.context.now.parent) c.deref.result.now) c.args.self.now.left c.args.tx.now))
+    subst (StopsAs (judged_alone (next_site c.args.context.now.spec.now (branch (blocks_of stored) c.args.context.now.parent) c.args.self.now.timestamp c.deref.result.now) c.args.self.now.left c.args.tx.now))
     (c.in-Err-Read.field-0-is ∙ ap Read (sym c.in-Err-Read.stop-is ∙ same_stop same))
     (c.in-Err-Read.ensures.exact stored tells (sees-as stored (seen g.C.Cells.rows c.args.context.now) so_far (draft_of g.C.Cells.rows c.args.self.now) is c.args.tx.now
     c.deref.result.now c.deref.ensures.value))

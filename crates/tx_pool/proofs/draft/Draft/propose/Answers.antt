@@ -32,6 +32,6 @@ returns-clause-proposed g c stored so_far is t same =
     so-far-as stored (seen g.C.Cells.rows c.args.context.now) _ _ _
     (propose-fits stored (seen g.C.Cells.rows c.args.context.now) so_far (draft_of g.C.Cells.rows c.args.self.now) is c.requires.fits t c.args.id.now same c.told-id
     (omega (arith, c.if-self-from.false, most, c.from.ensures)) (omega (arith, c.if-count-from.false, many, c.from-else-self-from.ensures, c.len.ensures)) new)
-    (proposed-so-far stored (seen g.C.Cells.rows c.args.context.now) so_far (draft_of g.C.Cells.rows c.args.self.now) is c.requires.fits c.args.id.now _ c.told-id new refl refl
+    (proposed-so-far stored (seen g.C.Cells.rows c.args.context.now) so_far (draft_of g.C.Cells.rows c.args.self.now) is c.requires.fits c.args.id.now _ c.told-id new refl refl refl
     (λ hash. refl) c.in_ok-push.ensures.items
     (λ other. c.in_ok-insert.ensures.updates.0 other ∙ or-cond (contains bytes_eq c.args.self.now.ids other) (bytes_eq c.args.id.now other)) refl refl refl refl)
