@@ -50,6 +50,7 @@ pub(crate) fn specification() -> Spec
         secondary_reward: 100_000_000_000,
         halving_interval: 1_000,
         dao_code_hash: [0xda; 32],
+        second_from: None,
     }
 }
 

@@ -1,12 +1,13 @@
 -- What the records of a log say.
 use Rattle.std.proofs.Common.{◌≡◌, ℕ, suc, ◌+◌, ◌≤◌, Bool, true, false, cond, leb, List, [], ◌∷◌, ◌++◌, length, take, drop, Option, Some, None, refl, sym, ap, ◌∙◌, subst, arith}
-use Rattle.std.specs.Prelude.{◌&&◌, ◌==◌, is_none}
+use Rattle.std.specs.Prelude.{◌&&◌, ◌==◌, not, is_none}
 use Rattle.std.specs.Option.{option_map, option_and_then}
 use Rattle.std.specs.Str.{bytes_eq}
 use Rattle.std.specs.Int.{w32, to_le_bytes}
-use Rattle.std.proofs.lemmas.Bool.{le-leb, and_from, and_parts}
-use Rattle.std.proofs.lemmas.List.{length-append, take_at, drop_at, drop-drop, length_push}
-use Rattle.std.proofs.lemmas.Nat.{from_le_bytes-to_le_bytes_4}
+use Rattle.std.proofs.lemmas.Bool.{le-leb, leb-true, eqb-true, and_from, and_parts}
+use Rattle.std.proofs.lemmas.List.Elements.{filter-append}
+use Rattle.std.proofs.lemmas.List.{append-nil, length-append, take_at, drop_at, drop-drop, length_push}
+use Rattle.std.proofs.lemmas.Nat.{from_le_bytes-to_le_bytes_4, from_le_bytes-to_le_bytes_8}
 use Rattle.std.specs.Cmp.Lexicographic.{bytes_decides}
 use Rattle.chain_defs.specs.Shape.{decoded}
 use Rattle.chain_defs.specs.Schema.{Block, block}
@@ -14,9 +15,9 @@ use Rattle.chain_defs.specs.Specification.{broken_specification_rule}
 use Rattle.rule_defs.specs.Genesis.{broken_by, broken_genesis_rule}
 use Rattle.chain_defs.specs.Kept.{block_list, blocks_of_item}
 use Rattle.cell_defs.specs.Ext.{count_at}
-use Rattle.disk_defs.specs.Log.{Record, LogContent, record_limit, records_of, magic, log_of, content_of_records, are_first, blocks_over, block_of_record, body_of_parts, parts_of_body}
+use Rattle.disk_defs.specs.Log.{Record, LogContent, record_limit, records_of, magic, log_of, content_of_records, are_first, blocks_over, block_if, block_of_parts, block_of_record, body_of_parts, parts_of_body, is_of_edition, of_editions, of_blocks, at_most_one, first_epoch, may_be_later}
 use Rattle.disk_defs.specs.Rest.{EndsAt}
-use Rattle.disk_defs.specs.LogLaws.{GivesTheParts, SaysItsRecords, AddsABlock, IsWellBegun, BeginsWell, grown}
+use Rattle.disk_defs.specs.LogLaws.{GivesTheParts, SaysItsRecords, IsSaidBy, SaysByParts, AddsABlock, AddsAnEdition, EditionsAreKept, EpochIsTold, BeginsWell, grown, edited}
 
 pub gives_the_parts : GivesTheParts
 unfolding parts_of_body
@@ -57,29 +58,133 @@ blocks-push kept (first ∷ records) r all b over stands = by_found (λ x. block
 abbrev pub said : Record → Record → List Record → Option (List Block) → Option LogContent
 said one two records blocks = option_map (λ blocks. record { specification = one.body; genesis = two.body; records = records; blocks = blocks }) blocks
 
-pub adds_a_block : AddsABlock
-adds_a_block [] r log b says stands below = absurd (cc)
-adds_a_block (one ∷ []) r log b says stands below = absurd (cc)
-adds_a_block (one ∷ two ∷ records) r log b says stands below =
-    by_test (are_first one two && leb (length records) record_limit) refl says
-  where
-    by_blocks : are_first one two ≡ true → (o : Option (List Block)) → blocks_over (blocks_of_item two.body) records ≡ o → said one two records o ≡ Some log
-        → content_of_records (one ∷ two ∷ records ++ r ∷ []) ≡ Some (grown log r b)
-    by_blocks first None is says = absurd (cc)
-    by_blocks first (Some blocks) is says =
-        let same : record { specification = one.body; genesis = two.body; records = records; blocks = blocks } ≡ log = (cc) in
-        let room : length (records ++ r ∷ []) ≤ record_limit = omega (arith, length_push records r, ap (λ (l : LogContent). length l.records) same, below) in
-        let test : (are_first one two && leb (length (records ++ r ∷ [])) record_limit) ≡ true =
-        and_from (are_first one two) (leb (length (records ++ r ∷ [])) record_limit) first (le-leb (length (records ++ r ∷ [])) record_limit room) in
-        let here : block_of_record blocks r ≡ Some b = subst (λ (l : LogContent). block_of_record l.blocks r ≡ Some b) (sym same) stands in
-        let over : blocks_over (blocks_of_item two.body) (records ++ r ∷ []) ≡ Some (blocks ++ b ∷ []) = blocks-push (blocks_of_item two.body) records r blocks b is here in
-        ap (λ (t : Bool). cond t (said one two (records ++ r ∷ []) (blocks_over (blocks_of_item two.body) (records ++ r ∷ []))) None) test
-        ∙ ap (said one two (records ++ r ∷ [])) over ∙ ap (λ (l : LogContent). Some (grown l r b)) same
+-- ---- What they say, by its parts
 
-    by_test : (t : Bool) → (are_first one two && leb (length records) record_limit) ≡ t
-        → cond t (said one two records (blocks_over (blocks_of_item two.body) records)) None ≡ Some log → content_of_records (one ∷ two ∷ records ++ r ∷ []) ≡ Some (grown log r b)
+said_parts : (records : List Record) (log : LogContent) → content_of_records records ≡ Some log → IsSaidBy records log
+said_parts [] log says = absurd (cc)
+said_parts (one ∷ []) log says = absurd (cc)
+said_parts (one ∷ two ∷ records) log says = by_test (are_first one two && may_be_later records) refl says
+  where
+    by_blocks : are_first one two ≡ true → may_be_later records ≡ true → (o : Option (List Block)) → blocks_over (blocks_of_item two.body) (of_blocks records) ≡ o
+        → said one two records o ≡ Some log → IsSaidBy (one ∷ two ∷ records) log
+    by_blocks first later None is says = absurd (cc)
+    by_blocks first later (Some blocks) is says =
+        let content : LogContent = record { specification = one.body; genesis = two.body; records = records; blocks = blocks } in
+        let same : content ≡ log = (cc) in
+        let parts = and_parts (leb (length (of_blocks records)) record_limit) (at_most_one (of_editions records)) later in
+        subst (IsSaidBy (one ∷ two ∷ records)) same (record {
+          one = one;
+          two = two;
+          all = refl;
+          first = first;
+          specification = refl;
+          genesis = refl;
+          room = leb-true (length (of_blocks records)) record_limit parts.0;
+          once = parts.1;
+          over = is;
+        })
+
+    by_test : (t : Bool) → (are_first one two && may_be_later records) ≡ t
+        → cond t (said one two records (blocks_over (blocks_of_item two.body) (of_blocks records))) None ≡ Some log → IsSaidBy (one ∷ two ∷ records) log
     by_test false is says = absurd (cc)
-    by_test true is says = by_blocks (and_parts (are_first one two) (leb (length records) record_limit) is).0 (blocks_over (blocks_of_item two.body) records) refl says
+    by_test true is says =
+        let both = and_parts (are_first one two) (may_be_later records) is in
+        by_blocks both.0 both.1 (blocks_over (blocks_of_item two.body) (of_blocks records)) refl says
+
+parts_say : (records : List Record) (log : LogContent) → IsSaidBy records log → content_of_records records ≡ Some log
+parts_say records log is =
+    let one : Record = is.one in
+    let two : Record = is.two in
+    let later : may_be_later log.records ≡ true =
+    and_from (leb (length (of_blocks log.records)) record_limit) (at_most_one (of_editions log.records)) (le-leb (length (of_blocks log.records)) record_limit is.room) is.once in
+    let test : (are_first one two && may_be_later log.records) ≡ true = and_from (are_first one two) (may_be_later log.records) is.first later in
+    let over : blocks_over (blocks_of_item two.body) (of_blocks log.records) ≡ Some log.blocks =
+    ap (λ (item : List ℕ). blocks_over (blocks_of_item item) (of_blocks log.records)) is.genesis ∙ is.over in
+    ap content_of_records is.all
+    ∙ ap (λ (t : Bool). cond t (said one two log.records (blocks_over (blocks_of_item two.body) (of_blocks log.records))) None) test
+    ∙ ap (said one two log.records) over
+    ∙ (λ i. Some (record { specification = is.specification i; genesis = is.genesis i; records = log.records; blocks = log.blocks }))
+
+pub says_by_parts : SaysByParts
+says_by_parts records log = (said_parts records log, parts_say records log)
+
+-- ---- The edition among records
+
+pub blocks_of_more : (records : List Record) (r : Record) → is_of_edition r ≡ false → of_blocks (records ++ r ∷ []) ≡ of_blocks records ++ r ∷ []
+blocks_of_more records r other =
+    filter-append (λ (x : Record). not (is_of_edition x)) records (r ∷ [])
+    ∙ ap (λ (t : Bool). of_blocks records ++ cond (not t) (r ∷ []) []) other
+
+pub blocks_of_same : (records : List Record) (r : Record) → is_of_edition r ≡ true → of_blocks (records ++ r ∷ []) ≡ of_blocks records
+blocks_of_same records r is =
+    filter-append (λ (x : Record). not (is_of_edition x)) records (r ∷ [])
+    ∙ ap (λ (t : Bool). of_blocks records ++ cond (not t) (r ∷ []) []) is
+    ∙ append-nil (of_blocks records)
+
+pub editions_of_same : (records : List Record) (r : Record) → is_of_edition r ≡ false → of_editions (records ++ r ∷ []) ≡ of_editions records
+editions_of_same records r other =
+    filter-append is_of_edition records (r ∷ []) ∙ ap (λ (t : Bool). of_editions records ++ cond t (r ∷ []) []) other ∙ append-nil (of_editions records)
+
+pub editions_of_more : (records : List Record) (r : Record) → is_of_edition r ≡ true → of_editions (records ++ r ∷ []) ≡ of_editions records ++ r ∷ []
+editions_of_more records r is =
+    filter-append is_of_edition records (r ∷ []) ∙ ap (λ (t : Bool). of_editions records ++ cond t (r ∷ []) []) is
+
+-- where no epoch is the first, there is none
+pub no_edition : (editions : List Record) → first_epoch editions ≡ None → editions ≡ []
+no_edition [] none = refl
+no_edition (r ∷ more) none = absurd (cc)
+
+-- a record of a block is none of an edition
+pub block_is_other : (kept : List Block) (r : Record) (b : Block) → block_of_record kept r ≡ Some b → is_of_edition r ≡ false
+block_is_other kept r b is = by_kind (r.kind == 3) refl is
+  where
+    by_kind : (t : Bool) → (r.kind == 3) ≡ t → block_if t (block_of_parts kept (parts_of_body r.body)) ≡ Some b → is_of_edition r ≡ false
+    by_kind false kind found = absurd (cc)
+    by_kind true kind found = ap (λ (n : ℕ). n == 4) (eqb-true r.kind 3 kind)
+
+pub adds_a_block : AddsABlock
+adds_a_block records r log b says stands below =
+    let is : IsSaidBy records log = said_parts records log says in
+    let other : is_of_edition r ≡ false = block_is_other log.blocks r b stands in
+    parts_say (records ++ r ∷ []) (grown log r b) (record {
+      one = is.one;
+      two = is.two;
+      all = ap (λ (l : List Record). l ++ r ∷ []) is.all;
+      first = is.first;
+      specification = is.specification;
+      genesis = is.genesis;
+      room = omega (arith, ap length (blocks_of_more log.records r other), length_push (of_blocks log.records) r, below);
+      once = ap at_most_one (editions_of_same log.records r other) ∙ is.once;
+      over = ap (blocks_over (blocks_of_item log.genesis)) (blocks_of_more log.records r other)
+          ∙ blocks-push (blocks_of_item log.genesis) (of_blocks log.records) r log.blocks b is.over stands;
+    })
+
+pub adds_an_edition : AddsAnEdition
+adds_an_edition records r log says none edition =
+    let is : IsSaidBy records log = said_parts records log says in
+    let kind : is_of_edition r ≡ true = (and_parts (is_of_edition r) (length r.body == 8) edition).0 in
+    let alone : of_editions (log.records ++ r ∷ []) ≡ r ∷ [] =
+    editions_of_more log.records r kind ∙ ap (λ (l : List Record). l ++ r ∷ []) (no_edition (of_editions log.records) none) in
+    parts_say (records ++ r ∷ []) (edited log r) (record {
+      one = is.one;
+      two = is.two;
+      all = ap (λ (l : List Record). l ++ r ∷ []) is.all;
+      first = is.first;
+      specification = is.specification;
+      genesis = is.genesis;
+      room = omega (arith, ap length (blocks_of_same log.records r kind), is.room);
+      once = ap at_most_one alone ∙ edition;
+      over = ap (blocks_over (blocks_of_item log.genesis)) (blocks_of_same log.records r kind) ∙ is.over;
+    })
+
+pub editions_are_kept : EditionsAreKept
+editions_are_kept records r = record {
+  same = λ other. ap first_epoch (editions_of_same records r other);
+  told = λ is none. ap first_epoch (editions_of_more records r is ∙ ap (λ (l : List Record). l ++ r ∷ []) (no_edition (of_editions records) none));
+}
+
+pub epoch_is_told : EpochIsTold
+epoch_is_told epoch fits = (refl, from_le_bytes-to_le_bytes_8 epoch fits)
 
 pub ends_say : (place : ℕ) (records : List Record) (bytes : List ℕ) → EndsAt place records bytes → log_of bytes ≡ content_of_records records
 unfolding log_of
@@ -112,51 +217,31 @@ good_genesis one two first =
     (and_parts ((one.kind == 1) && is_none (broken_specification_rule one.body) && (two.kind == 2)) (is_none (broken_genesis_rule two.body)) first).1
 
 -- one more than records of blocks
-pub counts_its_records : (records : List Record) (log : LogContent) → content_of_records records ≡ Some log → length log.blocks ≡ length log.records + 1
-counts_its_records [] log says = absurd (cc)
-counts_its_records (one ∷ []) log says = absurd (cc)
-counts_its_records (one ∷ two ∷ records) log says = by_test (are_first one two && leb (length records) record_limit) refl says
-  where
-    by_blocks : are_first one two ≡ true → (o : Option (List Block)) → blocks_over (blocks_of_item two.body) records ≡ o → said one two records o ≡ Some log
-        → length log.blocks ≡ length log.records + 1
-    by_blocks first None is says = absurd (cc)
-    by_blocks first (Some blocks) is says =
-        let same : record { specification = one.body; genesis = two.body; records = records; blocks = blocks } ≡ log = (cc) in
-        let count : length blocks ≡ length records + 1 =
-        omega (arith, over-length (blocks_of_item two.body) records blocks is, one_genesis two.body (good_genesis one two first)) in
-        subst (λ (l : LogContent). length l.blocks ≡ length l.records + 1) same count
-
-    by_test : (t : Bool) → (are_first one two && leb (length records) record_limit) ≡ t
-        → cond t (said one two records (blocks_over (blocks_of_item two.body) records)) None ≡ Some log → length log.blocks ≡ length log.records + 1
-    by_test false is says = absurd (cc)
-    by_test true is says = by_blocks (and_parts (are_first one two) (leb (length records) record_limit) is).0 (blocks_over (blocks_of_item two.body) records) refl says
+pub counts_its_records : (records : List Record) (log : LogContent) → content_of_records records ≡ Some log
+    → length log.blocks ≡ length (of_blocks log.records) + 1
+counts_its_records records log says =
+    let is : IsSaidBy records log = said_parts records log says in
+    let good : is_none (broken_genesis_rule is.two.body) ≡ true = good_genesis is.one is.two is.first in
+    omega (
+      arith,
+      over-length (blocks_of_item log.genesis) (of_blocks log.records) log.blocks is.over,
+      one_genesis log.genesis (ap (λ (item : List ℕ). is_none (broken_genesis_rule item)) (sym is.genesis) ∙ good),
+    )
 
 none-of : (found : Option ℕ) → is_none found ≡ true → found ≡ None
 none-of None is = refl
 none-of (Some n) is = absurd (cc)
 
 pub begins_well : BeginsWell
-begins_well [] log says = absurd (cc)
-begins_well (one ∷ []) log says = absurd (cc)
-begins_well (one ∷ two ∷ records) log says = by_test (are_first one two && leb (length records) record_limit) refl says
-  where
-    count : length log.blocks ≡ length log.records + 1
-    count = counts_its_records (one ∷ two ∷ records) log says
-
-    by_blocks : are_first one two ≡ true → (o : Option (List Block)) → said one two records o ≡ Some log → IsWellBegun log
-    by_blocks first None is = absurd (cc)
-    by_blocks first (Some blocks) is =
-        let same : record { specification = one.body; genesis = two.body; records = records; blocks = blocks } ≡ log = (cc) in
-        let front = and_parts ((one.kind == 1) && is_none (broken_specification_rule one.body) && (two.kind == 2)) (is_none (broken_genesis_rule two.body)) first in
-        let kinds = and_parts ((one.kind == 1) && is_none (broken_specification_rule one.body)) (two.kind == 2) front.0 in
-        record {
-          specification = ap (λ (l : LogContent). broken_specification_rule l.specification) (sym same)
-              ∙ none-of (broken_specification_rule one.body) (and_parts (one.kind == 1) (is_none (broken_specification_rule one.body)) kinds.0).1;
-          genesis = ap (λ (l : LogContent). broken_genesis_rule l.genesis) (sym same) ∙ none-of (broken_genesis_rule two.body) front.1;
-          blocks = count;
-        }
-
-    by_test : (t : Bool) → (are_first one two && leb (length records) record_limit) ≡ t
-        → cond t (said one two records (blocks_over (blocks_of_item two.body) records)) None ≡ Some log → IsWellBegun log
-    by_test false is says = absurd (cc)
-    by_test true is says = by_blocks (and_parts (are_first one two) (leb (length records) record_limit) is).0 (blocks_over (blocks_of_item two.body) records) says
+begins_well records log says =
+    let is : IsSaidBy records log = said_parts records log says in
+    let one : Record = is.one in
+    let two : Record = is.two in
+    let front = and_parts ((one.kind == 1) && is_none (broken_specification_rule one.body) && (two.kind == 2)) (is_none (broken_genesis_rule two.body)) is.first in
+    let kinds = and_parts ((one.kind == 1) && is_none (broken_specification_rule one.body)) (two.kind == 2) front.0 in
+    record {
+      specification = ap broken_specification_rule (sym is.specification)
+          ∙ none-of (broken_specification_rule one.body) (and_parts (one.kind == 1) (is_none (broken_specification_rule one.body)) kinds.0).1;
+      genesis = ap broken_genesis_rule (sym is.genesis) ∙ none-of (broken_genesis_rule two.body) front.1;
+      blocks = counts_its_records records log says;
+    }

@@ -1,18 +1,19 @@
 -- The log (docs/STORE.md): its first bytes, records after open gates, and the end.
-use Rattle.std.specs.Prelude.{◌≡◌, ℕ, zero, suc, ◌+◌, ◌-◌, ◌==◌, ◌&&◌, not, nat_lt, nat_le, Bool, List, [], ◌∷◌, ◌++◌, codes, length, take, drop, slice_index, Option, Some, None, is_some, is_none, if◌then◌else◌}
+use Rattle.std.specs.Prelude.{◌≡◌, ℕ, zero, suc, ◌+◌, ◌-◌, ◌==◌, ◌&&◌, not, nat_lt, nat_le, Bool, true, false, List, [], ◌∷◌, ◌++◌, codes, length, take, drop, slice_index, Option, Some, None, is_some, is_none, if◌then◌else◌}
 use Rattle.std.specs.Option.{option_map, option_and_then}
 use Rattle.std.specs.Str.{bytes_eq}
-use Rattle.std.specs.Int.{w32, to_le_bytes}
+use Rattle.std.specs.List.{filter}
+use Rattle.std.specs.Int.{w32, w64, to_le_bytes, from_le_bytes}
 use Rattle.chain_defs.specs.Shape.{decoded}
 use Rattle.chain_defs.specs.Schema.{Block, block}
 use Rattle.chain_defs.specs.Kept.{block_hash, place_of, block_at, follows, kept_limit, blocks_of_item}
-use Rattle.chain_defs.specs.Specification.{broken_specification_rule}
+use Rattle.chain_defs.specs.Specification.{Specification, specification_of, with_edition, broken_specification_rule}
 use Rattle.cell_defs.specs.Ext.{count_at, is_ext}
 use Rattle.rule_defs.specs.Genesis.{broken_genesis_rule}
 
 -- ---- Records
 
--- A record's kind: 1 for the specification, 2 for the genesis, 3 for a block with its ext.
+-- A record's kind: 1 for the specification, 2 for the genesis, 3 for a block with its ext, 4 for the edition.
 pub record Record : Type 0 where
   pub kind : ℕ
   pub body : List ℕ
@@ -85,15 +86,57 @@ abbrev pub blocks_over : List Block → List Record → Option (List Block)
 blocks_over kept [] = Some kept
 blocks_over kept (r ∷ records) = option_and_then (λ b. blocks_over (kept ++ b ∷ []) records) (block_of_record kept r)
 
+-- ---- The edition
+
+-- The record of an edition: the epoch from which the second edition of the rules holds, in 8 bytes.
+abbrev pub edition_record : ℕ → Record
+edition_record epoch = record { kind = 4; body = to_le_bytes w64 epoch }
+
+abbrev pub is_of_edition : Record → Bool
+is_of_edition r = r.kind == 4
+
+-- an epoch fits its 8 bytes
+abbrev pub is_edition : Record → Bool
+is_edition r = is_of_edition r && (length r.body == 8)
+
+abbrev pub epoch_in : Record → ℕ
+epoch_in r = from_le_bytes w64 r.body
+
+-- those of editions among records, in order
+abbrev pub of_editions : List Record → List Record
+of_editions records = filter is_of_edition records
+
+-- and all others, which are those of blocks
+abbrev pub of_blocks : List Record → List Record
+of_blocks records = filter (λ r. not (is_of_edition r)) records
+
+-- at most one, of 8 bytes
+abbrev pub at_most_one : List Record → Bool
+at_most_one [] = true
+at_most_one (r ∷ []) = is_edition r
+at_most_one (r ∷ other ∷ more) = false
+
+abbrev pub first_epoch : List Record → Option ℕ
+first_epoch [] = None
+first_epoch (r ∷ more) = Some (epoch_in r)
+
+-- The edition that records tell: the epoch from which the second edition of the rules holds, or none.
+abbrev pub edition_of : List Record → Option ℕ
+edition_of records = first_epoch (of_editions records)
+
 -- ---- The log
 
 pub record LogContent : Type 0 where
   pub specification : List ℕ
   pub genesis : List ℕ
-  -- those of blocks, in order
+  -- all that stand after the genesis, in order: those of blocks, and that of an edition in its place
   pub records : List Record
   -- all of them, genesis first
   pub blocks : List Block
+
+-- The specification of a log's chain: that of its first record, with the edition that the later ones tell.
+abbrev pub specification_in : LogContent → Specification
+specification_in log = with_edition (edition_of log.records) (specification_of log.specification)
 
 -- the most records of blocks: one for each kept block after the genesis
 unfoldable pub record_limit : ℕ
@@ -103,13 +146,18 @@ abbrev pub are_first : Record → Record → Bool
 are_first one two =
     (one.kind == 1) && is_none (broken_specification_rule one.body) && (two.kind == 2) && is_none (broken_genesis_rule two.body)
 
+-- no more are of blocks than may be, and at most one is of an edition
+abbrev pub may_be_later : List Record → Bool
+may_be_later records = nat_le (length (of_blocks records)) record_limit && at_most_one (of_editions records)
+
 -- what the records of a log say, if they are of its grammar
 abbrev pub content_of_records : List Record → Option LogContent
 content_of_records [] = None
 content_of_records (one ∷ []) = None
 content_of_records (one ∷ two ∷ records) =
-    if are_first one two && nat_le (length records) record_limit
-    then option_map (λ blocks. record { specification = one.body; genesis = two.body; records = records; blocks = blocks }) (blocks_over (blocks_of_item two.body) records)
+    if are_first one two && may_be_later records
+    then option_map (λ blocks. record { specification = one.body; genesis = two.body; records = records; blocks = blocks })
+    (blocks_over (blocks_of_item two.body) (of_blocks records))
     else None
 
 -- The bytes of a log, if they are one. What stands after the last whole record is not looked at.
@@ -133,19 +181,22 @@ is_genesis r = (r.kind == 2) && is_none (broken_genesis_rule r.body)
 -- Records stand one after the other from a place on. They stop being those of a log at the body of the first that may not stand where it does, or after
 -- the last, where one that is missing should begin.
 
--- records of blocks, after those of these blocks
-abbrev pub stop_of_blocks : List Block → ℕ → List Record → ℕ
-stop_of_blocks kept place [] = place
-stop_of_blocks kept place (r ∷ records) = elim (block_if (nat_le (length kept) record_limit) (block_of_record kept r)) [
-  | None ↦ place + 6
-  | Some b ↦ stop_of_blocks (kept ++ b ∷ []) (place + length (record_bytes r)) records
-]
+-- after those of these blocks, where one of an edition may come or may not
+abbrev pub stop_of_later : List Block → Bool → ℕ → List Record → ℕ
+stop_of_later kept may place [] = place
+stop_of_later kept may place (r ∷ records) =
+    if is_of_edition r
+    then if may && is_edition r then stop_of_later kept false (place + length (record_bytes r)) records else place + 6
+    else elim (block_if (nat_le (length kept) record_limit) (block_of_record kept r)) [
+      | None ↦ place + 6
+      | Some b ↦ stop_of_later (kept ++ b ∷ []) may (place + length (record_bytes r)) records
+    ]
 
--- the record of the genesis and those of blocks
+-- the record of the genesis and those after it
 abbrev pub stop_of_genesis : ℕ → List Record → ℕ
 stop_of_genesis place [] = place
 stop_of_genesis place (r ∷ records) =
-    if is_genesis r then stop_of_blocks (blocks_of_item r.body) (place + length (record_bytes r)) records else place + 6
+    if is_genesis r then stop_of_later (blocks_of_item r.body) true (place + length (record_bytes r)) records else place + 6
 
 -- all records of a log
 abbrev pub stop_of_records : ℕ → List Record → ℕ

@@ -3,7 +3,7 @@
 //! some kept blocks. Which blocks may join is left to `store_defs`, and how both are read and written to `log_file` and
 //! `snapshots`.
 //!
-//! Definitions, and their laws as contracts of functions that do nothing: [`record_laws`] and [`log_laws`];
+//! Definitions, and their laws as contracts of functions that do nothing: [`record_laws`], [`log_laws`] and [`edition_laws`];
 //! [`bytes_of_snapshots`], [`snapshots_stay`], [`areas_in_turn`] and [`sound_areas`].
 #![tactic(auto)]
 
@@ -11,4 +11,4 @@ mod areas;
 mod grammar;
 
 pub use areas::{areas_in_turn, bytes_of_snapshots, snapshots_stay, sound_areas};
-pub use grammar::{log_laws, record_laws};
+pub use grammar::{edition_laws, log_laws, record_laws};

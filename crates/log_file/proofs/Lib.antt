@@ -6,6 +6,7 @@ pub mod Transactions
 pub mod Pieces
 pub mod Judging
 pub mod Progress
+pub mod Taking
 pub mod Front
 pub mod Mending
 pub mod Whole

@@ -1,5 +1,5 @@
 -- A log that is read from start to end, in pieces.
-use Rattle.std.proofs.Common.{◌≡◌, ◌⊎◌, ℕ, ◌+◌, ◌-◌, ◌<◌, ◌≤◌, Bool, true, false, cond, eqb, ltb, List, ◌++◌, length, take, drop, get_or, Option, Some, None, refl, sym, ap, ◌∙◌, subst, arith, length-append}
+use Rattle.std.proofs.Common.{◌≡◌, ℕ, ◌+◌, ◌-◌, ◌<◌, ◌≤◌, Bool, true, false, cond, eqb, ltb, List, ◌++◌, length, take, drop, get_or, Option, Some, None, refl, sym, ap, ◌∙◌, subst, arith, length-append}
 use Rattle.std.specs.Prelude.{IfSome, slice_index, ◌&&◌}
 use Rattle.std.specs.Str.{bytes_eq}
 use Rattle.std.specs.Cmp.Lexicographic.{bytes_decides}
@@ -11,9 +11,9 @@ use borrow.Rule.Slice.PartMut.{put_mid, post_of}
 use Rattle.outside.specs.Image.{Image}
 use Rattle.cell_defs.specs.Ext.{count_at}
 use Rattle.chain_defs.specs.Schema.{Block}
-use Rattle.disk_defs.specs.Log.{Record, record_at, record_bytes, record_limit, block_of_record, magic}
+use Rattle.disk_defs.specs.Log.{Record, record_at, record_bytes, magic}
 use Rattle.disk_defs.proofs.Records.{record_length, IsRecordAt, parts_at, prefix_kept}
-use Rattle.log_file.specs.Grammar.{record_of}
+use Rattle.log_file.specs.Grammar.{record_of, IsMisplaced}
 use Rattle.log_file.specs.Reading.{ReaderValue, IsReading, IsAt, HasPassed, IsOther, IsOtherHere, IsWrongHere}
 
 -- bytes of which the prefix was there, and the next n were read after it
@@ -259,20 +259,20 @@ told_missing None test old mid bytes place is found at same = tt
 told_missing (Some image) test old mid bytes place is found at same = λ reading.
     subst (IsOther test old.at place) (found ∙ ap record_at is ∙ same reading) at
 
--- the same of the record of a block, where one was found
-pub told_passed_block : (E : Type 0) (reads : Option Image) (P : Record → Type 0) (old mid new : ReaderValue) (r : Record) (bytes : List ℕ) → IsAt old.len old.at mid
+-- the same of a record after the genesis, where one was found
+pub told_passed_later : (E : Type 0) (reads : Option Image) (P : Record → Type 0) (old mid new : ReaderValue) (r : Record) (bytes : List ℕ) → IsAt old.len old.at mid
     → IsAt mid.len (mid.at + (6 + length r.body)) new → bytes ≡ mid.ahead → Some r ≡ record_at bytes → P r
     → IfSome reads (λ image. IsReading image.log old → record_at mid.ahead ≡ record_at (drop old.at image.log))
     → IfSome reads (λ image. IsReading image.log old → E → HasPassed image.log P old new)
-told_passed_block E None P old mid new r bytes at over is found holds same = tt
-told_passed_block E (Some image) P old mid new r bytes at over is found holds same = λ reading _. told_passed (Some image) P old mid new r bytes at over is found holds same reading
+told_passed_later E None P old mid new r bytes at over is found holds same = tt
+told_passed_later E (Some image) P old mid new r bytes at over is found holds same = λ reading _. told_passed (Some image) P old mid new r bytes at over is found holds same reading
 
-pub told_wrong_block : (reads : Option Image) (kept : List Block) (old mid : ReaderValue) (r : Record) (bytes : List ℕ) (place : ℕ) → bytes ≡ mid.ahead → Some r ≡ record_at bytes
-    → (block_of_record kept r ≡ None) ⊎ (record_limit < length kept) → place ≡ old.at
+pub told_misplaced : (reads : Option Image) (kept : List Block) (edition : Option ℕ) (old mid : ReaderValue) (r : Record) (bytes : List ℕ) (place : ℕ) → bytes ≡ mid.ahead
+    → Some r ≡ record_at bytes → IsMisplaced kept edition r → place ≡ old.at
     → IfSome reads (λ image. IsReading image.log old → record_at mid.ahead ≡ record_at (drop old.at image.log))
-    → IfSome reads (λ image. IsReading image.log old → IsWrongHere image.log kept old (place + 6))
-told_wrong_block None kept old mid r bytes place is found wrong at same = tt
-told_wrong_block (Some image) kept old mid r bytes place is found wrong at same =
+    → IfSome reads (λ image. IsReading image.log old → IsWrongHere image.log kept edition old (place + 6))
+told_misplaced None kept edition old mid r bytes place is found wrong at same = tt
+told_misplaced (Some image) kept edition old mid r bytes place is found wrong at same =
     λ reading. record { r = r; there = found_is image.log old mid r bytes is found (same reading); wrong = wrong; at = omega (arith, at) }
 
 -- a reader that reads this log still does

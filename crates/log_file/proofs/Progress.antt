@@ -1,33 +1,33 @@
 -- What the records of a log say, as they are read one after the other.
-use Rattle.std.proofs.Common.{◌≡◌, ◌⊎◌, inl, inr, ℕ, ◌+◌, ◌<◌, Bool, true, false, cond, eqb, leb, List, [], ◌∷◌, ◌++◌, map, length, take, drop, Option, Some, None, refl, sym, ap, ◌∙◌, subst, arith}
-use Rattle.std.specs.Prelude.{◌&&◌, is_none, IfSome}
+use Rattle.std.proofs.Common.{◌≡◌, inl, inr, ℕ, ◌+◌, ◌<◌, Bool, true, false, true≢false, cond, eqb, leb, List, [], ◌∷◌, ◌++◌, map, length, take, drop, Option, Some, None, refl, sym, ap, ◌∙◌, subst, arith}
+use Rattle.std.specs.Prelude.{◌&&◌, not, is_none, IfSome}
 use Rattle.std.specs.Option.{option_map, option_and_then}
 use Rattle.std.specs.Str.{bytes_eq}
 use Rattle.std.specs.Cmp.Lexicographic.{bytes_decides}
-use Rattle.std.proofs.lemmas.Bool.{and_from, and_parts, and_right, le-leb, leb-true}
+use Rattle.std.proofs.lemmas.Bool.{and_from, and_parts, le-leb, eqb-true}
 use Rattle.std.proofs.lemmas.List.{append_assoc, append-nil, length-append, length-drop, length_push, map_push, drop-drop}
-use Rattle.std.proofs.lemmas.List.Elements.{All-nil, All-push}
+use Rattle.std.proofs.lemmas.List.Elements.{All-nil, All-push, filter-append}
 use Rattle.chain_defs.specs.Shape.{encoded}
 use Rattle.chain_defs.proofs.ShapeLaws.{IsA-decoded}
 use Rattle.chain_defs.specs.Schema.{Block}
 use Rattle.chain_defs.specs.Schema as shapes
 use Rattle.chain_defs.specs.Kept.{block_list, blocks_of_item}
-use Rattle.chain_defs.specs.Specification.{Specification, broken_specification_rule, specification_of}
+use Rattle.chain_defs.specs.Specification.{Specification, broken_specification_rule, specification_of, with_edition}
 use Rattle.chain_tree.specs.declared.entry.Entry.{Entry}
 use Rattle.chain_tree.specs.Blocks.{IndexesBlocks}
 use Rattle.chain_tree.specs.Told.{Stored, blocks_of}
 use Rattle.outside.specs.Image.{Image}
 use Rattle.rule_defs.specs.Genesis.{broken_genesis_rule}
-use Rattle.disk_defs.specs.Log.{Record, record_at, record_bytes, all_record_bytes, records_of, end_of_log, magic, LogContent, record_limit, are_first, block_of_record, blocks_over, content_of_records, log_of, is_specification, is_genesis, stop_of_records, IsNoLogFrom}
-use Rattle.disk_defs.specs.LogLaws.{HasFittingBody, grown}
+use Rattle.disk_defs.specs.Log.{Record, record_at, record_bytes, all_record_bytes, records_of, end_of_log, magic, LogContent, record_limit, are_first, may_be_later, block_of_record, blocks_over, content_of_records, log_of, is_specification, is_genesis, is_of_edition, is_edition, of_editions, of_blocks, at_most_one, first_epoch, edition_of, stop_of_later, stop_of_records, IsNoLogFrom}
+use Rattle.disk_defs.specs.LogLaws.{HasFittingBody, IsSaidBy, grown, edited}
 use Rattle.disk_defs.specs.Rest.{EndsAt}
 use Rattle.disk_defs.proofs.Records.{record_length, parts_at, records_of_none, records_of_some, size_of_all, size-push}
-use Rattle.disk_defs.proofs.Contents.{adds_a_block}
-use Rattle.disk_defs.proofs.Stopping.{past_specification, at_specification, at_genesis, stops_at_block, stops_past, stops_at_start, stops_in_records}
-use Rattle.log_file.specs.Grammar.{record_of, ext_in, NamesBody, AreBlocks, BlocksValue, IsGenesisOf, IsGrownBy}
+use Rattle.disk_defs.proofs.Contents.{says_by_parts, adds_a_block, adds_an_edition, editions_are_kept, block_is_other, blocks_of_more, blocks_of_same}
+use Rattle.disk_defs.proofs.Stopping.{past_specification, at_specification, at_genesis, stops_at_block, stops_at_edition, stops_past, stops_at_start, stops_in_records}
+use Rattle.log_file.specs.Grammar.{record_of, ext_in, NamesBody, AreBlocks, BlocksValue, ReadValue, read_with, IsGenesisOf, IsGrownBy, IsTakenFrom, IsMisplaced}
 use Rattle.log_file.specs.Pieces.{block_record}
 use Rattle.log_file.specs.Reading.{ReaderValue, IsReading, IsAt, HasPassed, IsOther, IsOtherHere, IsWrongHere}
-use Rattle.log_file.specs.Opening.{NameBodies, kept_records, AreOpened, IsOpened, HasRead, HasReadAll, IsNoContentFrom}
+use Rattle.log_file.specs.Opening.{NameNext, NameBodies, kept_records, AreOpened, IsOpened, HasRead, HasReadAll, IsNoContentFrom}
 use Rattle.log_file.proofs.Judging.{limit_is, kept_limit_is, blocks-push, as_many}
 
 -- ---- Records that were read, and those that are left
@@ -66,16 +66,16 @@ said one two records blocks = option_map (λ blocks. record { specification = on
 pub not_first : (one : Record) (more : List Record) → is_specification one ≡ false → content_of_records (one ∷ more) ≡ None
 not_first one [] wrong = refl
 not_first one (two ∷ records) wrong =
-    let test : (are_first one two && leb (length records) record_limit) ≡ false =
-    ap (λ (t : Bool). ((t && (eqb two.kind 2)) && is_none (broken_genesis_rule two.body)) && leb (length records) record_limit) wrong in
-    ap (λ (t : Bool). cond t (said one two records (blocks_over (blocks_of_item two.body) records)) None) test
+    let test : (are_first one two && may_be_later records) ≡ false =
+    ap (λ (t : Bool). ((t && (eqb two.kind 2)) && is_none (broken_genesis_rule two.body)) && may_be_later records) wrong in
+    ap (λ (t : Bool). cond t (said one two records (blocks_over (blocks_of_item two.body) (of_blocks records))) None) test
 
 pub not_next : (one two : Record) (more : List Record) → is_genesis two ≡ false → content_of_records (one ∷ two ∷ more) ≡ None
 not_next one two records wrong =
     let first : are_first one two ≡ false =
     not_second (is_specification one) (eqb two.kind 2) (is_none (broken_genesis_rule two.body)) wrong in
-    let test : (are_first one two && leb (length records) record_limit) ≡ false = ap (λ (t : Bool). t && leb (length records) record_limit) first in
-    ap (λ (t : Bool). cond t (said one two records (blocks_over (blocks_of_item two.body) records)) None) test
+    let test : (are_first one two && may_be_later records) ≡ false = ap (λ (t : Bool). t && may_be_later records) first in
+    ap (λ (t : Bool). cond t (said one two records (blocks_over (blocks_of_item two.body) (of_blocks records))) None) test
 
 -- the two first records alone
 abbrev first_content : Record → Record → LogContent
@@ -85,7 +85,8 @@ first_says : (one two : Record) → is_specification one ≡ true → is_genesis
 first_says one two is_one is_two =
     let first : are_first one two ≡ true =
     first_from (eqb one.kind 1) (is_none (broken_specification_rule one.body)) (eqb two.kind 2) (is_none (broken_genesis_rule two.body)) is_one is_two in
-    let test : (are_first one two && leb 0 record_limit) ≡ true = and_from (are_first one two) (leb 0 record_limit) first (le-leb 0 record_limit (omega arith)) in
+    let later : may_be_later [] ≡ true = and_from (leb 0 record_limit) true (le-leb 0 record_limit (omega arith)) refl in
+    let test : (are_first one two && may_be_later []) ≡ true = and_from (are_first one two) (may_be_later []) first later in
     ap (λ (t : Bool). cond t (Some (first_content one two)) None) test
 
 -- a record that is wrong after records that are not
@@ -107,59 +108,111 @@ if_none : (t : Bool) → cond {A = Option LogContent} t None None ≡ None
 if_none true = refl
 if_none false = refl
 
-pub wrong_behind : (records : List Record) (r : Record) (more : List Record) (log : LogContent) → content_of_records records ≡ Some log
-    → (block_of_record log.blocks r ≡ None) ⊎ (record_limit < length log.blocks) → length log.blocks ≡ length log.records + 1
-    → content_of_records (records ++ (r ∷ more)) ≡ None
-wrong_behind [] r more log says wrong counted = absurd (cc)
-wrong_behind (one ∷ []) r more log says wrong counted = absurd (cc)
-wrong_behind (one ∷ two ∷ records) r more log says wrong counted = by_test (are_first one two && leb (length records) record_limit) refl says
-  where
-    all : List Record
-    all = records ++ (r ∷ more)
+-- one of an edition that is another than the first, or has another length
+too_many : (editions more : List Record) (r : Record) → (is_none (first_epoch editions) && is_edition r) ≡ false → at_most_one (editions ++ (r ∷ more)) ≡ true → ⊥
+too_many [] [] r wrong once = absurd (true≢false (sym once ∙ wrong))
+too_many [] (other ∷ more) r wrong once = absurd (cc)
+too_many (first ∷ []) more r wrong once = absurd (cc)
+too_many (first ∷ second ∷ editions) more r wrong once = absurd (cc)
 
-    by_wrong : (blocks : List Block) → blocks_over (blocks_of_item two.body) records ≡ Some blocks
-        → record { specification = one.body; genesis = two.body; records = records; blocks = blocks } ≡ log
-        → (block_of_record log.blocks r ≡ None) ⊎ (record_limit < length log.blocks) → content_of_records (one ∷ two ∷ (records ++ (r ∷ more))) ≡ None
-    by_wrong blocks is same (inl none) =
-        let here : block_of_record blocks r ≡ None = subst (λ (l : LogContent). block_of_record l.blocks r ≡ None) (sym same) none in
-        ap (λ (o : Option (List Block)). cond (are_first one two && leb (length (records ++ (r ∷ more))) record_limit) (said one two (records ++ (r ∷ more)) o) None)
-        (blocks_none (blocks_of_item two.body) records r more blocks is here)
-        ∙ if_none (are_first one two && leb (length (records ++ (r ∷ more))) record_limit)
-    by_wrong blocks is same (inr full) =
-        let long : record_limit < length (records ++ (r ∷ more)) =
-        omega (arith, full, counted, ap (λ (l : LogContent). length l.records) same, length-append records (r ∷ more)) in
-        let test : (are_first one two && leb (length (records ++ (r ∷ more))) record_limit) ≡ false =
-        and_right (are_first one two) (leb (length (records ++ (r ∷ more))) record_limit) (over_limit (leb (length (records ++ (r ∷ more))) record_limit) refl long) in
-        ap (λ (t : Bool). cond t (said one two (records ++ (r ∷ more)) (blocks_over (blocks_of_item two.body) (records ++ (r ∷ more)))) None) test
+editions_on : (records : List Record) (r : Record) (more : List Record) → is_of_edition r ≡ true
+    → of_editions (records ++ (r ∷ more)) ≡ of_editions records ++ (r ∷ of_editions more)
+editions_on records r more is =
+    filter-append is_of_edition records (r ∷ more) ∙ ap (λ (t : Bool). of_editions records ++ cond t (r ∷ of_editions more) (of_editions more)) is
+
+blocks_on : (records : List Record) (r : Record) (more : List Record) → is_of_edition r ≡ false
+    → of_blocks (records ++ (r ∷ more)) ≡ of_blocks records ++ (r ∷ of_blocks more)
+blocks_on records r more other =
+    filter-append (λ (x : Record). not (is_of_edition x)) records (r ∷ more)
+    ∙ ap (λ (t : Bool). of_blocks records ++ cond (not t) (r ∷ of_blocks more) (of_blocks more)) other
+
+-- a record that may not stand behind others makes no log of them all
+module _ (records : List Record) (r : Record) (more : List Record) (log : LogContent) (says : content_of_records records ≡ Some log)
+    (counted : length log.blocks ≡ length (of_blocks log.records) + 1) where
+  said_before : IsSaidBy records log
+  said_before = (says_by_parts records log).0 says
+
+  -- what all of them would say
+  module _ (all : LogContent) (is : IsSaidBy (records ++ (r ∷ more)) all) where
+    split : is.one ∷ is.two ∷ all.records ≡ said_before.one ∷ said_before.two ∷ (log.records ++ (r ∷ more))
+    split = sym is.all ∙ ap (λ (l : List Record). l ++ (r ∷ more)) said_before.all
+
+    later : all.records ≡ log.records ++ (r ∷ more)
+    later = ap (drop 2) split
+
+    genesis : all.genesis ≡ log.genesis
+    genesis = sym is.genesis ∙ ap second_body split ∙ said_before.genesis
       where
-        over_limit : (t : Bool) → leb (length (records ++ (r ∷ more))) record_limit ≡ t → record_limit < length (records ++ (r ∷ more)) → t ≡ false
-        over_limit false is long = refl
-        over_limit true is long = absurd (omega (arith, leb-true (length (records ++ (r ∷ more))) record_limit is, long))
+        second_body : List Record → List ℕ
+        second_body [] = []
+        second_body (one ∷ []) = []
+        second_body (one ∷ two ∷ rest) = two.body
 
-    by_blocks : (o : Option (List Block)) → blocks_over (blocks_of_item two.body) records ≡ o → said one two records o ≡ Some log
-        → content_of_records (one ∷ two ∷ (records ++ (r ∷ more))) ≡ None
-    by_blocks None is says = absurd (cc)
-    by_blocks (Some blocks) is says = by_wrong blocks is (cc) wrong
+    not_so : IsMisplaced log.blocks (edition_of log.records) r → ⊥
+    not_so (inl (edition, wrong)) =
+        too_many (of_editions log.records) (of_editions more) r wrong
+        (ap at_most_one (sym (ap of_editions later ∙ editions_on log.records r more edition)) ∙ is.once)
+    not_so (inr (other, inl none)) =
+        let over : blocks_over (blocks_of_item log.genesis) (of_blocks log.records ++ (r ∷ of_blocks more)) ≡ Some all.blocks =
+        sym (ap (blocks_over (blocks_of_item log.genesis)) (ap of_blocks later ∙ blocks_on log.records r more other))
+        ∙ ap (λ (item : List ℕ). blocks_over (blocks_of_item item) (of_blocks all.records)) (sym genesis) ∙ is.over in
+        let nothing : blocks_over (blocks_of_item log.genesis) (of_blocks log.records ++ (r ∷ of_blocks more)) ≡ None =
+        blocks_none (blocks_of_item log.genesis) (of_blocks log.records) r (of_blocks more) log.blocks said_before.over none in
+        absurd (cc)
+    not_so (inr (other, inr full)) =
+        absurd (omega (
+          arith,
+          full,
+          counted,
+          is.room,
+          ap length (ap of_blocks later ∙ blocks_on log.records r more other),
+          length-append (of_blocks log.records) (r ∷ of_blocks more),
+        ))
 
-    by_test : (t : Bool) → (are_first one two && leb (length records) record_limit) ≡ t
-        → cond t (said one two records (blocks_over (blocks_of_item two.body) records)) None ≡ Some log → content_of_records (one ∷ two ∷ (records ++ (r ∷ more))) ≡ None
-    by_test false is says = absurd (cc)
-    by_test true is says = by_blocks (blocks_over (blocks_of_item two.body) records) refl says
+  pub wrong_behind : IsMisplaced log.blocks (edition_of log.records) r → content_of_records (records ++ (r ∷ more)) ≡ None
+  wrong_behind wrong = by_content (content_of_records (records ++ (r ∷ more))) refl
+    where
+      by_content : (o : Option LogContent) → content_of_records (records ++ (r ∷ more)) ≡ o → content_of_records (records ++ (r ∷ more)) ≡ None
+      by_content None is = is
+      by_content (Some all) is = absurd (not_so all ((says_by_parts (records ++ (r ∷ more)) all).0 is) wrong)
 
 -- ---- Entries
 
-names-push : (place : ℕ) (records : List Record) (entries : List Entry) (r : Record) (entry : Entry) → NameBodies place records entries
+-- with one more record at the end, one of a block with its entry
+pub names-push : (place : ℕ) (records : List Record) (entries : List Entry) (r : Record) (entry : Entry) → is_of_edition r ≡ false → NameBodies place records entries
     → NamesBody (place + size_of_all records + 6) r entry → NameBodies place (records ++ r ∷ []) (entries ++ entry ∷ [])
-names-push place [] [] r entry so_far last = (last.at ∙ omega arith, last.len, tt)
-names-push place [] (e ∷ es) r entry so_far last = absurd so_far
-names-push place (first ∷ records) [] r entry so_far last = absurd so_far
-names-push place (first ∷ records) (e ∷ es) r entry so_far last =
-    let n : ℕ = length (record_bytes first) in
-    let sum : size_of_all (first ∷ records) ≡ n + size_of_all records = length-append (record_bytes first) (all_record_bytes records) in (
-      so_far.0,
-      so_far.1,
-      names-push (place + n) records es r entry so_far.2 (record { at = last.at ∙ omega (arith, sum); len = last.len }),
-    )
+names-push place [] [] r entry other so_far last =
+    subst (λ (t : Bool). NameNext t place r (entry ∷ []) (NameBodies (place + length (record_bytes r)) [])) (sym other) (last.at ∙ omega arith, last.len, tt)
+names-push place [] (e ∷ es) r entry other so_far last = absurd so_far
+names-push place (first ∷ records) entries r entry other so_far last =
+    by_kind (is_of_edition first) entries (λ es names. names-push (place + n) records es r entry other names (record { at = last.at ∙ omega (arith, sum); len = last.len })) so_far
+  where
+    n : ℕ
+    n = length (record_bytes first)
+
+    sum : size_of_all (first ∷ records) ≡ n + size_of_all records
+    sum = length-append (record_bytes first) (all_record_bytes records)
+
+    by_kind : (t : Bool) (entries : List Entry) → ((es : List Entry) → NameBodies (place + n) records es → NameBodies (place + n) (records ++ r ∷ []) (es ++ entry ∷ []))
+        → NameNext t place first entries (NameBodies (place + n) records) → NameNext t place first (entries ++ entry ∷ []) (NameBodies (place + n) (records ++ r ∷ []))
+    by_kind true entries again names = again entries names
+    by_kind false [] again names = absurd names
+    by_kind false (e ∷ es) again names = (names.0, names.1, again es names.2)
+
+-- or one of an edition
+pub names-pass : (place : ℕ) (records : List Record) (entries : List Entry) (r : Record) → is_of_edition r ≡ true → NameBodies place records entries
+    → NameBodies place (records ++ r ∷ []) entries
+names-pass place [] entries r is so_far = subst (λ (t : Bool). NameNext t place r entries (NameBodies (place + length (record_bytes r)) [])) (sym is) so_far
+names-pass place (first ∷ records) entries r is so_far = by_kind (is_of_edition first) entries (λ es names. names-pass (place + n) records es r is names) so_far
+  where
+    n : ℕ
+    n = length (record_bytes first)
+
+    by_kind : (t : Bool) (entries : List Entry) → ((es : List Entry) → NameBodies (place + n) records es → NameBodies (place + n) (records ++ r ∷ []) es)
+        → NameNext t place first entries (NameBodies (place + n) records) → NameNext t place first entries (NameBodies (place + n) (records ++ r ∷ []))
+    by_kind true entries again names = again entries names
+    by_kind false [] again names = absurd names
+    by_kind false (e ∷ es) again names = (names.0, names.1, again es names.2)
 
 -- ---- The records of blocks
 
@@ -193,7 +246,8 @@ opened_first one two at blocks is are start =
 
 pub begun : (log : List ℕ) (spec : Specification) (first second third : ReaderValue) (blocks : BlocksValue) → first.at ≡ 8
     → HasPassed log (λ r. (is_specification r ≡ true) × (spec ≡ specification_of r.body)) first second
-    → HasPassed log (λ r. IsGenesisOf (second.at + 6) r blocks) second third → AreBlocks blocks.stored blocks.entries → IsReading log third → HasRead log spec third blocks
+    → HasPassed log (λ r. IsGenesisOf (second.at + 6) r blocks) second third → AreBlocks blocks.stored blocks.entries → IsReading log third
+    → HasRead log spec third (read_with blocks.stored blocks.entries None)
 begun log spec first second third blocks start one two are reading =
     let size : size_of_all (one.r ∷ two.r ∷ []) ≡ length (record_bytes one.r) + length (record_bytes two.r) =
     length-append (record_bytes one.r) (record_bytes two.r ++ []) ∙ ap (λ (l : List ℕ). length (record_bytes one.r) + length l) (append-nil (record_bytes two.r)) in
@@ -213,6 +267,7 @@ begun log spec first second third blocks start one two are reading =
       log = first_content one.r two.r;
       says = first_says one.r two.r one.is.0 two.is.genesis;
       specified = one.is.1;
+      told = refl;
       opened = opened;
       counted = sym (ap length opened.blocks) ∙ ap (λ (l : List Stored). length (blocks_of l)) two.is.stored;
       next = omega (
@@ -235,57 +290,116 @@ opened_more at r log before after so_far is are next =
     let it : Stored = record { block = is.block; ext = is.ext } in
     let front : List Record = record_of 2 log.genesis ∷ log.records in
     let start : ℕ = 14 + length log.specification in
+    let other : is_of_edition r ≡ false = block_is_other (blocks_of before.stored) r is.block is.is in
+    let more : of_blocks (log.records ++ r ∷ []) ≡ of_blocks log.records ++ r ∷ [] = blocks_of_more log.records r other in
     let named : NamesBody (start + size_of_all front + 6) r is.entry = record { at = is.named.at ∙ omega (arith, next); len = is.named.len } in
     let blocks_are : blocks_of after.stored ≡ log.blocks ++ is.block ∷ [] =
     ap blocks_of is.stored ∙ blocks-push before.stored it ∙ ap (λ (l : List Block). l ++ is.block ∷ []) so_far.blocks in
     record {
       blocks = blocks_are;
       exts = ap (map (λ (x : Stored). x.ext)) is.stored ∙ map_push (λ (x : Stored). x.ext) before.stored it
-          ∙ (λ i. so_far.exts i ++ is.holds.beside i ∷ []) ∙ ap (λ (l : List (List ℕ)). [] ∷ l) (sym (map_push ext_in log.records r));
+          ∙ (λ i. so_far.exts i ++ is.holds.beside i ∷ []) ∙ ap (λ (l : List (List ℕ)). [] ∷ l) (sym (map_push ext_in (of_blocks log.records) r))
+          ∙ ap (λ (l : List Record). [] ∷ map ext_in l) (sym more);
       fits = All-push HasFittingBody log.records r so_far.fits is.fits;
       indexed = subst (λ (l : List Block). IndexesBlocks l after.entries) blocks_are are.indexed;
-      named = subst (NameBodies start (front ++ r ∷ [])) (sym is.entries) (names-push start front before.entries r is.entry so_far.named named);
-      held = ap (λ (x : Record). front ++ x ∷ []) is.holds.is ∙ kept-push (record_of 2 log.genesis) log.records before.stored it so_far.held ∙ sym (ap kept_records is.stored);
+      named = subst (NameBodies start (front ++ r ∷ [])) (sym is.entries) (names-push start front before.entries r is.entry other so_far.named named);
+      held = ap (λ (l : List Record). record_of 2 log.genesis ∷ l) more ∙ ap (λ (x : Record). record_of 2 log.genesis ∷ (of_blocks log.records ++ x ∷ [])) is.holds.is
+          ∙ kept-push (record_of 2 log.genesis) (of_blocks log.records) before.stored it so_far.held ∙ sym (ap kept_records is.stored);
     }
 
-pub one_more_read : (log : List ℕ) (spec : Specification) (old new : ReaderValue) (before after : BlocksValue) (so_far : HasRead log spec old before)
-    → HasPassed log (λ r. IsGrownBy (old.at + 6) r before after) old new → AreBlocks after.stored after.entries → IsReading log new → HasRead log spec new after
-one_more_read log spec old new before after so_far passed are reading =
-    let r : Record = passed.r in
-    let is = passed.is in
-    let kept : List Block = so_far.log.blocks in
-    let opened = opened_more old.at r so_far.log before after so_far.opened is are so_far.next in
-    let found : block_of_record kept r ≡ Some is.block = subst (λ (l : List Block). block_of_record l r ≡ Some is.block) so_far.opened.blocks is.is in
-    let room : length so_far.log.records < record_limit =
-    omega (arith, limit_is, kept_limit_is, are.few, as_many after.stored, ap length opened.blocks, length_push kept is.block, so_far.counted) in
-    record {
-      reading = reading;
-      within = omega (arith, passed.at.at, still_within log old.at r passed.there);
-      records = so_far.records ++ r ∷ [];
-      split = split_more (records_of (drop 8 log)) so_far.records log old.at r so_far.split passed.there
-          ∙ ap (λ (n : ℕ). (so_far.records ++ r ∷ []) ++ records_of (drop n log)) (sym passed.at.at);
-      place = omega (arith, passed.at.at, so_far.place, size-push so_far.records r);
-      log = grown so_far.log r is.block;
-      says = adds_a_block so_far.records r so_far.log is.block so_far.says found room;
-      specified = so_far.specified;
-      opened = opened;
-      counted = omega (arith, length_push kept is.block, length_push so_far.log.records r, so_far.counted);
-      next = omega (arith, passed.at.at, so_far.next, size-push (record_of 2 so_far.log.genesis ∷ so_far.log.records) r);
-    }
+-- and with the edition
+opened_edited : (r : Record) (log : LogContent) (before after : BlocksValue) → AreOpened log before.stored before.entries → is_edition r ≡ true → after ≡ before
+    → AreOpened (edited log r) after.stored after.entries
+opened_edited r log before after so_far edition is =
+    let kind : is_of_edition r ≡ true = (and_parts (is_of_edition r) (eqb (length r.body) 8) edition).0 in
+    let size : length r.body ≡ 8 = eqb-true (length r.body) 8 (and_parts (is_of_edition r) (eqb (length r.body) 8) edition).1 in
+    let same : of_blocks (log.records ++ r ∷ []) ≡ of_blocks log.records = blocks_of_same log.records r kind in
+    subst (λ (blocks : BlocksValue). AreOpened (edited log r) blocks.stored blocks.entries) (sym is) (record {
+      blocks = so_far.blocks;
+      exts = so_far.exts ∙ ap (λ (l : List Record). [] ∷ map ext_in l) (sym same);
+      fits = All-push HasFittingBody log.records r so_far.fits (omega (arith, size));
+      indexed = so_far.indexed;
+      named = names-pass (14 + length log.specification) (record_of 2 log.genesis ∷ log.records) before.entries r kind so_far.named;
+      held = ap (λ (l : List Record). record_of 2 log.genesis ∷ l) same ∙ so_far.held;
+    })
 
-pub wrong_here : (log : List ℕ) (spec : Specification) (reader : ReaderValue) (blocks : BlocksValue) (at : ℕ) → HasRead log spec reader blocks
-    → IsWrongHere log (blocks_of blocks.stored) reader at → IsNoContentFrom log at
-wrong_here log spec reader blocks at so_far here =
-    let wrong : (block_of_record so_far.log.blocks here.r ≡ None) ⊎ (record_limit < length so_far.log.blocks) =
-    subst (λ (l : List Block). (block_of_record l here.r ≡ None) ⊎ (record_limit < length l)) so_far.opened.blocks here.wrong in
+-- a reader that went over a record, after which the records say this
+module _ (log : List ℕ) (spec : Specification) (old new : ReaderValue) (before after : ReadValue) (so_far : HasRead log spec old before) (r : Record)
+    (there : record_at (drop old.at log) ≡ Some r) (at : IsAt old.len (old.at + length (record_bytes r)) new) (reading : IsReading log new) where
+  read_on : (blocks : List Block)
+      → let content : LogContent = record { specification = so_far.log.specification; genesis = so_far.log.genesis; records = so_far.log.records ++ r ∷ []; blocks = blocks } in
+      content_of_records (so_far.records ++ r ∷ []) ≡ Some content → edition_of content.records ≡ after.edition
+      → AreOpened content after.blocks.stored after.blocks.entries → length blocks ≡ length (of_blocks content.records) + 1 → HasRead log spec new after
+  read_on blocks says told opened counted = record {
+    reading = reading;
+    within = omega (arith, at.at, still_within log old.at r there);
+    records = so_far.records ++ r ∷ [];
+    split = split_more (records_of (drop 8 log)) so_far.records log old.at r so_far.split there
+        ∙ ap (λ (n : ℕ). (so_far.records ++ r ∷ []) ++ records_of (drop n log)) (sym at.at);
+    place = omega (arith, at.at, so_far.place, size-push so_far.records r);
+    log = record { specification = so_far.log.specification; genesis = so_far.log.genesis; records = so_far.log.records ++ r ∷ []; blocks = blocks };
+    says = says;
+    specified = so_far.specified;
+    told = told;
+    opened = opened;
+    counted = counted;
+    next = omega (arith, at.at, so_far.next, size-push (record_of 2 so_far.log.genesis ∷ so_far.log.records) r);
+  }
+
+pub one_more_read : (log : List ℕ) (spec : Specification) (old new : ReaderValue) (before after : ReadValue) → HasRead log spec old before
+    → HasPassed log (λ r. IsTakenFrom (old.at + 6) r before after) old new → AreBlocks after.blocks.stored after.blocks.entries → IsReading log new → HasRead log spec new after
+one_more_read log spec old new before after so_far passed are reading = by_kind passed.is
+  where
+    r : Record
+    r = passed.r
+
+    kept : List Block
+    kept = so_far.log.blocks
+
+    by_kind : IsTakenFrom (old.at + 6) r before after → HasRead log spec new after
+    by_kind (inl (is, same)) =
+        let opened = opened_more old.at r so_far.log before.blocks after.blocks so_far.opened is are so_far.next in
+        let found : block_of_record kept r ≡ Some is.block = subst (λ (l : List Block). block_of_record l r ≡ Some is.block) so_far.opened.blocks is.is in
+        let other : is_of_edition r ≡ false = block_is_other kept r is.block found in
+        let room : length (of_blocks so_far.log.records) < record_limit =
+        omega (arith, limit_is, kept_limit_is, are.few, as_many after.blocks.stored, ap length opened.blocks, length_push kept is.block, so_far.counted) in
+        let count : length (kept ++ is.block ∷ []) ≡ length (of_blocks (so_far.log.records ++ r ∷ [])) + 1 =
+        omega (
+          arith,
+          length_push kept is.block,
+          ap length (blocks_of_more so_far.log.records r other),
+          length_push (of_blocks so_far.log.records) r,
+          so_far.counted,
+        ) in
+        read_on log spec old new before after so_far r passed.there passed.at reading (kept ++ is.block ∷ [])
+        (adds_a_block so_far.records r so_far.log is.block so_far.says found room) ((editions_are_kept so_far.log.records r).same other ∙ so_far.told ∙ sym same) opened count
+    by_kind (inr is) =
+        let none : edition_of so_far.log.records ≡ None = so_far.told ∙ is.first in
+        let kind : is_of_edition r ≡ true = (and_parts (is_of_edition r) (eqb (length r.body) 8) is.is).0 in
+        read_on log spec old new before after so_far r passed.there passed.at reading kept (adds_an_edition so_far.records r so_far.log so_far.says none is.is)
+        ((editions_are_kept so_far.log.records r).told kind none ∙ sym is.edition) (opened_edited r so_far.log before.blocks after.blocks so_far.opened is.is is.blocks)
+        (so_far.counted ∙ ap (λ (l : List Record). length l + 1) (sym (blocks_of_same so_far.log.records r kind)))
+
+-- where a misplaced record stands, the records after the genesis stop being those of a log
+stops_misplaced : (kept : List Block) (edition : Option ℕ) (place : ℕ) (r : Record) (more : List Record) → IsMisplaced kept edition r
+    → stop_of_later kept (is_none edition) place (r ∷ more) ≡ place + 6
+stops_misplaced kept edition place r more (inl (is, wrong)) = stops_at_edition kept (is_none edition) place r more is wrong
+stops_misplaced kept edition place r more (inr (other, wrong)) = stops_at_block kept (is_none edition) place r more other wrong
+
+pub wrong_here : (log : List ℕ) (spec : Specification) (reader : ReaderValue) (read : ReadValue) (at : ℕ) → HasRead log spec reader read
+    → IsWrongHere log (blocks_of read.blocks.stored) read.edition reader at → IsNoContentFrom log at
+wrong_here log spec reader read at so_far here =
+    let wrong : IsMisplaced so_far.log.blocks (edition_of so_far.log.records) here.r =
+    subst (λ (edition : Option ℕ). IsMisplaced so_far.log.blocks edition here.r) (sym so_far.told)
+    (subst (λ (l : List Block). IsMisplaced l read.edition here.r) so_far.opened.blocks here.wrong) in
     let more : List Record = records_of (drop (reader.at + length (record_bytes here.r)) log) in
     let split : records_of (drop 8 log) ≡ so_far.records ++ (here.r ∷ more) =
     split_here (records_of (drop 8 log)) so_far.records log reader.at here.r so_far.split here.there in
     let stop : stop_of_records 8 (records_of (drop 8 log)) ≡ 8 + size_of_all so_far.records + 6 =
     ap (stop_of_records 8) split ∙ stops_past so_far.records (here.r ∷ more) so_far.log so_far.says
-    ∙ stops_at_block so_far.log.blocks (8 + size_of_all so_far.records) here.r more wrong in
+    ∙ stops_misplaced so_far.log.blocks (edition_of so_far.log.records) (8 + size_of_all so_far.records) here.r more wrong in
     record {
-      none = ap content_of_records split ∙ wrong_behind so_far.records here.r more so_far.log so_far.says wrong so_far.counted;
+      none = ap content_of_records split ∙ wrong_behind so_far.records here.r more so_far.log so_far.says so_far.counted wrong;
       stops = here.at ∙ omega (arith, so_far.place) ∙ sym stop;
     }
 
@@ -356,36 +470,36 @@ no_start log at wrong = record { none = by_test (bytes_eq (take 8 log) magic) re
     by_test false is = refl
     by_test true is = absurd (wrong.0 ((bytes_decides (take 8 log) magic).0 is))
 
-says_all : (log : List ℕ) (spec : Specification) (reader : ReaderValue) (blocks : BlocksValue) (all : HasReadAll log spec reader blocks) → records_of (drop 8 log) ≡ all.so_far.records
-says_all log spec reader blocks all = split_end (records_of (drop 8 log)) all.so_far.records log reader.at all.so_far.split all.ended
+says_all : (log : List ℕ) (spec : Specification) (reader : ReaderValue) (read : ReadValue) (all : HasReadAll log spec reader read) → records_of (drop 8 log) ≡ all.so_far.records
+says_all log spec reader read all = split_end (records_of (drop 8 log)) all.so_far.records log reader.at all.so_far.split all.ended
 
-pub opened_all : (log : List ℕ) (spec : Specification) (reader : ReaderValue) (blocks : BlocksValue) → take 8 log ≡ magic → HasReadAll log spec reader blocks
-    → (content : LogContent) × IsOpened log content spec blocks.stored blocks.entries
+pub opened_all : (log : List ℕ) (spec : Specification) (reader : ReaderValue) (read : ReadValue) → take 8 log ≡ magic → HasReadAll log spec reader read
+    → (content : LogContent) × IsOpened log content (with_edition read.edition spec) read.blocks.stored read.blocks.entries
 unfolding log_of
-opened_all log spec reader blocks begins all =
+opened_all log spec reader read begins all =
     let far = all.so_far in
-    let says : content_of_records (records_of (drop 8 log)) ≡ Some far.log = ap content_of_records (says_all log spec reader blocks all) ∙ far.says in
+    let says : content_of_records (records_of (drop 8 log)) ≡ Some far.log = ap content_of_records (says_all log spec reader read all) ∙ far.says in
     let test : bytes_eq (take 8 log) magic ≡ true = (bytes_decides (take 8 log) magic).1 begins in (
       far.log,
       record {
         is_log = ap (λ (t : Bool). cond t (content_of_records (records_of (drop 8 log))) None) test ∙ says;
         says = says;
-        specified = far.specified;
+        specified = (λ i. with_edition (sym far.told i) (far.specified i));
         opened = far.opened;
       },
     )
 
-pub ends_all : (log : List ℕ) (spec : Specification) (reader : ReaderValue) (blocks : BlocksValue) → take 8 log ≡ magic → HasReadAll log spec reader blocks
+pub ends_all : (log : List ℕ) (spec : Specification) (reader : ReaderValue) (read : ReadValue) → take 8 log ≡ magic → HasReadAll log spec reader read
     → EndsAt reader.at (records_of (drop 8 log)) log
 unfolding end_of_log
-ends_all log spec reader blocks begins all = record {
+ends_all log spec reader read begins all = record {
   begins = begins;
   holds = refl;
-  ends = ap (λ (l : List Record). 8 + size_of_all l) (says_all log spec reader blocks all) ∙ sym all.so_far.place;
+  ends = ap (λ (l : List Record). 8 + size_of_all l) (says_all log spec reader read all) ∙ sym all.so_far.place;
   there = all.so_far.within;
 }
 
--- ---- The loop over the blocks
+-- ---- The loop over the records after the genesis
 
 -- whatever specification was read
 pub with_each : (reads : Option Image) (P : Specification → Image → Type 0) → ((spec : Specification) → IfSome reads (P spec))
@@ -393,33 +507,33 @@ pub with_each : (reads : Option Image) (P : Specification → Image → Type 0) 
 with_each None P each = tt
 with_each (Some image) P each = each
 
-module _ (spec : Specification) (r0 r1 : ReaderValue) (b0 b1 : BlocksValue) where
+module _ (spec : Specification) (r0 r1 : ReaderValue) (b0 b1 : ReadValue) where
   -- what was read so far
   abbrev pub SoFar : Option Image → Type 0
   SoFar reads = IfSome reads (λ image. HasRead image.log spec r0 b0 → HasRead image.log spec r1 b1)
 
   pub told_wrong : (reads later : Option Image) (at : ℕ) → later ≡ reads → SoFar reads
-      → IfSome later (λ image. IsReading image.log r1 → IsWrongHere image.log (blocks_of b1.stored) r1 at)
+      → IfSome later (λ image. IsReading image.log r1 → IsWrongHere image.log (blocks_of b1.blocks.stored) b1.edition r1 at)
       → IfSome reads (λ image. HasRead image.log spec r0 b0 → IsNoContentFrom image.log at)
   told_wrong None later at same so_far wrong = tt
   told_wrong (Some image) later at same so_far wrong = λ start.
       let far = so_far start in
-      let here = subst (λ (o : Option Image). IfSome o (λ image. IsReading image.log r1 → IsWrongHere image.log (blocks_of b1.stored) r1 at)) same wrong in
+      let here = subst (λ (o : Option Image). IfSome o (λ image. IsReading image.log r1 → IsWrongHere image.log (blocks_of b1.blocks.stored) b1.edition r1 at)) same wrong in
       wrong_here image.log spec r1 b1 at far (here far.reading)
 
-  pub told_more : (reads later : Option Image) (r2 : ReaderValue) (b2 : BlocksValue) (E : Type 0) → E → later ≡ reads → SoFar reads
+  pub told_more : (reads later : Option Image) (r2 : ReaderValue) (b2 : ReadValue) (E : Type 0) → E → later ≡ reads → SoFar reads
       → IfSome later (λ image. IsReading image.log r1 → IsReading image.log r2)
-      → IfSome later (λ image. IsReading image.log r1 → E → HasPassed image.log (λ r. IsGrownBy (r1.at + 6) r b1 b2) r1 r2)
-      → AreBlocks b2.stored b2.entries → IfSome reads (λ image. HasRead image.log spec r0 b0 → HasRead image.log spec r2 b2)
+      → IfSome later (λ image. IsReading image.log r1 → E → HasPassed image.log (λ r. IsTakenFrom (r1.at + 6) r b1 b2) r1 r2)
+      → AreBlocks b2.blocks.stored b2.blocks.entries → IfSome reads (λ image. HasRead image.log spec r0 b0 → HasRead image.log spec r2 b2)
   told_more None later r2 b2 E e same so_far goes passed are = tt
   told_more (Some image) later r2 b2 E e same so_far goes passed are = λ start.
       let far = so_far start in
       let on = subst (λ (o : Option Image). IfSome o (λ image. IsReading image.log r1 → IsReading image.log r2)) same goes in
       let over =
-      subst (λ (o : Option Image). IfSome o (λ image. IsReading image.log r1 → E → HasPassed image.log (λ r. IsGrownBy (r1.at + 6) r b1 b2) r1 r2)) same passed in
+      subst (λ (o : Option Image). IfSome o (λ image. IsReading image.log r1 → E → HasPassed image.log (λ r. IsTakenFrom (r1.at + 6) r b1 b2) r1 r2)) same passed in
       one_more_read image.log spec r1 r2 b1 b2 far (over far.reading e) are (on far.reading)
 
-  pub told_all : (reads later : Option Image) (r2 : ReaderValue) (b2 : BlocksValue) (E : Type 0) → E → later ≡ reads → SoFar reads
+  pub told_all : (reads later : Option Image) (r2 : ReaderValue) (b2 : ReadValue) (E : Type 0) → E → later ≡ reads → SoFar reads
       → IfSome later (λ image. IsReading image.log r1 → IsReading image.log r2)
       → IfSome later (λ image. IsReading image.log r1 → E → record_at (drop r1.at image.log) ≡ None)
       → IfSome later (λ image. IsReading image.log r1 → E → r1.at < r1.len → 0 < length r2.ahead)
@@ -440,7 +554,8 @@ module _ (spec : Specification) (r0 r1 : ReaderValue) (b0 b1 : BlocksValue) wher
           log = far.log;
           says = far.says;
           specified = far.specified;
-          opened = subst (λ (b : BlocksValue). AreOpened far.log b.stored b.entries) (sym is) far.opened;
+          told = far.told ∙ ap (λ (b : ReadValue). b.edition) (sym is);
+          opened = subst (λ (b : ReadValue). AreOpened far.log b.blocks.stored b.blocks.entries) (sym is) far.opened;
           counted = far.counted;
           next = at.at ∙ far.next;
         };

@@ -1,5 +1,5 @@
 -- What the records of a log are judged as.
-use Rattle.std.specs.Prelude.{◌≡◌, ℕ, ◌<◌, ◌≤◌, true, List, [], ◌∷◌, ◌++◌, length, Option, Some, None, slice_get, IsTrue}
+use Rattle.std.specs.Prelude.{◌≡◌, ◌⊎◌, ℕ, ◌<◌, ◌≤◌, ◌&&◌, true, false, is_none, List, [], ◌∷◌, ◌++◌, length, Option, Some, None, slice_get, IsTrue}
 use Rattle.chain_defs.specs.Shape.{encoded, decoded}
 use Rattle.chain_defs.specs.Schema.{Block}
 use Rattle.chain_defs.specs.Schema as shapes
@@ -9,7 +9,7 @@ use Rattle.cell_defs.specs.FitLaws.{IsCanonical, AreCanonical}
 use Rattle.chain_tree.specs.declared.entry.Entry.{Entry}
 use Rattle.chain_tree.specs.Blocks.{Describes, IndexesBlocks}
 use Rattle.chain_tree.specs.Told.{Stored, blocks_of}
-use Rattle.disk_defs.specs.Log.{Record, parts_of_body, block_of_record, is_genesis}
+use Rattle.disk_defs.specs.Log.{Record, parts_of_body, block_of_record, is_genesis, is_of_edition, is_edition, epoch_in, record_limit}
 use Rattle.disk_defs.specs.LogLaws.{HasFittingBody}
 use Rattle.log_file.specs.Pieces.{block_record}
 
@@ -87,3 +87,35 @@ pub record IsGrownBy (at : ℕ) (r : Record) (old new : BlocksValue) : Type 0 wh
   pub entries : new.entries ≡ old.entries ++ entry ∷ []
   pub named : NamesBody at r entry
   pub fits : HasFittingBody r
+
+-- ---- The records after the genesis
+
+-- what was read of a log: its blocks, and its edition, the epoch from which the second edition of the rules holds
+pub record ReadValue : Type 0 where
+  pub blocks : BlocksValue
+  pub edition : Option ℕ
+
+abbrev pub read_with : List Stored → List Entry → Option ℕ → ReadValue
+read_with stored entries edition = record { blocks = blocks_with stored entries; edition = edition }
+
+-- the edition, from its record, where there was none
+pub record IsEditedBy (r : Record) (old new : ReadValue) : Type 0 where
+  pub is : is_edition r ≡ true
+  pub first : old.edition ≡ None
+  pub edition : new.edition ≡ Some (epoch_in r)
+  pub blocks : new.blocks ≡ old.blocks
+
+-- What a record after the genesis adds: one block more, or the edition.
+abbrev pub IsTakenFrom : ℕ → Record → ReadValue → ReadValue → Type 0
+IsTakenFrom at r old new = (IsGrownBy at r old.blocks new.blocks × (new.edition ≡ old.edition)) ⊎ IsEditedBy r old new
+
+-- A record may not stand after these blocks and this edition: one of an edition is another than the first, or has other than 8 bytes; any other holds no
+-- block that may stand there, or there are as many as may be.
+abbrev pub IsMisplaced : List Block → Option ℕ → Record → Type 0
+IsMisplaced kept edition r = ((is_of_edition r ≡ true) × ((is_none edition && is_edition r) ≡ false))
+    ⊎ ((is_of_edition r ≡ false) × ((block_of_record kept r ≡ None) ⊎ (record_limit < length kept)))
+
+-- The bytes of a record of an edition, where one may still come. So a log is never longer than its blocks' records and this may make it.
+abbrev pub edition_room : Option ℕ → ℕ
+edition_room None = 14
+edition_room (Some epoch) = 0

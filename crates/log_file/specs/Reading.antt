@@ -1,7 +1,8 @@
 -- A log that is read from start to end.
-use Rattle.std.specs.Prelude.{◌≡◌, ◌⊎◌, ℕ, ◌+◌, ◌<◌, Bool, false, List, length, take, drop, Option, Some, None}
+use Rattle.std.specs.Prelude.{◌≡◌, ℕ, ◌+◌, Bool, false, List, length, take, drop, Option, Some, None}
 use Rattle.chain_defs.specs.Schema.{Block}
-use Rattle.disk_defs.specs.Log.{Record, record_bytes, record_at, record_limit, block_of_record}
+use Rattle.disk_defs.specs.Log.{Record, record_bytes, record_at}
+use Rattle.log_file.specs.Grammar.{IsMisplaced}
 
 -- What contracts see of a `Reader`: the length of the log, the place that it has come to, and the bytes from there on that are
 -- in memory.
@@ -36,9 +37,9 @@ IsOther test place damaged (Some r) = (test r ≡ false) × (damaged ≡ place +
 abbrev pub IsOtherHere : List ℕ → (Record → Bool) → ReaderValue → ℕ → Type 0
 IsOtherHere log test reader damaged = IsOther test reader.at damaged (record_at (drop reader.at log))
 
--- A record stands here that is none of a block that may stand after these, or there are as many as may be: damage at its body.
-pub record IsWrongHere (log : List ℕ) (kept : List Block) (reader : ReaderValue) (damaged : ℕ) : Type 0 where
+-- A record stands here that may not stand after these blocks and this edition: damage at its body.
+pub record IsWrongHere (log : List ℕ) (kept : List Block) (edition : Option ℕ) (reader : ReaderValue) (damaged : ℕ) : Type 0 where
   pub r : Record
   pub there : record_at (drop reader.at log) ≡ Some r
-  pub wrong : (block_of_record kept r ≡ None) ⊎ (record_limit < length kept)
+  pub wrong : IsMisplaced kept edition r
   pub at : damaged ≡ reader.at + 6

@@ -1,11 +1,12 @@
-// The records of blocks.
+// What is written of a record: of a block, or of an edition.
 
 ghost use Rattle.std.specs.Prelude.{◌≡◌, ◌+◌, ◌<◌, ◌^◌, ◌++◌, ◌∷◌, [], length, IfSome, OnOk, OnErr};
 ghost use Rattle.std.specs.Option.{option_map};
 ghost use Rattle.std.specs.Int.{w32, to_le_bytes};
-ghost use Rattle.disk_defs.specs.Log.{parts_of_body, body_of_parts};
+ghost use Rattle.disk_defs.specs.Log.{parts_of_body, body_of_parts, edition_record};
 ghost use Rattle.log_file.specs.Pieces.{block_record, after_gate};
 
+use crate::edition::EDITION;
 use crate::number::read_count;
 use outside::NoMemory;
 use std::alloc::Global;
@@ -49,6 +50,16 @@ fn put_block(piece: &mut Vec<u8>, block: &[u8], ext: &[u8]) -> Result<(), NoMemo
     Ok(())
 }
 
+/// The record of an edition, and a closed gate, after what is there.
+fn put_edition(piece: &mut Vec<u8>, epoch: u64) -> Result<(), NoMemory>
+    ensures { OnOk result (piece.new.items ≡ piece.old.items ++ after_gate (edition_record epoch)) }
+{
+    put_header(piece, EDITION, 8)?;
+    piece.extend_from_slice(&epoch.to_le_bytes())?;
+    piece.push(0)?;
+    Ok(())
+}
+
 /// What [`append`](crate::append) writes after a gate. Clauses see these bytes; there are none before the first
 /// `fill`.
 #[derive(Drop)]
@@ -86,6 +97,24 @@ impl Body {
             Err(_) => return Err(NoMemory),
         };
         match put_block(&mut piece, block, ext) {
+            Ok(()) => {
+                self.piece = piece;
+                Ok(())
+            }
+            Err(stop) => Err(stop),
+        }
+    }
+
+    /// Makes the record of an edition, and drops the one before. Out of memory, it is unchanged.
+    pub fn fill_edition(&mut self, alloc: Global, epoch: u64) -> Result<(), NoMemory>
+        ensures filled { OnOk result (self.new ≡ after_gate (edition_record epoch)) }
+        ensures err { OnErr result (self.new ≡ self.old) }
+    {
+        let mut piece = match Vec::with_capacity(alloc, 14) {
+            Ok(piece) => piece,
+            Err(_) => return Err(NoMemory),
+        };
+        match put_edition(&mut piece, epoch) {
             Ok(()) => {
                 self.piece = piece;
                 Ok(())

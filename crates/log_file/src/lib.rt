@@ -13,6 +13,7 @@ mod appending;
 mod blocks;
 mod body;
 mod creation;
+mod edition;
 mod ext;
 mod genesis;
 mod grammar;

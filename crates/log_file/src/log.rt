@@ -9,7 +9,7 @@ pub struct Log {
 /// A record in the log.
 #[derive(Clone, Copy, Debug, PartialEq, Eq)]
 pub struct Rec {
-    /// 1 for the specification, 2 for the genesis, 3 for a block with its ext.
+    /// 1 for the specification, 2 for the genesis, 3 for a block with its ext, 4 for the edition.
     pub kind: u8,
     /// The offset of its body in the log, in bytes.
     pub at: u64,

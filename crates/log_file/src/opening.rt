@@ -6,14 +6,14 @@ ghost use Rattle.outside.specs.Disk.{OthersRead, IsDurable, NoneNew, IsAsBefore,
 ghost use Rattle.outside.specs.declared.disk.Area.TheVariants.{Log as log_area};
 ghost use Rattle.disk_defs.specs.Log.{Record, LogContent, log_of, records_of, end_of_log, IsNoLogFrom};
 ghost use Rattle.disk_defs.specs.Rest.{EndsAt, IsSettled, HasLog};
-ghost use Rattle.log_file.specs.Grammar.{AreBlocks};
+ghost use Rattle.log_file.specs.Grammar.{AreBlocks, edition_room};
 ghost use Rattle.log_file.specs.Opening.{IsOpened, mended};
 ghost use Rattle.log_file.specs.Stops.{OfDamage, IsInLog};
 
 use crate::grammar::is_open;
 use crate::log::Log;
 use crate::reading::Reader;
-use crate::records::{read_blocks, read_head};
+use crate::records::{read_head, read_later};
 use crate::stop::LogStop;
 use crate::visitor::Visitor;
 use chain_tree::Tree;
@@ -25,6 +25,7 @@ use std::alloc::Global;
 #[derive(Drop)]
 pub struct Opened {
     pub log: Log,
+    /// With the edition that the log tells.
     pub spec: Spec,
     /// The entry of a block says where in LOG the body of its record is.
     pub tree: Tree,
@@ -59,7 +60,7 @@ fn read_log<D: Disk, V: Visitor>(
     ensures gate { IfSome (D.reads_as disk.old) (λ now. IfOk result (λ found. found.1 ≡ (slice_index now.log found.0.log.place == 1))) }
     ensures not_a_store { IfErr result (OfDamage (IsInLog (D.reads_as disk.old) IsNoLogFrom)) }
     ensures blocks { IfOk result (λ found. AreBlocks (V.visited visitor.new) found.0.tree.entries) }
-    ensures place { IfOk result (λ found. found.0.log.place ≤ 2 ^ 33 * (length (V.visited visitor.new) + 1)) }
+    ensures place { IfOk result (λ found. found.0.log.place + edition_room found.0.spec.second_from ≤ 2 ^ 33 * (length (V.visited visitor.new) + 1)) }
     ensures as_before { IsAsBefore D.reads_as D.images D.moment D.left_since disk.old disk.new }
     ensures cause { CountsFault (D.faults disk.old) (D.faults disk.new) (result ≡ Err LogStop.DiskFault) }
 {
@@ -68,15 +69,15 @@ fn read_log<D: Disk, V: Visitor>(
         Ok(head) => head,
         Err(stop) => return Err(stop),
     };
-    match read_blocks(alloc, disk, &mut reader, visitor, &mut tree) {
-        Ok(()) => {}
+    let edition = match read_later(alloc, disk, &mut reader, visitor, &mut tree) {
+        Ok(edition) => edition,
         Err(stop) => return Err(stop),
-    }
+    };
     let open_gate = is_open(reader.ahead());
     let place = reader.at();
     let opened = Opened {
         log: Log { place },
-        spec,
+        spec: spec.with_edition(edition),
         tree,
     };
     Ok((opened, open_gate))
@@ -124,7 +125,7 @@ pub fn open<D: Disk, V: Visitor>(
 
     // Of each disk, also of one that tells nothing:
     ensures blocks { IfOk result (λ o. AreBlocks (V.visited visitor.new) o.tree.entries) }
-    ensures place { IfOk result (λ o. o.log.place ≤ 2 ^ 33 * (length (V.visited visitor.new) + 1)) }
+    ensures place { IfOk result (λ o. o.log.place + edition_room o.spec.second_from ≤ 2 ^ 33 * (length (V.visited visitor.new) + 1)) }
 
     // The log is at rest with the records that it had.
     ensures settled { IfSome (D.reads_as disk.old) (λ now. IfOk result (λ o.

@@ -1,17 +1,19 @@
 // The records of a log, from start to end.
 
-ghost use Rattle.std.specs.Prelude.{◌≡◌, ◌≢◌, ◌+◌, ◌*◌, ◌<◌, ◌≤◌, ◌^◌, List, [], Ok, Err, None, length, take, drop, IfSome, IfOk, IfErr, OnOk, true, false};
+ghost use Rattle.std.specs.Prelude.{◌≡◌, ◌≢◌, ◌+◌, ◌-◌, ◌*◌, ◌<◌, ◌≤◌, ◌^◌, List, [], Ok, Err, None, length, take, drop, IfSome, IfOk, IfErr, OnOk, true, false};
 ghost use Rattle.outside.specs.Causes.{CountsFault};
 ghost use Rattle.outside.specs.Disk.{IsAsBefore};
 ghost use Rattle.chain_tree.specs.Told.{blocks_of};
+ghost use Rattle.chain_defs.specs.Kept.{kept_limit};
 ghost use Rattle.chain_defs.specs.Specification.{Specification, specification_of};
 ghost use Rattle.disk_defs.specs.Log.{magic, record_at, is_specification, is_genesis, IsNoLogFrom};
-ghost use Rattle.log_file.specs.Grammar.{AreBlocks, blocks_with, IsGenesisOf, IsGrownBy};
+ghost use Rattle.log_file.specs.Grammar.{AreBlocks, blocks_with, read_with, IsGenesisOf, IsTakenFrom, edition_room};
 ghost use Rattle.log_file.specs.Reading.{IsReading, IsAt, HasPassed, IsOtherHere, IsWrongHere};
 ghost use Rattle.log_file.specs.Opening.{HasRead, HasReadAll, IsNoContentFrom};
 ghost use Rattle.log_file.specs.Stops.{OfDamage, IsInLog};
 
-use crate::blocks::{begin, put};
+use crate::blocks::begin;
+use crate::edition::take;
 use crate::grammar::{is_start, record_at, spec_of};
 use crate::reading::Reader;
 use crate::stop::LogStop;
@@ -129,11 +131,11 @@ pub(crate) fn read_head<D: Disk, V: Visitor>(
 ) -> Result<(Spec, Tree), LogStop>
     requires start { reader.old.at ≡ 0 }
     requires none { V.visited visitor.old ≡ [] }
-    ensures place { IfOk result (λ head. reader.new.at ≤ 2 ^ 33 * (length (V.visited visitor.new) + 1)) }
+    ensures place { IfOk result (λ head. reader.new.at + 14 ≤ 2 ^ 33 * (length (V.visited visitor.new) + 1)) }
     ensures blocks { IfOk result (λ head. AreBlocks (V.visited visitor.new) head.1.entries) }
     ensures start { IfSome (D.reads_as disk.old) (λ image. IsReading image.log reader.old → IfOk result (λ head. take 8 image.log ≡ magic)) }
     ensures found { IfSome (D.reads_as disk.old) (λ image. IsReading image.log reader.old → IfOk result (λ head.
-        HasRead image.log head.0 reader.new (blocks_with (V.visited visitor.new) head.1.entries))) }
+        HasRead image.log head.0 reader.new (read_with (V.visited visitor.new) head.1.entries None))) }
     ensures wrong { IfErr result (OfDamage (IsInLog (D.reads_as disk.old) (λ log at. IsReading log reader.old → IsNoLogFrom log at))) }
     ensures as_before { IsAsBefore D.reads_as D.images D.moment D.left_since disk.old disk.new }
     ensures cause { CountsFault (D.faults disk.old) (D.faults disk.new) (result ≡ Err LogStop.DiskFault) }
@@ -152,28 +154,33 @@ pub(crate) fn read_head<D: Disk, V: Visitor>(
     }
 }
 
-/// Reads the record of one block more, if a record stands here, and answers whether one does.
-fn read_block<D: Disk, V: Visitor>(
+/// Reads the record that stands here after the genesis, if one does: that of one block more, or that of the edition.
+/// Answers whether one does.
+fn read_record<D: Disk, V: Visitor>(
     alloc: Global,
     disk: &mut D,
     reader: &mut Reader,
     visitor: &mut V,
     tree: &mut Tree,
+    edition: &mut Option<u64>,
 ) -> Result<bool, LogStop>
     requires { AreBlocks (V.visited visitor.old) tree.old.entries }
-    ensures at { result ≡ Ok true → (reader.new.len ≡ reader.old.len) × (reader.new.at ≤ reader.old.at + 2 ^ 32 + 5) }
+    ensures place { reader.old.at + edition_room edition.old ≤ 2 ^ 33 * (length (V.visited visitor.old) + 1)
+        → result ≡ Ok true → reader.new.at + edition_room edition.new ≤ 2 ^ 33 * (length (V.visited visitor.new) + 1) }
     ensures blocks { OnOk result (AreBlocks (V.visited visitor.new) tree.new.entries) }
-    ensures longer { result ≡ Ok true → length (V.visited visitor.new) ≡ length (V.visited visitor.old) + 1 }
-    ensures stays { result ≡ Ok false → IsAt reader.old.len reader.old.at reader.new × (V.visited visitor.new ≡ V.visited visitor.old) × (tree.new ≡ tree.old) }
+    ensures fewer { result ≡ Ok true → kept_limit - length (V.visited visitor.new) + edition_room edition.new
+        < kept_limit - length (V.visited visitor.old) + edition_room edition.old }
+    ensures stays { result ≡ Ok false → IsAt reader.old.len reader.old.at reader.new
+        × (read_with (V.visited visitor.new) tree.new.entries edition.new ≡ read_with (V.visited visitor.old) tree.old.entries edition.old) }
     ensures reading { IfSome (D.reads_as disk.old) (λ image. IsReading image.log reader.old → IsReading image.log reader.new) }
     ensures found { IfSome (D.reads_as disk.old) (λ image. IsReading image.log reader.old → result ≡ Ok true
-        → HasPassed image.log (λ r. IsGrownBy (reader.old.at + 6) r (blocks_with (V.visited visitor.old) tree.old.entries)
-        (blocks_with (V.visited visitor.new) tree.new.entries)) reader.old reader.new) }
+        → HasPassed image.log (λ r. IsTakenFrom (reader.old.at + 6) r (read_with (V.visited visitor.old) tree.old.entries edition.old)
+        (read_with (V.visited visitor.new) tree.new.entries edition.new)) reader.old reader.new) }
     ensures ended { IfSome (D.reads_as disk.old) (λ image. IsReading image.log reader.old → result ≡ Ok false → record_at (drop reader.old.at image.log) ≡ None) }
     ensures byte { IfSome (D.reads_as disk.old) (λ image. IsReading image.log reader.old → result ≡ Ok false → reader.old.at < reader.old.len
         → 0 < length reader.new.ahead) }
     ensures wrong { IfErr result (OfDamage (IsInLog (D.reads_as disk.old) (λ log at. IsReading log reader.old
-        → IsWrongHere log (blocks_of (V.visited visitor.old)) reader.old at))) }
+        → IsWrongHere log (blocks_of (V.visited visitor.old)) edition.old reader.old at))) }
     ensures as_before { IsAsBefore D.reads_as D.images D.moment D.left_since disk.old disk.new }
     ensures cause { CountsFault (D.faults disk.old) (D.faults disk.new) (result ≡ Err LogStop.DiskFault) }
 {
@@ -185,7 +192,7 @@ fn read_block<D: Disk, V: Visitor>(
     let Some((kind, body)) = record_at(reader.ahead()) else {
         return Ok(false);
     };
-    match put(alloc, visitor, tree, kind, body, place + 6) {
+    match take(alloc, visitor, tree, edition, kind, body, place + 6) {
         Ok(()) => {}
         Err(stop) => return Err(stop),
     }
@@ -194,25 +201,27 @@ fn read_block<D: Disk, V: Visitor>(
     Ok(true)
 }
 
-/// Reads the records of blocks to the end of the log.
-pub(crate) fn read_blocks<D: Disk, V: Visitor>(
+/// Reads the records after the genesis to the end of the log, and answers the edition that they tell.
+pub(crate) fn read_later<D: Disk, V: Visitor>(
     alloc: Global,
     disk: &mut D,
     reader: &mut Reader,
     visitor: &mut V,
     tree: &mut Tree,
-) -> Result<(), LogStop>
+) -> Result<Option<u64>, LogStop>
     requires { AreBlocks (V.visited visitor.old) tree.old.entries }
-    ensures place { reader.old.at ≤ 2 ^ 33 * (length (V.visited visitor.old) + 1) → OnOk result (reader.new.at ≤ 2 ^ 33 * (length (V.visited visitor.new) + 1)) }
-    ensures blocks { OnOk result (AreBlocks (V.visited visitor.new) tree.new.entries) }
+    ensures place { reader.old.at + 14 ≤ 2 ^ 33 * (length (V.visited visitor.old) + 1)
+        → IfOk result (λ edition. reader.new.at + edition_room edition ≤ 2 ^ 33 * (length (V.visited visitor.new) + 1)) }
+    ensures blocks { IfOk result (λ edition. AreBlocks (V.visited visitor.new) tree.new.entries) }
     ensures found { (spec : Specification) → IfSome (D.reads_as disk.old) (λ image.
-        HasRead image.log spec reader.old (blocks_with (V.visited visitor.old) tree.old.entries)
-        → OnOk result (HasReadAll image.log spec reader.new (blocks_with (V.visited visitor.new) tree.new.entries))) }
+        HasRead image.log spec reader.old (read_with (V.visited visitor.old) tree.old.entries None)
+        → IfOk result (λ edition. HasReadAll image.log spec reader.new (read_with (V.visited visitor.new) tree.new.entries edition))) }
     ensures wrong { IfErr result (OfDamage (IsInLog (D.reads_as disk.old) (λ log at. (spec : Specification)
-        → HasRead log spec reader.old (blocks_with (V.visited visitor.old) tree.old.entries) → IsNoContentFrom log at))) }
+        → HasRead log spec reader.old (read_with (V.visited visitor.old) tree.old.entries None) → IsNoContentFrom log at))) }
     ensures as_before { IsAsBefore D.reads_as D.images D.moment D.left_since disk.old disk.new }
     ensures cause { CountsFault (D.faults disk.old) (D.faults disk.new) (result ≡ Err LogStop.DiskFault) }
 {
-    'records: while read_block(alloc, disk, reader, visitor, tree)? {}
-    Ok(())
+    let mut edition = None;
+    'records: while read_record(alloc, disk, reader, visitor, tree, &mut edition)? {}
+    Ok(edition)
 }

@@ -23,7 +23,8 @@ use Rattle.node_store.specs.Snapshot.{OthersReadBut}
 use Rattle.chain_defs.specs.Shape.{encoded}
 use Rattle.chain_defs.specs.Schema as schema
 use Rattle.gen_defs.specs.Start as start
-use Rattle.report_defs.specs.Simulation.{live_cells, height_of, counts_over, generated_items, generated_counts}
+use Rattle.cell_defs.specs.LiveCells.{live_cells}
+use Rattle.report_defs.specs.Simulation.{height_of, counts_over, generated_items, generated_counts}
 use Rattle.made_chain.proofs.LiveCells.{as-many-as-rows}
 
 -- ---- A new store

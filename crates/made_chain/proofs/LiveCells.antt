@@ -18,12 +18,13 @@ use Rattle.std.proofs.lemmas.Option.{slice_get-map, slice_get-get_or, slice_get_
 use Rattle.chain_defs.specs.Schema.{OutPoint}
 use Rattle.cell_defs.specs.Cell.{Cell}
 use Rattle.cell_defs.specs.Events.{Event, Makes, Spends, same_out_point, last_naming, cell_left, cell_after}
+use Rattle.cell_defs.specs.LiveCells.{live_cells}
+use Rattle.cell_defs.proofs.LiveLaws.{lists-just-the-live, lists-each-once}
 use Rattle.cell_defs.specs.Row.{Row, out_point_cmp, IsRising, ListsRows}
 use Rattle.cell_state.specs.Slots.{key_of, same_key}
 use Rattle.cell_state.proofs.SlotLemmas.{same-is}
 use Rattle.cell_state.proofs.HeightLemmas.{map-some}
 use Rattle.cell_state.proofs.ListLemmas.{same_key-equiv}
-use Rattle.report_defs.specs.Simulation.{live_cells}
 
 -- ---- Elements
 
@@ -125,122 +126,19 @@ rising-apart (row ∷ later) rising = (
 
 -- ---- The live cells
 
-nothing-in : {X : Type 0} (x : X) → Contains [] x → ⊥
-nothing-in x (k, lt, is) = omega (arith, lt)
+-- a list in which no out-point stands twice
+apart-keys : (p : OutPoint) (list : List (OutPoint × Cell)) → AllByRecursion (λ (o : OutPoint). same_out_point p o ≡ false) (map (λ (listed : OutPoint × Cell). listed.0) list)
+    → AllByRecursion (λ (k : List ℕ × ℕ). same_key (key_of p) k ≡ false) (keys_of (map keyed list))
+apart-keys p [] once = tt
+apart-keys p (x ∷ later) once = (once.0, apart-keys p later once.1)
 
-none-cell : (cell : Cell) → cell_left None ≡ Some cell → ⊥
-none-cell cell is = cc
-
--- a later event decides
-later-decides : (found rest : Option Event) (cell : Cell) → cell_left found ≡ Some cell → cell_left (elim found [ Some last ↦ Some last | None ↦ rest ]) ≡ Some cell
-later-decides None rest cell is = absurd (none-cell cell is)
-later-decides (Some last) rest cell is = is
-
--- what is listed of later events stays listed
-stays-listed : (found : Option Event) (o : OutPoint) (made : Cell) (later : List (OutPoint × Cell)) (x : OutPoint × Cell) → Contains later x
-    → Contains (elim found [ None ↦ (o, made) ∷ later | Some last ↦ later ]) x
-stays-listed None o made later x has = there (o, made) later x has
-stays-listed (Some last) o made later x has = has
-
--- ---- What is listed is live
-
-abbrev after_make : OutPoint → Cell → OutPoint → Option Event → Option Event
-after_make p made o found = elim found [ Some last ↦ Some last | None ↦ (if same_out_point p o then Some (Makes p made) else None) ]
-
-abbrev with_make : OutPoint → Cell → Option Event → List (OutPoint × Cell) → List (OutPoint × Cell)
-with_make p made found later = elim found [ None ↦ (p, made) ∷ later | Some last ↦ later ]
-
-made-is-live : (p : OutPoint) (made : Cell) (found : Option Event) (o : OutPoint) (cell : Cell) → found ≡ None → ◌≡◌ {A = OutPoint × Cell} (p, made) (o, cell)
-    → cell_left (after_make p made o found) ≡ Some cell
-made-is-live p made None o cell none is =
-    let same : same_out_point p o ≡ true = ap (λ (x : OutPoint × Cell). same_out_point p x.0) (sym is) ∙ same-self p in
-    rw same (ap (λ (x : OutPoint × Cell). Some x.1) is)
-made-is-live p made (Some last) o cell none is = cc
-
-make-is-live : (p : OutPoint) (made : Cell) (later : List Event) (o : OutPoint) (cell : Cell) (found : Option Event) → last_naming p later ≡ found
-    → (Contains (live_cells later) (o, cell) → cell_left (last_naming o later) ≡ Some cell)
-    → Contains (with_make p made found (live_cells later)) (o, cell) → cell_left (after_make p made o (last_naming o later)) ≡ Some cell
-make-is-live p made later o cell None none behind has = ⊎_elim
-    (λ same. made-is-live p made (last_naming o later) o cell (ap (λ (x : OutPoint × Cell). last_naming x.0 later) (sym same) ∙ none) same)
-    (λ listed. later-decides (last_naming o later) _ cell (behind listed))
-    (cons-of (p, made) (live_cells later) (o, cell) has)
-make-is-live p made later o cell (Some last) found behind has = later-decides (last_naming o later) _ cell (behind has)
-
-pub listed-is-live : (events : List Event) (o : OutPoint) (cell : Cell) → Contains (live_cells events) (o, cell) → cell_after events o ≡ Some cell
-unfolding live_cells last_naming cell_after
-listed-is-live [] o cell has = absurd (nothing-in (o, cell) has)
-listed-is-live (Makes p made ∷ later) o cell has = make-is-live p made later o cell (last_naming p later) refl (listed-is-live later o cell) has
-listed-is-live (Spends p ∷ later) o cell has = later-decides (last_naming o later) _ cell (listed-is-live later o cell has)
-
--- ---- What is live is listed
-
-spend-leaves-none : (b : Bool) (p : OutPoint) (cell : Cell) → cell_left (if b then Some (Spends p) else None) ≡ Some cell → ⊥
-spend-leaves-none true p cell is = cc
-spend-leaves-none false p cell is = cc
-
-make-leaves : (b : Bool) (p : OutPoint) (made cell : Cell) → cell_left (if b then Some (Makes p made) else None) ≡ Some cell → (b ≡ true) × (made ≡ cell)
-make-leaves true p made cell is = (refl, cc)
-make-leaves false p made cell is = cc
-
-make-is-listed : (p : OutPoint) (made : Cell) (later : List Event) (o : OutPoint) (cell : Cell) (found : Option Event) → last_naming o later ≡ found
-    → (cell_left (last_naming o later) ≡ Some cell → Contains (live_cells later) (o, cell))
-    → cell_left (after_make p made o found) ≡ Some cell → Contains (with_make p made (last_naming p later) (live_cells later)) (o, cell)
-make-is-listed p made later o cell None none behind is =
-    let left = make-leaves (same_out_point p o) p made cell is in
-    let same : p ≡ o = same-is p o left.0 in
-    let last : last_naming p later ≡ None = ap (λ (q : OutPoint). last_naming q later) same ∙ none in
-    let element : ◌≡◌ {A = OutPoint × Cell} (p, made) (o, cell) = ap (λ (q : OutPoint). (q, made)) same ∙ ap (λ (c : Cell). (o, c)) left.1 in
-    rw last (subst (λ (x : OutPoint × Cell). Contains ((p, made) ∷ live_cells later) x) element (here (p, made) (live_cells later)))
-make-is-listed p made later o cell (Some last) found behind is =
-    stays-listed (last_naming p later) p made (live_cells later) (o, cell) (behind (ap cell_left found ∙ is))
-
-spend-is-listed : (p : OutPoint) (later : List Event) (o : OutPoint) (cell : Cell) (found : Option Event) → last_naming o later ≡ found
-    → (cell_left (last_naming o later) ≡ Some cell → Contains (live_cells later) (o, cell))
-    → cell_left (elim found [ Some last ↦ Some last | None ↦ (if same_out_point p o then Some (Spends p) else None) ]) ≡ Some cell → Contains (live_cells later) (o, cell)
-spend-is-listed p later o cell None none behind is = absurd (spend-leaves-none (same_out_point p o) p cell is)
-spend-is-listed p later o cell (Some last) found behind is = behind (ap cell_left found ∙ is)
-
-pub live-is-listed : (events : List Event) (o : OutPoint) (cell : Cell) → cell_after events o ≡ Some cell → Contains (live_cells events) (o, cell)
-unfolding live_cells last_naming cell_after
-live-is-listed [] o cell is = absurd (none-cell cell is)
-live-is-listed (Makes p made ∷ later) o cell is = make-is-listed p made later o cell (last_naming o later) refl (live-is-listed later o cell) is
-live-is-listed (Spends p ∷ later) o cell is = spend-is-listed p later o cell (last_naming o later) refl (live-is-listed later o cell) is
-
--- ---- And once
-
--- an out-point that no later event names has no live cell later
-unnamed-apart : (p : OutPoint) (later : List Event) → last_naming p later ≡ None → (o : OutPoint) (cell : Cell) → Contains (live_cells later) (o, cell)
-    → (same : Bool) → same_key (key_of p) (key_of o) ≡ same → same ≡ false
-unfolding cell_after
-unnamed-apart p later none o cell has false is = refl
-unnamed-apart p later none o cell has true is =
-    let live : cell_left (last_naming o later) ≡ Some cell = listed-is-live later o cell has in
-    absurd (none-cell cell (ap cell_left (sym none ∙ ap (λ (q : OutPoint). last_naming q later) (same-out-point p o is)) ∙ live))
-
-make-apart : (p : OutPoint) (made : Cell) (later : List Event) (found : Option Event) → last_naming p later ≡ found → AreApart (live_cells later)
-    → AreApart (with_make p made found (live_cells later))
+keys-apart : (list : List (OutPoint × Cell)) → IsDistinct same_out_point (map (λ (listed : OutPoint × Cell). listed.0) list) → AreApart list
 unfolding IsDistinct
-make-apart p made later None none apart = (apart-from p (live_cells later) (λ o cell has. unnamed-apart p later none o cell has _ refl), apart)
-make-apart p made later (Some last) found apart = apart
+keys-apart [] once = tt
+keys-apart (x ∷ later) once = (apart-keys x.0 later once.0, keys-apart later once.1)
 
-pub live-apart : (events : List Event) → AreApart (live_cells events)
-unfolding live_cells IsDistinct
-live-apart [] = tt
-live-apart (Makes p made ∷ later) = make-apart p made later (last_naming p later) refl (live-apart later)
-live-apart (Spends p ∷ later) = live-apart later
-
-apart-out-points : (p : OutPoint) (list : List (OutPoint × Cell)) → AllByRecursion (λ (k : List ℕ × ℕ). same_key (key_of p) k ≡ false) (keys_of (map keyed list))
-    → AllByRecursion (λ (o : OutPoint). same_out_point p o ≡ false) (map (λ (listed : OutPoint × Cell). listed.0) list)
-apart-out-points p [] apart = tt
-apart-out-points p (x ∷ later) apart = (apart.0, apart-out-points p later apart.1)
-
-out-points-once : (list : List (OutPoint × Cell)) → AreApart list → IsDistinct same_out_point (map (λ (listed : OutPoint × Cell). listed.0) list)
-unfolding IsDistinct
-out-points-once [] apart = tt
-out-points-once (x ∷ later) apart = (apart-out-points x.0 later apart.0, out-points-once later apart.1)
-
-pub listed-once : (events : List Event) → IsDistinct same_out_point (map (λ (listed : OutPoint × Cell). listed.0) (live_cells events))
-listed-once events = out-points-once (live_cells events) (live-apart events)
+live-apart : (events : List Event) → AreApart (live_cells events)
+live-apart events = keys-apart (live_cells events) (lists-each-once events)
 
 -- ---- As many as rows
 
@@ -249,7 +147,7 @@ pub as-many-as-rows : (events : List Event) (row_by : Cell → Row) (rows : OutP
     → ((o : OutPoint) → rows o ≡ option_map row_by (cell_after events o)) → ListsRows rows list → length list ≡ length (live_cells events)
 as-many-as-rows events row_by rows list are lists =
     let most = no-longer list (live_cells events) (rising-apart list lists.rising)
-    (λ o row has. let live = map-some row_by (cell_after events o) row (sym (are o) ∙ (lists.each o row).0 has) in (live.0, live-is-listed events o live.0 live.1)) in
+    (λ o row has. let live = map-some row_by (cell_after events o) row (sym (are o) ∙ (lists.each o row).0 has) in (live.0, (lists-just-the-live events o live.0).1 live.1)) in
     let least = no-longer (live_cells events) list (live-apart events)
-    (λ o cell has. (row_by cell, (lists.each o (row_by cell)).1 (are o ∙ ap (option_map row_by) (listed-is-live events o cell has)))) in
+    (λ o cell has. (row_by cell, (lists.each o (row_by cell)).1 (are o ∙ ap (option_map row_by) ((lists-just-the-live events o cell).0 has)))) in
     omega (arith, most, least)

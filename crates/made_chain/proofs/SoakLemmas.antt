@@ -14,7 +14,8 @@ use Rattle.verdict_defs.specs.Chain.{Chain, verdicts_over, chain_over, chain_of_
 use Rattle.gen_defs.specs.Start as start
 use Rattle.gen_defs.specs.Chain.{block_made, blocks_made}
 use Rattle.report_defs.specs.declared.counts.Counts.{Counts}
-use Rattle.report_defs.specs.Simulation.{live_cells, height_of, counts_over, generated_items, AreSoakCounts}
+use Rattle.cell_defs.specs.LiveCells.{live_cells}
+use Rattle.report_defs.specs.Simulation.{height_of, counts_over, generated_items, AreSoakCounts}
 use Rattle.report_defs.specs.SoakLaws.{NamesNoLater, PrefixesReplay, GeneratedNameNoLater, JoinedAreCounted}
 use Rattle.made_chain.specs.Sessions.{items_in, IsKeptAfter}
 use Rattle.made_chain.specs.Soak.{last_acked, IsPlayed}

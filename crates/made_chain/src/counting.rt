@@ -6,7 +6,8 @@ ghost use Rattle.cell_defs.specs.Events.{events};
 ghost use Rattle.verdict_defs.specs.Verdict as rules;
 ghost use Rattle.verdict_defs.specs.Chain.{verdict_over, chain_after, verdicts_over, chain_over, chain_of_genesis};
 ghost use Rattle.node_store.specs.Node.{IsItsOwn, IsOnlyImage, IsSoundNode, IsSoundOn};
-ghost use Rattle.report_defs.specs.Simulation.{live_cells, height_of, counts_over, generated_counts};
+ghost use Rattle.cell_defs.specs.LiveCells.{live_cells};
+ghost use Rattle.report_defs.specs.Simulation.{height_of, counts_over, generated_counts};
 
 use chain_gen::{Made, make};
 use node_store::{HELD, Judging, Node, judge};

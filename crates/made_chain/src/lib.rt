@@ -6,14 +6,12 @@
 #![tactic(auto)]
 
 mod counting;
-mod laws;
 mod outcome;
 mod plan;
 mod playing;
 mod soaking;
 
 pub use counting::counts_of;
-pub use laws::live_cells_laws;
 pub use outcome::{End, Played};
 pub use plan::Session;
 pub use playing::{play, session};

@@ -87,7 +87,7 @@ whole-at-hand spec stored entries index state kept b entry whole are on joined l
           (place_of-below kept.chain.blocks b.header.parent_hash entry.parent on.on_kept))
           (subst (λ (blocks : List Block). AreOf blocks entry.parent (rows state)) (sym seen) live);
       uncles = are.uncles;
-      fees = have-own-fees spec stored before.joined before.own are.counted;
+      fees = have-own-fees spec stored before are.counted;
     }
 
 -- J5 is among the rules on a header.

@@ -65,34 +65,41 @@ fn at_sight(
     judge_at_sight(alloc, &context, block)
 }
 
+/// A block that is not kept, on a kept parent, with its entry for the tree.
+#[derive(Drop)]
+struct Candidate<'b, 'a> {
+    block: &'b BlockView<'a>,
+    entry: Entry,
+}
+
 /// Judges a block that has passed at sight on a kept parent, by the live cells of its parent's branch.
 fn judge_on<B: Blocks>(
     alloc: Global,
     kept: &Kept,
     blocks: &mut B,
     state: &State,
-    block: &BlockView<'_>,
+    candidate: &Candidate<'_, '_>,
     hashes: Vec<[u8; 32]>,
-    entry: Entry,
 ) -> Result<Decision, ReadStop>
-    requires entry { IsEntryOn kept.now.chain.blocks block.now entry }
-    requires passed { HasPassed kept.now.chain entry.parent block.now hashes.items }
+    requires entry { IsEntryOn kept.now.chain.blocks candidate.now.block.now candidate.now.entry }
+    requires passed { HasPassed kept.now.chain candidate.now.entry.parent candidate.now.block.now hashes.items }
     requires counts { B.count blocks.old ≡ length kept.now.chain.blocks }
     ensures read { HasRead B.told B.count B.loans_of B.faults B.damages blocks.old blocks.new (stop_of result) }
-    ensures ready { IfOk result (IsReadyBlock kept.now.chain block.now) }
-    ensures on { IfOk result (IsOnParent entry.parent) }
-    ensures decided { HoldsJoined kept.now (B.told blocks.old) → AreOf kept.now.chain.blocks entry.parent (rows state.now)
-        → IfOk result (IsDecidedBlock kept.now.chain block.now) }
-    ensures undamaged { HoldsJoined kept.now (B.told blocks.old) → AreOf kept.now.chain.blocks entry.parent (rows state.now)
+    ensures ready { IfOk result (IsReadyBlock kept.now.chain candidate.now.block.now) }
+    ensures on { IfOk result (IsOnParent candidate.now.entry.parent) }
+    ensures decided { HoldsJoined kept.now (B.told blocks.old) → AreOf kept.now.chain.blocks candidate.now.entry.parent (rows state.now)
+        → IfOk result (IsDecidedBlock kept.now.chain candidate.now.block.now) }
+    ensures undamaged { HoldsJoined kept.now (B.told blocks.old) → AreOf kept.now.chain.blocks candidate.now.entry.parent (rows state.now)
         → (damage : Damage) → result ≡ Err (Damaged damage) → ⊥ }
 {
-    let parent = entry.parent;
+    let block = candidate.block;
+    let entry = candidate.entry;
     let context = Context {
         spec: &kept.spec,
         tree: &kept.tree,
         uncles: &kept.uncles,
         cells: state,
-        parent,
+        parent: entry.parent,
     };
     match judge(alloc, &context, blocks, block, &hashes) {
         Err(JudgeStop::Broken(rule)) => Ok(Decision::Stays(Verdict::Refused(rule.number()))),
@@ -124,27 +131,26 @@ fn decide_on<B: Blocks, L: Ledger>(
     kept: &Kept,
     blocks: &mut B,
     state: State,
-    block: &BlockView<'_>,
-    entry: Entry,
+    candidate: &Candidate<'_, '_>,
     steps: &mut Steps<L>,
 ) -> Result<(State, Decision), ReadStop>
-    requires entry { IsEntryOn kept.now.chain.blocks block.now entry }
+    requires entry { IsEntryOn kept.now.chain.blocks candidate.now.block.now candidate.now.entry }
     requires counts { B.count blocks.old ≡ length kept.now.chain.blocks }
     ensures read { HasRead B.told B.count B.loans_of B.faults B.damages blocks.old blocks.new (stop_of result) }
-    ensures ready { IfOk result (λ it. IsReadyBlock kept.now.chain block.now it.1) }
+    ensures ready { IfOk result (λ it. IsReadyBlock kept.now.chain candidate.now.block.now it.1) }
     ensures cells { HoldsJoined kept.now (B.told blocks.old) → AreOfTip kept.now.chain.blocks (rows state)
         → IfOk result (λ it. AreOfFound kept.now.chain.blocks (place_for kept.now.chain.blocks it.1) (rows it.0)) }
     ensures below { AreOfKept kept.now.chain.blocks (rows state) → IfOk result (λ it. AreOfKept kept.now.chain.blocks (rows it.0)) }
     ensures decided { HoldsJoined kept.now (B.told blocks.old) → AreOfTip kept.now.chain.blocks (rows state)
-        → IfOk result (λ it. IsDecidedBlock kept.now.chain block.now it.1) }
+        → IfOk result (λ it. IsDecidedBlock kept.now.chain candidate.now.block.now it.1) }
     ensures undamaged { HoldsJoined kept.now (B.told blocks.old) → AreOfTip kept.now.chain.blocks (rows state)
         → (damage : Damage) → result ≡ Err (Damaged damage) → ⊥ }
-    ensures asked { result ≡ Err NoMemory → WantsMemory kept.now.chain block.now }
-    ensures most { steps.new ≤ steps.old + (moves_on kept.now.chain block.now (Some entry.parent) - 1) }
-    ensures sight { moves_on kept.now.chain block.now (Some entry.parent) ≡ 0 → blocks.new ≡ blocks.old }
+    ensures asked { result ≡ Err NoMemory → WantsMemory kept.now.chain candidate.now.block.now }
+    ensures most { steps.new ≤ steps.old + (moves_on kept.now.chain candidate.now.block.now (Some candidate.now.entry.parent) - 1) }
+    ensures sight { moves_on kept.now.chain candidate.now.block.now (Some candidate.now.entry.parent) ≡ 0 → blocks.new ≡ blocks.old }
 {
-    let parent = entry.parent;
-    let hashes = match at_sight(alloc, kept, block, parent) {
+    let parent = candidate.entry.parent;
+    let hashes = match at_sight(alloc, kept, candidate.block, parent) {
         Ok(hashes) => hashes,
         Err(JudgeStop::Broken(rule)) => {
             return Ok((state, Decision::Stays(Verdict::Refused(rule.number()))));
@@ -159,7 +165,7 @@ fn decide_on<B: Blocks, L: Ledger>(
         Ok(there) => there,
         Err(stop) => return Err(stop),
     };
-    let decision = match judge_on(alloc, kept, blocks, &there, block, hashes, entry) {
+    let decision = match judge_on(alloc, kept, blocks, &there, candidate, hashes) {
         Ok(decision) => decision,
         Err(stop) => {
             drop(there);
@@ -209,16 +215,19 @@ fn decide_block<B: Blocks, L: Ledger>(
         return Ok((state, Decision::Stays(Verdict::Refused(3))));
     };
     let entry = entry_on(block, hash, parent);
-    decide_on(alloc, kept, blocks, state, block, entry, steps)
+    let candidate = Candidate { block, entry };
+    decide_on(alloc, kept, blocks, state, &candidate, steps)
 }
 
-/// The judge by the rules J1 to J32 (docs/RULES.md).
-pub struct Rules;
+/// The judge by the rules J1 to J32 (docs/RULES.md), which takes its memory from an allocator.
+#[derive(Drop)]
+pub struct Rules {
+    pub alloc: Global,
+}
 
 impl Judging for Rules {
     fn decide<B: Blocks, L: Ledger>(
         &self,
-        alloc: Global,
         kept: &Kept,
         blocks: &mut B,
         state: State,
@@ -227,7 +236,7 @@ impl Judging for Rules {
     ) -> Result<(State, Decision), ReadStop> {
         match BlockView::read(item) {
             None => Ok((state, Decision::Stays(Verdict::Refused(1)))),
-            Some(block) => decide_block(alloc, kept, blocks, state, &block, steps),
+            Some(block) => decide_block(self.alloc, kept, blocks, state, &block, steps),
         }
     }
 }

@@ -17,9 +17,10 @@ use Rattle.chain_tree.specs.declared.entry.Entry.{Entry}
 use Rattle.chain_tree.specs.Told.{Stored, blocks_of}
 use Rattle.chain_tree.specs.Blocks.{IndexesBlocks}
 use Rattle.chain_tree.proofs.BlockLemmas.{len-same}
-use Rattle.disk_defs.specs.Log.{Record, records_of, end_of_log}
+use Rattle.disk_defs.specs.Log.{Record, records_of, of_blocks, edition_of, end_of_log}
 use Rattle.disk_defs.specs.LogLaws.{HasFittingBody}
 use Rattle.disk_defs.specs.Rest.{IsSettled}
+use Rattle.disk_defs.proofs.Contents.{editions_are_kept, blocks_of_more}
 use Rattle.log_file.specs.Pieces.{block_record, Names}
 use Rattle.log_file.specs.Grammar.{record_of}
 use Rattle.log_file.specs.Opening.{NameBodies, kept_records}
@@ -94,17 +95,21 @@ module _ (kept next : KeptValue) (b : Block) (item ext : List ℕ) (entry : Entr
       ∙ sym (adds_a_record (stored_of kept) one_more stored_some).0 ∙ ap kept_records (sym stored_is)
 
   module _ (image now : Image) (read : IsReadBy kept cache.held image) (ends : end_of_log image.log ≡ place)
-      (holds : records_of (drop 8 now.log) ≡ (record_of 1 read.specification ∷ kept_records (stored_of kept)) ++ block_record item ext ∷ []) where
-    all_records : records_of (drop 8 now.log) ≡ record_of 1 read.specification ∷ kept_records (stored_of next)
-    all_records = holds ∙ ap (λ (records : List Record). record_of 1 read.specification ∷ records) records_are
+      (holds : records_of (drop 8 now.log) ≡ (record_of 1 read.specification ∷ read.records) ++ block_record item ext ∷ []) where
+    keeps_next : of_blocks (read.records ++ block_record item ext ∷ []) ≡ kept_records (stored_of next)
+    keeps_next =
+        blocks_of_more read.records (block_record item ext) refl
+        ∙ ap (λ (records : List Record). records ++ block_record item ext ∷ []) read.keeps ∙ records_are
 
-    named_next : NameBodies (14 + length read.specification) (kept_records (stored_of next)) next.entries
+    edition_next : edition_of (read.records ++ block_record item ext ∷ []) ≡ next.chain.spec.second_from
+    edition_next = (editions_are_kept read.records (block_record item ext)).same refl ∙ read.edition ∙ ap (λ (k : KeptValue). k.chain.spec.second_from) (sym is)
+
+    named_next : NameBodies (14 + length read.specification) (read.records ++ block_record item ext ∷ []) next.entries
     named_next =
-        subst (λ (entries : List Entry). NameBodies (14 + length read.specification) (kept_records (stored_of next)) entries)
+        subst (λ (entries : List Entry). NameBodies (14 + length read.specification) (read.records ++ block_record item ext ∷ []) entries)
         (sym (ap (λ (k : KeptValue). k.entries) is))
-        (subst (λ (records : List Record). NameBodies (14 + length read.specification) records (kept.entries ++ entry ∷ [])) records_are
-        (follows_the_log image.log read.specification (kept_records (stored_of kept)) kept.entries (block_record item ext) rec entry read.names
-        (subst (λ (p : ℕ). Names rec p (block_record item ext)) (sym ends) names) at len))
+        (follows_the_log image.log read.specification read.records kept.entries (block_record item ext) rec entry read.names refl
+        (subst (λ (p : ℕ). Names rec p (block_record item ext)) (sym ends) names) at len)
 
     can_next : CanBeKept (stored_of next)
     can_next =
@@ -122,7 +127,10 @@ module _ (kept next : KeptValue) (b : Block) (item ext : List ℕ) (entry : Entr
     read_next : IsReadBy next later.held now
     read_next = record {
       specification = read.specification;
-      names = record { holds = all_records; named = named_next };
+      records = read.records ++ block_record item ext ∷ [];
+      keeps = keeps_next;
+      edition = edition_next;
+      names = record { holds = holds; named = named_next };
       can = can_next;
       agrees = agrees_next;
     }
@@ -130,8 +138,8 @@ module _ (kept next : KeptValue) (b : Block) (item ext : List ℕ) (entry : Entr
   module _ (cells cells1 : StateValue) (end : ℕ) (reads reads1 : Option Image) (images images1 : Image → Type 0)
       (after : (records : List Record) → IsSettled place records reads images → IsSettled end (records ++ block_record item ext ∷ []) reads1 images1) where
     settled_then : (of : IsOf (node_of kept place cells cache) reads images)
-        → IsSettled end ((record_of 1 of.read.specification ∷ kept_records (stored_of kept)) ++ block_record item ext ∷ []) reads1 images1
-    settled_then of = after (record_of 1 of.read.specification ∷ kept_records (stored_of kept)) of.settled
+        → IsSettled end ((record_of 1 of.read.specification ∷ of.read.records) ++ block_record item ext ∷ []) reads1 images1
+    settled_then of = after (record_of 1 of.read.specification ∷ of.read.records) of.settled
 
     of_next : IsOf (node_of kept place cells cache) reads images → IsOf (node_of next end cells1 later) reads1 images1
     unfolding read_next
@@ -141,7 +149,7 @@ module _ (kept next : KeptValue) (b : Block) (item ext : List ℕ) (entry : Entr
           now = then.now;
           told = then.told;
           read = read_next of.now then.now of.read (ends_there of) then.rest.holds;
-          settled = subst (λ (records : List Record). IsSettled end (record_of 1 of.read.specification ∷ records) reads1 images1) records_are then;
+          settled = then;
         }
       where
         ends_there : (there : IsOf (node_of kept place cells cache) reads images) → end_of_log there.now.log ≡ place

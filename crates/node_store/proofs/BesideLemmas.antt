@@ -92,7 +92,10 @@ module _ {D : Type 0} (reads_as : D → Option Image) (images : D → Image → 
         told = at.told;
         read = record {
           specification = of.read.specification;
-          names = subst (λ (l : List ℕ). NamesTheLog l of.read.specification (kept_records (stored_of (kept_in node))) node.entries) (sym at.log) of.read.names;
+          records = of.read.records;
+          keeps = of.read.keeps;
+          edition = of.read.edition;
+          names = subst (λ (l : List ℕ). NamesTheLog l of.read.specification of.read.records node.entries) (sym at.log) of.read.names;
           can = of.read.can;
           agrees = of.read.agrees;
         };

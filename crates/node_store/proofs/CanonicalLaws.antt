@@ -10,7 +10,8 @@ use Rattle.chain_defs.proofs.ShapeLaws.{IsA-decoded}
 use Rattle.chain_defs.specs.Specification.{Specification}
 use Rattle.chain_defs.specs.Kept.{block_list, blocks_of_item}
 use Rattle.cell_defs.specs.Ext.{is_ext}
-use Rattle.disk_defs.specs.Log.{Record, LogContent, record_limit, records_of, magic, log_of, content_of_records, are_first, blocks_over, block_of_record, block_of_parts, block_if, may_stand_on, parts_of_body}
+use Rattle.disk_defs.proofs.Contents.{says_by_parts}
+use Rattle.disk_defs.specs.Log.{Record, LogContent, records_of, of_blocks, magic, log_of, content_of_records, blocks_over, block_of_record, block_of_parts, block_if, may_stand_on, parts_of_body}
 use Rattle.verdict_defs.specs.Chain.{Chain}
 use Rattle.verdict_defs.specs.Verdict.{verdict, joins, kept_after}
 use Rattle.cell_defs.specs.FitLaws.{IsCanonical, AreCanonical}
@@ -78,21 +79,8 @@ over-are kept (r ∷ records) all canonical over = by_found (λ x. over-are (kep
     by_found again (Some x) is over = again x (both-are kept (x ∷ []) canonical (one-is x (record-is kept r x is))) over
 
 content-is : (records : List Record) (log : LogContent) → content_of_records records ≡ Some log → AreCanonical log.blocks
-content-is [] log says = absurd (cc)
-content-is (one ∷ []) log says = absurd (cc)
-content-is (one ∷ two ∷ records) log says =
-    by_blocks (blocks_over (blocks_of_item two.body) records) refl
-    (where-some (are_first one two && nat_le (length records) record_limit)
-    (option_map content (blocks_over (blocks_of_item two.body) records)) log says)
-  where
-    content : List Block → LogContent
-    content blocks = record { specification = one.body; genesis = two.body; records = records; blocks = blocks }
-
-    by_blocks : (found : Option (List Block)) → blocks_over (blocks_of_item two.body) records ≡ found → option_map content found ≡ Some log → AreCanonical log.blocks
-    by_blocks None is at = absurd (cc)
-    by_blocks (Some blocks) is at =
-        subst (λ (l : LogContent). AreCanonical l.blocks) (same_Some (content blocks) log at)
-        (over-are (blocks_of_item two.body) records blocks (item-is two.body) is)
+content-is records log says =
+    over-are (blocks_of_item log.genesis) (of_blocks log.records) log.blocks (item-is log.genesis) ((says_by_parts records log).0 says).over
 
 log-is : (bytes : List ℕ) (log : LogContent) → log_of bytes ≡ Some log → AreCanonical log.blocks
 unfolding log_of

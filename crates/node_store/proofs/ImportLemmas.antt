@@ -24,6 +24,7 @@ use Rattle.node_store.specs.declared.decision.Decision.TheVariants.{Joins}
 use Rattle.node_store.specs.Judging.{IsReadyItem, IsJudged, IsDecided, MayWantMemory}
 use Rattle.node_store.specs.Kept.{KeptValue, kept_with}
 use Rattle.node_store.specs.Node.{IsWithin}
+use Rattle.log_file.specs.Grammar.{edition_room}
 
 pub joined_stays_not : ◌≡◌ {A = Bool} true false → ⊥
 joined_stays_not is = absurd (cc)
@@ -92,9 +93,9 @@ is_ext_for chain item ext joining (b, is, may) form count = record {
 -- ---- What is kept with it
 
 -- the place is within the limit of the log
-pub place_limit : (count place : ℕ) → count ≤ kept_limit → IsWithin count place → place ≤ 2 ^ 61
+pub place_limit : (count place : ℕ) (edition : Option ℕ) → count ≤ kept_limit → IsWithin count edition place → place ≤ 2 ^ 61
 unfolding kept_limit
-place_limit count place few within = omega (arith, few, within)
+place_limit count place edition few within = omega (arith, few, within)
 
 module _ (inside next : KeptValue) (chain : Chain) (item ext : List ℕ) (entry : Entry) (joining : Joining) (same : inside.chain ≡ chain)
     (kept : (b : Block) → decoded block item ≡ Some b → next ≡ kept_with inside b ext entry) where
@@ -124,7 +125,10 @@ module _ (inside next : KeptValue) (chain : Chain) (item ext : List ℕ) (entry 
     pub few_after : length next.chain.blocks ≤ kept_limit
     few_after = omega (arith, one_more, ready.2.ready.room)
 
-    pub within_after : (place end size : ℕ) → IsWithin (length inside.chain.blocks) place → end ≡ place + size → size < 2 ^ 33
-        → IsWithin (length next.chain.blocks) end
+    same_edition : next.chain.spec.second_from ≡ inside.chain.spec.second_from
+    same_edition = ap (λ (k : KeptValue). k.chain.spec.second_from) (kept ready.0 ready.1)
+
+    pub within_after : (place end size : ℕ) → IsWithin (length inside.chain.blocks) inside.chain.spec.second_from place → end ≡ place + size → size < 2 ^ 33
+        → IsWithin (length next.chain.blocks) next.chain.spec.second_from end
     within_after place end size within sum short =
-        omega (arith, one_more, ap (λ (c : Chain). length c.blocks) same, within, sum, short)
+        omega (arith, one_more, ap (λ (c : Chain). length c.blocks) same, ap edition_room same_edition, within, sum, short)

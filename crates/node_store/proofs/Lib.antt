@@ -2,6 +2,7 @@ pub mod CanonicalLaws
 pub mod BranchLemmas
 pub mod SpentLemmas
 pub mod FitLaws
+pub mod FeeLaws
 pub mod WayLaws
 pub mod HeldLaws
 pub mod HeldLemmas
@@ -33,3 +34,4 @@ pub mod SourceLemmas
 pub mod StayingLemmas
 pub mod ImportedLemmas
 pub mod WritingLemmas
+pub mod MigrationLemmas

@@ -1,6 +1,6 @@
 -- What the records of a log say of kept blocks, and what is read at the places of their bodies.
-use Rattle.std.proofs.Common.{◌≡◌, ℕ, zero, suc, ◌+◌, ◌^◌, ◌<◌, Bool, true, false, cond, leb, List, [], ◌∷◌, ◌++◌, length, map, take, drop, Option, Some, None, refl, sym, ap, subst, ◌∙◌, arith, inl, inr}
-use Rattle.std.specs.Prelude.{◌&&◌, ◌==◌, All, IsTrue, slice_get}
+use Rattle.std.proofs.Common.{◌≡◌, ℕ, zero, suc, ◌+◌, ◌^◌, ◌<◌, Bool, true, false, cond, List, [], ◌∷◌, ◌++◌, length, map, take, drop, Option, Some, None, refl, sym, ap, subst, ◌∙◌, arith, inl, inr}
+use Rattle.std.specs.Prelude.{◌&&◌, ◌==◌, not, is_none, All, IsTrue, slice_get}
 use Rattle.std.specs.Option.{option_map, option_and_then}
 use Rattle.std.specs.Int.{w32, to_le_bytes}
 use Rattle.std.proofs.lemmas.Bool.{and_parts, eq-eqb, eqb-true}
@@ -8,21 +8,23 @@ use Rattle.std.proofs.lemmas.List.{append_assoc, append-nil, length-append, drop
 use Rattle.std.proofs.lemmas.List.Elements.{All-push}
 use Rattle.chain_defs.specs.Shape.{encoded, decoded}
 use Rattle.chain_defs.specs.Schema.{Block, block}
-use Rattle.chain_defs.specs.Kept.{block_list, blocks_of_item}
+use Rattle.chain_defs.specs.Kept.{block_list}
 use Rattle.chain_defs.proofs.KeptLaws.{slice_get-pushed}
 use Rattle.cell_defs.specs.Ext.{is_ext}
+use Rattle.rule_defs.specs.Genesis.{broken_genesis_rule}
 use Rattle.outside.specs.Image.{Image}
-use Rattle.disk_defs.specs.Log.{Record, LogContent, record_at, record_bytes, all_record_bytes, records_of, end_of_log, record_limit, parts_of_body, may_stand_on, block_if, block_of_parts, block_of_record, blocks_over, are_first, content_of_records}
-use Rattle.disk_defs.specs.LogLaws.{HasFittingBody}
+use Rattle.disk_defs.specs.Log.{Record, LogContent, record_at, record_bytes, all_record_bytes, records_of, end_of_log, parts_of_body, may_stand_on, block_if, block_of_parts, block_of_record, blocks_over, is_of_edition, of_blocks, content_of_records}
+use Rattle.disk_defs.specs.LogLaws.{HasFittingBody, IsSaidBy}
 use Rattle.disk_defs.proofs.Records.{record_length, parts_at, records_of_none, records_of_some, size_of_all}
-use Rattle.disk_defs.proofs.Contents.{gives_the_parts, said, one_genesis, good_genesis}
+use Rattle.disk_defs.proofs.Contents.{gives_the_parts, says_by_parts, one_genesis, good_genesis}
 use Rattle.log_file.specs.Grammar.{record_of, ext_in}
-use Rattle.log_file.specs.Opening.{NameBodies}
+use Rattle.log_file.specs.Opening.{NameNext, NameBodies}
+use Rattle.log_file.proofs.Progress.{names-push, names-pass}
 use Rattle.chain_tree.specs.Told.{Stored, blocks_of}
 use Rattle.chain_tree.specs.declared.entry.Entry.{Entry}
-use Rattle.node_store.specs.Stored.{of_length, body_at, with_ext, parts_in, beside, stored_in, stored_of, put_first, all_stored, all_in, later_record}
+use Rattle.node_store.specs.Stored.{of_length, body_at, with_ext, parts_in, beside, stored_in, stored_of, put_first, all_stored, all_in, known_in, later_record}
 use Rattle.log_file.specs.Opening.{kept_records}
-use Rattle.node_store.specs.StoredLaws.{LogHasRecords, ReadsItsRecord, SaysWhatIsKept, LogHasBlocks, SaysWhatIsOpened, OpensKnown, SaysOneMore, FollowsTheLog, AddsARecord}
+use Rattle.node_store.specs.StoredLaws.{LogHasRecords, ReadsItsRecord, SaysWhatIsKept, LogHasBlocks, SaysWhatIsOpened, OpensKnown, SaysOneMore, FollowsTheLog, PassesEditions, AddsARecord}
 use Rattle.node_store.proofs.StoredLemmas.{put_first-at}
 
 -- ---- The first record of a log
@@ -63,19 +65,29 @@ body_there image place r entry there at len =
     let read : take entry.len (drop entry.at image.log) ≡ r.body = (λ i. take (len i) (after i)) ∙ bytes in
     ap (of_length entry.len) read ∙ of_its_length entry.len r.body len
 
--- entries that name the bodies of records tell what the records say
+-- entries that name the bodies of records tell what those of blocks say
 pub all_told : (image : Image) (n place : ℕ) (records : List Record) (entries : List Entry) → records_of (drop place image.log) ≡ records
-    → NameBodies place records entries → all_stored image n entries ≡ all_in n records
+    → NameBodies place records entries → all_stored image n entries ≡ all_in n (of_blocks records)
 all_told image n place [] [] holds named = refl
 all_told image n place [] (entry ∷ entries) holds named = absurd named
-all_told image n place (r ∷ records) [] holds named = absurd named
-all_told image n place (r ∷ records) (entry ∷ entries) holds named =
-    let first = first_record (drop place image.log) r records holds in
-    let here : stored_of image n entry ≡ stored_in n r.body = ap (option_and_then (stored_in n)) (body_there image place r entry first.0 named.0 named.1) in
-    let next : records_of (drop (place + length (record_bytes r)) image.log) ≡ records =
-    ap records_of (sym (drop-drop (length (record_bytes r)) place image.log)) ∙ first.1 in
-    let later : all_stored image (suc n) entries ≡ all_in (suc n) records = all_told image (suc n) (place + length (record_bytes r)) records entries next named.2 in
-    λ i. put_first (here i) (later i)
+all_told image n place (r ∷ records) entries holds named =
+    by_kind (is_of_edition r) entries named (λ m es names. all_told image m (place + length (record_bytes r)) records es next names)
+  where
+    first : (record_at (drop place image.log) ≡ Some r) × (records_of (drop (length (record_bytes r)) (drop place image.log)) ≡ records)
+    first = first_record (drop place image.log) r records holds
+
+    next : records_of (drop (place + length (record_bytes r)) image.log) ≡ records
+    next = ap records_of (sym (drop-drop (length (record_bytes r)) place image.log)) ∙ first.1
+
+    by_kind : (t : Bool) (entries : List Entry) → NameNext t place r entries (NameBodies (place + length (record_bytes r)) records)
+        → ((m : ℕ) (es : List Entry) → NameBodies (place + length (record_bytes r)) records es → all_stored image m es ≡ all_in m (of_blocks records))
+        → all_stored image n entries ≡ all_in n (cond (not t) (r ∷ of_blocks records) (of_blocks records))
+    by_kind true entries named again = again n entries named
+    by_kind false [] named again = absurd named
+    by_kind false (entry ∷ entries) named again =
+        let here : stored_of image n entry ≡ stored_in n r.body = ap (option_and_then (stored_in n)) (body_there image place r entry first.0 named.0 named.1) in
+        let later : all_stored image (suc n) entries ≡ all_in (suc n) (of_blocks records) = again (suc n) entries named.2 in
+        λ i. put_first (here i) (later i)
 
 pub log_has_records : LogHasRecords
 log_has_records image specification records entries names =
@@ -130,7 +142,8 @@ says_what_is_kept (genesis ∷ later) can =
     λ i. put_first (here i) (rest i)
 
 pub log_has_blocks : LogHasBlocks
-log_has_blocks image specification stored entries names can = log_has_records image specification (kept_records stored) entries names ∙ says_what_is_kept stored can
+log_has_blocks image specification records stored entries names keeps can =
+    log_has_records image specification records entries names ∙ ap known_in keeps ∙ says_what_is_kept stored can
 
 -- ---- The records of a log that is opened
 
@@ -206,43 +219,17 @@ over_told place kept (r ∷ records) (it ∷ later) over exts =
         later_exts : it.ext ∷ map (λ one. one.ext) later ≡ ext_in r ∷ map ext_in records → map (λ one. one.ext) later ≡ map ext_in records
         later_exts is = cc
 
--- the records that a log says, by what it says
-record IsSaidBy (records : List Record) (log : LogContent) : Type 0 where
-  pub split : records ≡ record_of 1 log.specification ∷ record_of 2 log.genesis ∷ log.records
-  pub genesis : length (blocks_of_item log.genesis) ≡ 1
-  pub blocks : blocks_over (blocks_of_item log.genesis) log.records ≡ Some log.blocks
-
 of_kind : (r : Record) (kind : ℕ) → (r.kind == kind) ≡ true → r ≡ record_of kind r.body
 of_kind r kind is = let same : r.kind ≡ kind = eqb-true r.kind kind is in λ i. record { kind = same i; body = r.body }
 
-said_by : (records : List Record) (log : LogContent) → content_of_records records ≡ Some log → IsSaidBy records log
-said_by [] log says = absurd cc
-said_by (one ∷ []) log says = absurd cc
-said_by (one ∷ two ∷ records) log says = by_test (are_first one two && leb (length records) record_limit) refl says
-  where
-    by_blocks : are_first one two ≡ true → (o : Option (List Block)) → blocks_over (blocks_of_item two.body) records ≡ o → said one two records o ≡ Some log
-        → IsSaidBy (one ∷ two ∷ records) log
-    by_blocks first None is says = absurd cc
-    by_blocks first (Some blocks) is says =
-        let made : LogContent = record { specification = one.body; genesis = two.body; records = records; blocks = blocks } in
-        let same : made ≡ log = same_log says in
-        let kinds = and_parts _ _ (and_parts _ _ first).0 in
-        let kind_one = (and_parts _ _ kinds.0).0 in
-        let its : IsSaidBy (one ∷ two ∷ records) made = record {
-          split = λ i. of_kind one 1 kind_one i ∷ of_kind two 2 kinds.1 i ∷ records;
-          genesis = one_genesis two.body (good_genesis one two first);
-          blocks = is;
-        } in
-        subst (IsSaidBy (one ∷ two ∷ records)) same its
-      where
-        same_log : Some (record { specification = one.body; genesis = two.body; records = records; blocks = blocks }) ≡ Some log
-            → record { specification = one.body; genesis = two.body; records = records; blocks = blocks } ≡ log
-        same_log says = cc
-
-    by_test : (t : Bool) → (are_first one two && leb (length records) record_limit) ≡ t
-        → cond t (said one two records (blocks_over (blocks_of_item two.body) records)) None ≡ Some log → IsSaidBy (one ∷ two ∷ records) log
-    by_test false is says = absurd cc
-    by_test true is says = by_blocks (and_parts (are_first one two) (leb (length records) record_limit) is).0 (blocks_over (blocks_of_item two.body) records) refl says
+-- The records of a log are that of its specification, that of its genesis, and those after it.
+pub records-are : (records : List Record) (log : LogContent) → content_of_records records ≡ Some log
+    → records ≡ record_of 1 log.specification ∷ record_of 2 log.genesis ∷ log.records
+records-are records log says =
+    let is : IsSaidBy records log = (says_by_parts records log).0 says in
+    let kinds = and_parts _ _ (and_parts _ _ is.first).0 in
+    let kind_one = (and_parts _ _ kinds.0).0 in
+    is.all ∙ (λ i. (of_kind is.one 1 kind_one ∙ ap (record_of 1) is.specification) i ∷ (of_kind is.two 2 kinds.1 ∙ ap (record_of 2) is.genesis) i ∷ log.records)
 
 -- the genesis with the blocks after it
 genesis_told : (item : List ℕ) (records : List Record) (blocks : List Block) (stored : List Stored) (o : Option Block) → decoded block item ≡ o
@@ -270,14 +257,15 @@ genesis_told item records blocks (genesis ∷ later) (Some g) is one over same e
 
 pub says_what_is_opened : SaysWhatIsOpened
 says_what_is_opened records log stored says blocks exts =
-    let its = said_by records log says in
-    genesis_told log.genesis log.records log.blocks stored (decoded block log.genesis) refl its.genesis its.blocks blocks exts
+    let is : IsSaidBy records log = (says_by_parts records log).0 says in
+    let good : is_none (broken_genesis_rule log.genesis) ≡ true =
+    ap (λ (item : List ℕ). is_none (broken_genesis_rule item)) (sym is.genesis) ∙ good_genesis is.one is.two is.first in
+    genesis_told log.genesis (of_blocks log.records) log.blocks stored (decoded block log.genesis) refl (one_genesis log.genesis good) is.over blocks exts
 
 pub opens_known : OpensKnown
 opens_known image log stored entries says blocks exts named =
     let records : List Record = records_of (drop 8 image.log) in
-    let its = said_by records log says in
-    log_has_records image log.specification (record_of 2 log.genesis ∷ log.records) entries (record { holds = its.split; named = named })
+    log_has_records image log.specification (record_of 2 log.genesis ∷ log.records) entries (record { holds = records-are records log says; named = named })
     ∙ says_what_is_opened records log stored says blocks exts
 
 -- ---- One more
@@ -299,24 +287,17 @@ all_in-more n (first ∷ records) stored r it is one =
 pub says_one_more : SaysOneMore
 says_one_more records stored r it says one = all_in-more 0 records stored r it says (ap (λ (k : ℕ). stored_in k r.body) (omega arith) ∙ one)
 
-names_more : (place : ℕ) (records : List Record) (entries : List Entry) (r : Record) (entry : Entry) → NameBodies place records entries
-    → entry.at ≡ place + size_of_all records + 6 → entry.len ≡ length r.body → NameBodies place (records ++ r ∷ []) (entries ++ entry ∷ [])
-names_more place [] [] r entry so_far at len = (at ∙ omega arith, len, tt)
-names_more place [] (e ∷ es) r entry so_far at len = absurd so_far
-names_more place (first ∷ records) [] r entry so_far at len = absurd so_far
-names_more place (first ∷ records) (e ∷ es) r entry so_far at len =
-    let n : ℕ = length (record_bytes first) in
-    let sum : size_of_all (first ∷ records) ≡ n + size_of_all records = length-append (record_bytes first) (all_record_bytes records) in
-    (so_far.0, so_far.1, names_more (place + n) records es r entry so_far.2 (at ∙ omega (arith, sum)) len)
-
 pub follows_the_log : FollowsTheLog
 unfolding end_of_log
-follows_the_log bytes specification records entries r rec entry names named at len =
+follows_the_log bytes specification records entries r rec entry names other named at len =
     let one : Record = record_of 1 specification in
     let end : end_of_log bytes ≡ 8 + size_of_all (one ∷ records) = ap (λ (l : List Record). 8 + size_of_all l) names.holds in
     let sum : size_of_all (one ∷ records) ≡ length (record_bytes one) + size_of_all records = length-append (record_bytes one) (all_record_bytes records) in
     let place : entry.at ≡ 14 + length specification + size_of_all records + 6 = at ∙ named.1 ∙ omega (arith, end, sum, record_length one) in
-    names_more (14 + length specification) records entries r entry names.named place (len ∙ named.2)
+    names-push (14 + length specification) records entries r entry other names.named (record { at = place; len = len ∙ named.2 })
+
+pub passes_editions : PassesEditions
+passes_editions place records entries r named is = names-pass place records entries r is named
 
 pub adds_a_record : AddsARecord
 adds_a_record [] it some = absurd (omega (arith, some))

@@ -16,7 +16,7 @@ use Rattle.cell_state.specs.State.{StateValue, rows}
 use Rattle.cell_state.specs.Moves.{AreOf}
 use Rattle.chain_defs.specs.Specification.{Specification}
 use Rattle.verdict_defs.specs.Chain.{Chain}
-use Rattle.disk_defs.specs.Log.{Record, LogContent, content_of_records, log_of, records_of, end_of_log, IsNoLogFrom}
+use Rattle.disk_defs.specs.Log.{Record, LogContent, of_blocks, edition_of, content_of_records, log_of, records_of, end_of_log, IsNoLogFrom}
 use Rattle.log_file.specs.Stops.{IsInLog}
 use Rattle.disk_defs.specs.Rest.{IsAtRest, IsSettled, HasLog}
 use Rattle.disk_defs.proofs.Contents.{says_its_records}
@@ -25,7 +25,7 @@ use Rattle.store_defs.specs.Store.{Store, NoLog, Keeps, store_of, store_of_log, 
 use Rattle.chain_tree.specs.declared.entry.Entry.{Entry}
 use Rattle.chain_tree.specs.Blocks.{AreRated}
 use Rattle.chain_tree.specs.Told.{Stored}
-use Rattle.log_file.specs.Grammar.{record_of, AreBlocks}
+use Rattle.log_file.specs.Grammar.{record_of, AreBlocks, edition_room}
 use Rattle.log_file.specs.Opening.{IsOpened, NameBodies, kept_records}
 use Rattle.log_file.proofs.Settling.{others_kept, others_on}
 use Rattle.node_store.specs.Held.{CacheValue, Holds, AgreesWith}
@@ -42,7 +42,8 @@ use Rattle.node_store.proofs.KeepingLemmas.{left_by_opening}
 use Rattle.node_store.proofs.LoadingLemmas.{newest-still}
 use Rattle.node_store.proofs.KeptRecorded.{paired-kept}
 use Rattle.node_store.proofs.RecordedLemmas.{same_image}
-use Rattle.node_store.proofs.OpeningLemmas.{joined-log, joined-chain, records-are, can-be-kept, chain-opened, counted-opened, joined-opened, rated-opened}
+use Rattle.node_store.proofs.LogLemmas.{records-are}
+use Rattle.node_store.proofs.OpeningLemmas.{joined-log, joined-chain, can-be-kept, chain-opened, counted-opened, joined-opened, rated-opened}
 
 -- ---- What is said of what a disk reads as
 
@@ -77,12 +78,13 @@ Opened spec stored entries now = (log : LogContent) × IsOpened now.log log spec
 
 -- what a node asks of its chain, its place and its live cells
 pub is_bounded : (kept : KeptValue) (spec : Specification) (stored : List Stored) (entries : List Entry) (place : ℕ) (cells : StateValue)
-    → kept ≡ kept_of spec stored entries → length stored ≤ kept_limit → place ≤ 2 ^ 33 * (length stored + 1) → AreOfKept kept.chain.blocks (rows cells)
+    → kept ≡ kept_of spec stored entries → length stored ≤ kept_limit → place + edition_room spec.second_from ≤ 2 ^ 33 * (length stored + 1) → AreOfKept kept.chain.blocks (rows cells)
     → IsBounded kept place cells
 is_bounded kept spec stored entries place cells of few within below =
     let many : length stored ≡ length kept.chain.blocks =
     sym (ap (λ (k : KeptValue). length k.chain.blocks) of ∙ length-map stored (λ (it : Stored). it.block)) in
-    record { few = omega (arith, few, many); within = subst (λ (n : ℕ). IsWithin n place) many within; below = below }
+    let edition : kept.chain.spec.second_from ≡ spec.second_from = ap (λ (k : KeptValue). k.chain.spec.second_from) of in
+    record { few = omega (arith, few, many); within = omega (arith, many, within, ap edition_room edition); below = below }
 
 -- before a block is read nothing is held
 nothing-held : (e : ℕ) (it : Stored) → Holds [] e it → ⊥
@@ -95,21 +97,26 @@ module _ (now : Image) (log : LogContent) (kept : KeptValue) (spec : Specificati
   stored_is : stored_of kept ≡ stored
   stored_is = ap stored_of of ∙ paired-kept stored
 
-  held_is : record_of 2 log.genesis ∷ log.records ≡ kept_records (stored_of kept)
-  held_is = is.opened.held ∙ ap kept_records (sym stored_is)
+  keeps_now : of_blocks (record_of 2 log.genesis ∷ log.records) ≡ kept_records (stored_of kept)
+  keeps_now = is.opened.held ∙ ap kept_records (sym stored_is)
 
-  all_records : records_of (drop 8 now.log) ≡ record_of 1 log.specification ∷ kept_records (stored_of kept)
-  all_records =
-      records-are (records_of (drop 8 now.log)) log is.says ∙ ap (λ (l : List Record). record_of 1 log.specification ∷ l) held_is
+  edition_now : edition_of (record_of 2 log.genesis ∷ log.records) ≡ kept.chain.spec.second_from
+  edition_now =
+      ap (λ (spec : Specification). spec.second_from) (sym is.specified) ∙ ap (λ (k : KeptValue). k.chain.spec.second_from) (sym of)
+
+  all_records : records_of (drop 8 now.log) ≡ record_of 1 log.specification ∷ record_of 2 log.genesis ∷ log.records
+  all_records = records-are (records_of (drop 8 now.log)) log is.says
 
   read_by : (place : ℕ) (image : Image) → IsAtRest place (records_of (drop 8 now.log)) image.log → IsReadBy kept cache.held image
   read_by place image rest = record {
     specification = log.specification;
+    records = record_of 2 log.genesis ∷ log.records;
+    keeps = keeps_now;
+    edition = edition_now;
     names = record {
       holds = rest.holds ∙ all_records;
-      named = subst (λ (named : List Entry). NameBodies (14 + length log.specification) (kept_records (stored_of kept)) named)
-          (sym (ap (λ (k : KeptValue). k.entries) of))
-          (subst (λ (l : List Record). NameBodies (14 + length log.specification) l entries) held_is is.opened.named);
+      named = subst (λ (named : List Entry). NameBodies (14 + length log.specification) (record_of 2 log.genesis ∷ log.records) named)
+          (sym (ap (λ (k : KeptValue). k.entries) of)) is.opened.named;
     };
     can = subst CanBeKept (sym stored_is) (can-be-kept now.log log spec stored entries is are);
     agrees = subst (AgreesWith (stored_of kept)) (sym none) (λ e it there. absurd (nothing-held e it there));
@@ -400,7 +407,7 @@ module _ {D : Type 0} (reads_as : D → Option Image) (images : D → Image → 
         told = told;
         read = now;
         settled = subst (λ (l : List Record). IsSettled place l (reads_as new) (images new)) (sym of.read.names.holds ∙ now.names.holds)
-            (settled_still place (record_of 1 of.read.specification ∷ kept_records (stored_of kept)) of.settled);
+            (settled_still place (record_of 1 of.read.specification ∷ of.read.records) of.settled);
       }
 
   only_still : (chain : Chain) → IsOnlyImage chain (reads_as mid) (images mid) → IsOnlyImage chain (reads_as new) (images new)

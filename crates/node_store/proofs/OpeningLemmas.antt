@@ -1,12 +1,10 @@
 -- A log that was opened: what is kept of it, and what is so of that where its image is sound.
-use Rattle.std.proofs.Common.{◌≡◌, ℕ, zero, suc, ◌+◌, ◌-◌, ◌^◌, ◌<◌, Bool, true, false, cond, leb, List, [], ◌∷◌, length, drop, map, Option, Some, None, refl, sym, ap, ◌∙◌, subst, arith}
-use Rattle.std.specs.Prelude.{◌&&◌, ◌==◌, IfSome, IsTrue, slice_get, is_none}
+use Rattle.std.proofs.Common.{◌≡◌, ℕ, zero, suc, ◌+◌, ◌-◌, ◌^◌, ◌<◌, List, [], ◌∷◌, length, drop, map, Option, Some, None, refl, sym, ap, ◌∙◌, subst, arith}
+use Rattle.std.specs.Prelude.{not, IfSome, IsTrue, slice_get}
 use Rattle.std.specs.Option.{option_map}
 use Rattle.std.specs.List.{All}
-use Rattle.std.proofs.lemmas.Bool.{and_parts}
-use Rattle.std.proofs.lemmas.Bool.Decides.{Decides-eqb}
 use Rattle.std.proofs.lemmas.List.{length-map}
-use Rattle.std.proofs.lemmas.List.Elements.{All-cons}
+use Rattle.std.proofs.lemmas.List.Elements.{All-cons, All-filter}
 use Rattle.std.proofs.lemmas.Option.{same_Some, slice_get-map, slice_get_within}
 use Rattle.chain_defs.specs.Shape.{Encoding, encoded, decoded, dynvec, fixvec}
 use Rattle.chain_defs.specs.Schema.{header, uncle_block, transaction, proposal_short_id, Block, block}
@@ -15,9 +13,8 @@ use Rattle.chain_defs.proofs.RowLaws.{block-check}
 use Rattle.cell_defs.specs.FitLaws.{IsCanonical}
 use Rattle.cell_defs.proofs.ShapeLemmas.{table-parts}
 use Rattle.chain_defs.specs.Dao.{is_rated}
-use Rattle.chain_defs.specs.Specification.{Specification, broken_specification_rule}
-use Rattle.rule_defs.specs.Genesis.{broken_genesis_rule}
-use Rattle.chain_defs.specs.Kept.{block_at, blocks_of_item}
+use Rattle.chain_defs.specs.Specification.{Specification}
+use Rattle.chain_defs.specs.Kept.{block_at}
 use Rattle.chain_defs.proofs.KeptLaws.{slice_get-below}
 use Rattle.cell_defs.specs.Ext.{count_at}
 use Rattle.chain_tree.specs.declared.entry.Entry.{Entry}
@@ -26,9 +23,9 @@ use Rattle.chain_tree.specs.Told.{Stored, blocks_of}
 use Rattle.chain_tree.proofs.BlockLemmas.{described}
 use Rattle.verdict_defs.specs.Chain.{Chain}
 use Rattle.outside.specs.Image.{Image}
-use Rattle.disk_defs.specs.Log.{Record, LogContent, record_limit, records_of, log_of, content_of_records, are_first, blocks_over, parts_of_body}
+use Rattle.disk_defs.specs.Log.{Record, LogContent, records_of, is_of_edition, of_blocks, log_of, parts_of_body}
 use Rattle.disk_defs.specs.LogLaws.{HasFittingBody}
-use Rattle.disk_defs.proofs.Contents.{said, counts_its_records}
+use Rattle.disk_defs.proofs.Contents.{counts_its_records}
 use Rattle.store_defs.specs.Store.{Keeps, chain_of, IsSound, IsJoined, AreJoined, HaveOwnExts, own_ext, chain_before, EachHasJoined}
 use Rattle.store_defs.proofs.JoinedLemmas.{joined_of_image}
 use Rattle.store_defs.proofs.ExtLemmas.{HoldsItsExt, exts_of_log, own_of_record}
@@ -57,36 +54,6 @@ joined-chain now log (chain, stands) is =
 
 -- ---- The first two records
 
-kind-is : (r : Record) (kind : ℕ) → r.kind ≡ kind → record_of kind r.body ≡ r
-kind-is r kind is = λ i. record { kind = sym is i; body = r.body }
-
--- The records of a log are that of its specification, that of its genesis, and those of its blocks.
-pub records-are : (records : List Record) (log : LogContent) → content_of_records records ≡ Some log
-    → records ≡ record_of 1 log.specification ∷ record_of 2 log.genesis ∷ log.records
-records-are [] log says = absurd (cc)
-records-are (one ∷ []) log says = absurd (cc)
-records-are (one ∷ two ∷ records) log says = by_test (are_first one two && leb (length records) record_limit) refl says
-  where
-    by_blocks : are_first one two ≡ true → (o : Option (List Block)) → said one two records o ≡ Some log
-        → one ∷ two ∷ records ≡ record_of 1 log.specification ∷ record_of 2 log.genesis ∷ log.records
-    by_blocks first None is = absurd (cc)
-    by_blocks first (Some blocks) is =
-        let same : record { specification = one.body; genesis = two.body; records = records; blocks = blocks } ≡ log = (cc) in
-        let front = and_parts ((one.kind == 1) && is_none (broken_specification_rule one.body) && (two.kind == 2)) (is_none (broken_genesis_rule two.body)) first in
-        let kinds = and_parts ((one.kind == 1) && is_none (broken_specification_rule one.body)) (two.kind == 2) front.0 in
-        let kind = and_parts (one.kind == 1) (is_none (broken_specification_rule one.body)) kinds.0 in
-        let first_is : record_of 1 one.body ≡ one = kind-is one 1 ((Decides-eqb one.kind 1).0 kind.0) in
-        let second_is : record_of 2 two.body ≡ two = kind-is two 2 ((Decides-eqb two.kind 2).0 kinds.1) in
-        (λ i. sym first_is i ∷ sym second_is i ∷ records)
-        ∙ ap (λ (l : LogContent). record_of 1 l.specification ∷ record_of 2 l.genesis ∷ l.records) same
-
-    by_test : (t : Bool) → (are_first one two && leb (length records) record_limit) ≡ t
-        → cond t (said one two records (blocks_over (blocks_of_item two.body) records)) None ≡ Some log
-        → one ∷ two ∷ records ≡ record_of 1 log.specification ∷ record_of 2 log.genesis ∷ log.records
-    by_test false is says = absurd (cc)
-    by_test true is says =
-        by_blocks (and_parts (are_first one two) (leb (length records) record_limit) is).0 (blocks_over (blocks_of_item two.body) records) says
-
 -- ---- They can be kept
 
 abbrev block_fields : Block → List Encoding
@@ -109,7 +76,7 @@ first_body : List Record → List ℕ
 first_body [] = []
 first_body (r ∷ records) = r.body
 
-fitting-records : (stored : List Stored) (log : LogContent) → record_of 2 log.genesis ∷ log.records ≡ kept_records stored
+fitting-records : (stored : List Stored) (log : LogContent) → record_of 2 log.genesis ∷ of_blocks log.records ≡ kept_records stored
     → ((place : ℕ) (it : Stored) → slice_get stored place ≡ Some it → IsCanonical it.block) → All HasFittingBody log.records
     → All HasFittingBody (kept_records stored)
 unfolding first_body block
@@ -117,8 +84,9 @@ fitting-records [] log held canonical fits = absurd (cc)
 fitting-records (genesis ∷ later) log held canonical fits =
     let first : log.genesis ≡ encoded block genesis.block = ap first_body held in
     subst (All HasFittingBody) held
-    (All-cons HasFittingBody (record_of 2 log.genesis) log.records
-    (subst (λ (bytes : List ℕ). length bytes < 2 ^ 32) (sym first) (canonical-short genesis.block (canonical 0 genesis refl))) fits)
+    (All-cons HasFittingBody (record_of 2 log.genesis) (of_blocks log.records)
+    (subst (λ (bytes : List ℕ). length bytes < 2 ^ 32) (sym first) (canonical-short genesis.block (canonical 0 genesis refl)))
+    (All-filter (λ (r : Record). not (is_of_edition r)) HasFittingBody log.records fits))
 
 no-ext : (stored : List Stored) (exts : List (List ℕ)) → exts_of stored ≡ [] ∷ exts → IfSome (slice_get stored 0) (λ it. it.ext ≡ [])
 no-ext [] exts is = absurd (cc)
@@ -132,7 +100,7 @@ can-be-kept bytes log spec stored entries is are =
     record {
       canonical = λ place it there. canonical-decodes it.block (canonical place it there);
       fit = fitting-records stored log is.opened.held canonical is.opened.fits;
-      genesis = no-ext stored (map ext_in log.records) is.opened.exts;
+      genesis = no-ext stored (map ext_in (of_blocks log.records)) is.opened.exts;
       forms = λ place it above there. are.forms place it there above;
     }
 
@@ -157,7 +125,7 @@ ext_is r item ext is =
 
 module _ (bytes : List ℕ) (log : LogContent) (spec : Specification) (stored : List Stored) (entries : List Entry)
     (is : IsOpened bytes log spec stored entries) (each : EachHasJoined log) where
-  many : length log.blocks ≡ length log.records + 1
+  many : length log.blocks ≡ length (of_blocks log.records) + 1
   many = counts_its_records (records_of (drop 8 bytes)) log is.says
 
   block-in : (place : ℕ) (it : Stored) → slice_get stored place ≡ Some it → block_at log.blocks place ≡ Some it.block
@@ -165,17 +133,17 @@ module _ (bytes : List ℕ) (log : LogContent) (spec : Specification) (stored : 
       ap (λ (blocks : List Block). block_at blocks place) (sym is.opened.blocks) ∙ block-there stored place it there
 
   -- the ext beside a block is that of its record
-  ext-in : (before : ℕ) (it : Stored) (r : Record) → slice_get stored (suc before) ≡ Some it → slice_get log.records before ≡ Some r → it.ext ≡ ext_in r
+  ext-in : (before : ℕ) (it : Stored) (r : Record) → slice_get stored (suc before) ≡ Some it → slice_get (of_blocks log.records) before ≡ Some r → it.ext ≡ ext_in r
   ext-in before it r there at =
       same_Some it.ext (ext_in r)
       (sym (slice_get-map (λ (x : Stored). x.ext) stored (suc before) ∙ ap (option_map (λ (x : Stored). x.ext)) there)
-      ∙ ap (λ (l : List (List ℕ)). slice_get l (suc before)) is.opened.exts ∙ slice_get-map ext_in log.records before ∙ ap (option_map ext_in) at)
+      ∙ ap (λ (l : List (List ℕ)). slice_get l (suc before)) is.opened.exts ∙ slice_get-map ext_in (of_blocks log.records) before ∙ ap (option_map ext_in) at)
 
-  record-at : (before : ℕ) (b : Block) → block_at log.blocks (suc before) ≡ Some b → (r : Record) × (slice_get log.records before ≡ Some r)
-  record-at before b there = slice_get-below log.records before (omega (arith, many, slice_get_within log.blocks (suc before) b there))
+  record-at : (before : ℕ) (b : Block) → block_at log.blocks (suc before) ≡ Some b → (r : Record) × (slice_get (of_blocks log.records) before ≡ Some r)
+  record-at before b there = slice_get-below (of_blocks log.records) before (omega (arith, many, slice_get_within log.blocks (suc before) b there))
 
-  fit-record : (before : ℕ) (r : Record) → slice_get log.records before ≡ Some r → HasFittingBody r
-  fit-record before r at = fit-one log.records before r is.opened.fits at
+  fit-record : (before : ℕ) (r : Record) → slice_get (of_blocks log.records) before ≡ Some r → HasFittingBody r
+  fit-record before r at = fit-one (of_blocks log.records) before r (All-filter (λ (x : Record). not (is_of_edition x)) HasFittingBody log.records is.opened.fits) at
     where
       fit-one : (records : List Record) (place : ℕ) (one : Record) → All HasFittingBody records → slice_get records place ≡ Some one → HasFittingBody one
       fit-one [] place one all at = absurd (cc)
@@ -202,13 +170,13 @@ module _ (bytes : List ℕ) (log : LogContent) (spec : Specification) (stored : 
       let next : before + 1 ≡ suc before = omega arith in
       let r = record-at before b there in
       let own = own_of_record log each before r.0 b r.1 (ap (block_at log.blocks) next ∙ there) in
-      ap (λ (l : List (List ℕ)). slice_get l (suc before)) is.opened.exts ∙ slice_get-map ext_in log.records before ∙ ap (option_map ext_in) r.1
+      ap (λ (l : List (List ℕ)). slice_get l (suc before)) is.opened.exts ∙ slice_get-map ext_in (of_blocks log.records) before ∙ ap (option_map ext_in) r.1
       ∙ ap Some (ext_is r.0 own.0 (own_ext (chain_before log (before + 1)) b) own.1)
       ∙ ap (λ (count : ℕ). Some (own_ext (chain_before log count) b)) next
 
   own-log : HaveOwnExts (chain_of log) (exts_of stored)
   own-log = record {
-    as_many = ap length is.opened.exts ∙ ap suc (length-map log.records ext_in) ∙ omega (arith, many);
+    as_many = ap length is.opened.exts ∙ ap suc (length-map (of_blocks log.records) ext_in) ∙ omega (arith, many);
     own = own_at;
   }
 

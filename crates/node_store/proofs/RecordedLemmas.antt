@@ -37,7 +37,7 @@ own-later node later (Some image) after old new same images own read =
     subst (λ (reads : Option Image). IsItsOwn (record node { held = later.held; most = later.most; damages = later.damages }) reads new) (sym same) (record {
       now = own.now;
       told = own.told;
-      read = record { specification = own.read.specification; names = own.read.names; can = own.read.can; agrees = now.agrees };
+      read = record { specification = own.read.specification; records = own.read.records; keeps = own.read.keeps; edition = own.read.edition; names = own.read.names; can = own.read.can; agrees = now.agrees };
       settled = record {
         now = own.settled.now;
         told = own.settled.told;

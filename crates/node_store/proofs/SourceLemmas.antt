@@ -25,7 +25,7 @@ use Rattle.node_store.specs.Node.{IsReadBy, HasOnlyRead}
 
 module _ (kept : KeptValue) (image : Image) (held : List (ℕ × Stored)) (read : IsReadBy kept held image) where
   told_at : known_by (Some image) kept.entries ≡ Some (stored_of kept)
-  told_at = log_has_blocks image read.specification (stored_of kept) kept.entries read.names read.can
+  told_at = log_has_blocks image read.specification read.records (stored_of kept) kept.entries read.names read.keeps read.can
 
   -- what is held in memory is what LOG has
   kept_at : IsKept kept.entries held image
@@ -35,6 +35,9 @@ module _ (kept : KeptValue) (image : Image) (held : List (ℕ × Stored)) (read 
   read_at : (later : List (ℕ × Stored)) → IsKept kept.entries later image → IsReadBy kept later image
   read_at later is_kept = record {
     specification = read.specification;
+    records = read.records;
+    keeps = read.keeps;
+    edition = read.edition;
     names = read.names;
     can = read.can;
     agrees = (agrees_always image kept.entries (stored_of kept) later told_at).0 is_kept;

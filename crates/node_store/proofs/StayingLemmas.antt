@@ -49,7 +49,7 @@ module _ (before after : Option Image) (old new : Image → Type 0) (same : afte
       record {
         now = of.now;
         told = same ∙ of.told;
-        read = record { specification = of.read.specification; names = of.read.names; can = of.read.can; agrees = here.agrees };
+        read = record { specification = of.read.specification; records = of.read.records; keeps = of.read.keeps; edition = of.read.edition; names = of.read.names; can = of.read.can; agrees = here.agrees };
         settled = settled-same place _ of.settled;
       }
 

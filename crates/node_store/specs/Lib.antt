@@ -3,11 +3,13 @@ pub mod Stored
 pub mod Held
 pub mod StoredLaws
 pub mod Kept
+pub mod Fees
 pub mod Judging
 pub mod Steps
 pub mod Queries
 pub mod Node
 pub mod Import
+pub mod Migration
 pub mod Gathering
 pub mod Opening
 pub mod Snapshot

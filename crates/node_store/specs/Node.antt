@@ -20,13 +20,13 @@ use Rattle.verdict_defs.specs.declared.verdict.Verdict.{Verdict}
 use Rattle.verdict_defs.specs.Verdict.{joins}
 use Rattle.verdict_defs.specs.Chain.{Chain, chain_of_genesis}
 use Rattle.log_file.specs.Pieces.{block_record}
-use Rattle.log_file.specs.Grammar.{record_of}
+use Rattle.log_file.specs.Grammar.{record_of, edition_room}
 use Rattle.log_file.specs.Opening.{kept_records}
 use Rattle.node_store.specs.Held.{CacheValue, AgreesWith}
 use Rattle.node_store.specs.Stored.{CanBeKept}
 use Rattle.node_store.specs.StoredLaws.{NamesTheLog}
 use Rattle.rule_defs.specs.Genesis.{broken_genesis_rule}
-use Rattle.disk_defs.specs.Log.{Record, log_of}
+use Rattle.disk_defs.specs.Log.{Record, of_blocks, edition_of, log_of}
 use Rattle.disk_defs.specs.Rest.{IsSettled, IsAppended, HasLog}
 use Rattle.store_defs.specs.Store.{StandsFor, AreJoined, HasNoSnapshots, new_image}
 use Rattle.node_store.specs.Kept.{KeptValue, stored_of, AreOfTip, AreOfKept}
@@ -61,10 +61,14 @@ node_of kept place cells cache = record {
 
 -- ---- What a disk has of it
 
--- LOG has what is kept, and just that, after some specification: a log can keep it, the entries name its bodies, and what is held in memory is of it.
+-- LOG has what is kept, and just that, after some specification: a log can keep it, the entries name its bodies, and what is held in memory is of it. Its
+-- records tell the edition of the chain, wherever among them that one stands.
 pub record IsReadBy (kept : KeptValue) (held : List (ℕ × Stored)) (image : Image) : Type 0 where
   pub specification : List ℕ
-  pub names : NamesTheLog image.log specification (kept_records (stored_of kept)) kept.entries
+  pub records : List Record
+  pub keeps : of_blocks records ≡ kept_records (stored_of kept)
+  pub edition : edition_of records ≡ kept.chain.spec.second_from
+  pub names : NamesTheLog image.log specification records kept.entries
   pub can : CanBeKept (stored_of kept)
   pub agrees : AgreesWith (stored_of kept) held
 
@@ -73,7 +77,7 @@ pub record IsOf (node : NodeValue) (reads : Option Image) (images : Image → Ty
   pub now : Image
   pub told : reads ≡ Some now
   pub read : IsReadBy (kept_in node) node.held now
-  pub settled : IsSettled node.place (record_of 1 read.specification ∷ kept_records (stored_of (kept_in node))) reads images
+  pub settled : IsSettled node.place (record_of 1 read.specification ∷ read.records) reads images
 
 -- so it is where the disk tells what it reads as
 abbrev pub IsItsOwn : NodeValue → Option Image → (Image → Type 0) → Type 0
@@ -124,15 +128,15 @@ pub record LeavesAll {S C : Type 0} (content_of : S → C) (reads_as : S → Opt
   pub cause : CountsFault (faults old) (faults new) (stop ≡ Some DiskFault)
   pub found : Finds before.damages after.damages stop
 
--- A log is no longer than the records of so many blocks may make it.
-abbrev pub IsWithin : ℕ → ℕ → Type 0
-IsWithin count place = place ≤ 2 ^ 33 * (count + 1)
+-- A log is no longer than the records of so many blocks may make it, with that of an edition where there is one.
+abbrev pub IsWithin : ℕ → Option ℕ → ℕ → Type 0
+IsWithin count edition place = place + edition_room edition ≤ 2 ^ 33 * (count + 1)
 
--- What holds of each node, whatever its disk is: no more blocks are kept than may be, its log is no longer than their records may make it, and each row
+-- What holds of each node, whatever its disk is: no more blocks are kept than may be, its log is no longer than their records and that of an edition may make it, and each row
 -- of its live cells is of one of them.
 pub record IsBounded (kept : KeptValue) (place : ℕ) (cells : StateValue) : Type 0 where
   pub few : length kept.chain.blocks ≤ kept_limit
-  pub within : IsWithin (length kept.chain.blocks) place
+  pub within : IsWithin (length kept.chain.blocks) kept.chain.spec.second_from place
   pub below : AreOfKept kept.chain.blocks (rows cells)
 
 -- a specification and a genesis that keep their rules, as handed in

@@ -1,3 +1,4 @@
+ghost use Rattle.node_store.specs.Fees.{ExtsKeepFees};
 ghost use Rattle.node_store.specs.ReorgLaws.{KeptAreCanonical, StoredAreCanonical, ExtsFit, JoinedExtsFit, JoinedCanBeTakenBack};
 ghost use Rattle.node_store.specs.ReorgLaws.{CellsHoldTheirOwn, RowsAreKept, SnapshotRowsAreKept};
 
@@ -13,6 +14,11 @@ pub fn kept_blocks()
 pub fn own_exts()
     ensures fit { ExtsFit }
     ensures of_joined_fit { JoinedExtsFit }
+{}
+
+/// States that the ext of each kept block that has joined keeps the fees of its block's transactions. It does nothing.
+pub fn fees_of_joined()
+    ensures exts_keep_fees { ExtsKeepFees }
 {}
 
 /// States that each block of a chain of canonical blocks that has joined can be taken back with its own ext. It does

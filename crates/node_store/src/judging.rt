@@ -13,7 +13,6 @@ use crate::kept::Kept;
 use cell_state::State;
 use chain_tree::Blocks;
 use outside::{ReadStop, Steps};
-use std::alloc::Global;
 use std::sync::ledger::Ledger;
 
 /// Says what is to become of an item over the kept blocks: the verdict on it, by the rules of the chain, or what it joins with.
@@ -24,7 +23,6 @@ pub trait Judging {
     /// the limits on its length and its proposals.
     fn decide<B: Blocks, L: Ledger>(
         &self,
-        alloc: Global,
         kept: &Kept,
         blocks: &mut B,
         state: State,

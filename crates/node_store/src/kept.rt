@@ -22,6 +22,7 @@ ghost use Rattle.verdict_defs.specs.Laws.{MayJoin};
 ghost use Rattle.cell_defs.specs.FitLaws.{AreCanonical};
 ghost use Rattle.store_defs.specs.Store.{IsJoined};
 ghost use Rattle.node_store.specs.Kept.{kept_with, AreOfFound, AreOfTip, AreOfKept};
+ghost use Rattle.node_store.specs.Migration.{kept_edited};
 ghost use Rattle.node_store.specs.Judging.{IsReady, is_above, place_for};
 ghost use Rattle.node_store.specs.declared.decision.Decision.TheVariants.{Joins};
 
@@ -212,6 +213,24 @@ impl Kept {
         ensures { (block : Block) × (tips.tip self.now.chain.blocks ≡ Some block) × Describes block result.now }
     {
         self.tree.entry(self.tree.tip())
+    }
+
+    /// The same with an edition of the rules from this epoch on.
+    pub(crate) fn edited(self, epoch: u64) -> Kept
+        ensures { result ≡ kept_edited self epoch }
+    {
+        let Kept {
+            spec,
+            blocks,
+            tree,
+            uncles,
+        } = self;
+        Kept {
+            spec: spec.with_edition(Some(epoch)),
+            blocks,
+            tree,
+            uncles,
+        }
     }
 
     /// The tree of the kept blocks.

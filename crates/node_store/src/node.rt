@@ -29,6 +29,8 @@ ghost use Rattle.node_store.specs.Held.{held_at};
 ghost use Rattle.log_file.specs.declared.stop.LogStop.TheVariants as log_stops;
 ghost use Rattle.log_file.specs.Stops.{OfDamage, IsInLog};
 ghost use Rattle.node_store.specs.Import.{IsImported, LeavesEither, IsLogged, TakesSteps, IsDecidedOn};
+ghost use Rattle.store_defs.specs.Migration.{migration, is_done};
+ghost use Rattle.node_store.specs.Migration.{IsMigrated, LeavesMigration};
 ghost use Rattle.node_store.specs.Node.{node_of, IsItsOwn, IsSoundNode, IsSoundOn, IsOnlyImage, IsOn, LeavesAll};
 ghost use Rattle.node_store.specs.Kept.{AreOfTip, AreOfKept};
 ghost use Rattle.node_store.specs.Opening.{LeavesStore, IsReadFrom, IsOpenedNode, NameItsBodies, IsNoneFrom, IsNoStoreAt};
@@ -43,8 +45,9 @@ ghost use Rattle.node_store.specs.declared.decision.Decision.TheVariants.{Joins}
 use crate::area::sync_snapshots;
 use crate::gathering::Gathering;
 use crate::joining::join;
+use crate::migration::{answer, edit};
 use crate::snapshot::{take_snapshot, to_tip};
-use crate::{Cache, Decision, Fetched, HeaderAt, Judging, Kept, Live, over_disk};
+use crate::{Cache, Decision, Fetched, HeaderAt, Judging, Kept, Live, Moved, over_disk};
 use cell_model::OutPoint;
 use cell_state::State;
 use chain_tree::{Entry, Tree};
@@ -301,6 +304,33 @@ impl Node {
                 drop((kept, log, body, cache));
                 Err(stop)
             }
+        }
+    }
+
+    /// Gives the store an edition of the rules: its blocks stand under the second edition from this epoch on (docs/STORE.md,
+    /// "The edition"). A store has at most one, which stays, and every block that it keeps but the genesis stands in an epoch
+    /// before it; where that is not so, the disk is not called. Memory is taken before the first write.
+    pub fn migrate<D: Disk>(
+        self,
+        alloc: Global,
+        disk: &mut D,
+        epoch: u64,
+    ) -> Result<(Node, Moved), WriteStop>
+        requires own { IsItsOwn self (D.reads_as disk.old) (D.images disk.old) }
+        ensures migrated { IfOk result (λ answer. IsMigrated self answer.0 epoch answer.1 (D.reads_as disk.old) (D.reads_as disk.new) (D.images disk.old) (D.images disk.new)) }
+        ensures left { LeavesMigration D.reads_as D.images D.moment D.left_since disk.old disk.new self epoch }
+        ensures uncalled { is_done (migration self.chain epoch) ≡ false → disk.new ≡ disk.old }
+        ensures others { OthersRead log_area (D.reads_as disk.old) (D.reads_as disk.new) }
+        ensures untouched { IfErr result (λ stop. stop ≢ write_stops.DiskFault → disk.new ≡ disk.old) }
+        ensures cause { CountsFault (D.faults disk.old) (D.faults disk.new) (result ≡ Err write_stops.DiskFault) }
+    {
+        match answer(&self.kept, epoch) {
+            Moved::Done => {}
+            moved => return Ok((self, moved)),
+        }
+        match edit(self, alloc, disk, epoch) {
+            Ok(node) => Ok((node, Moved::Done)),
+            Err(stop) => Err(stop),
         }
     }
 

@@ -79,7 +79,7 @@ pub(crate) fn decide<D: Disk, J: Judging, L: Ledger>(
     ensures sight { moves_for kept.now.chain item.now ≡ 0 → disk.new ≡ disk.old }
 {
     let mut store = Store::new(alloc, disk, &kept.tree, cache);
-    judge.decide(alloc, kept, &mut store, state, item, steps)
+    judge.decide(kept, &mut store, state, item, steps)
 }
 
 /// The header at a height of the best branch.

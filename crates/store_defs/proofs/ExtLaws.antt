@@ -1,5 +1,5 @@
 -- The rows of the ext of a block that may join are those that its events spend.
-use Rattle.std.proofs.Common.{◌≡◌, ℕ, zero, suc, ◌+◌, ◌-◌, ◌<◌, Bool, true, false, cond, List, [], ◌∷◌, ◌++◌, map, length, take, drop, Option, Some, None, is_some, if◌then◌else◌, refl, sym, ap, ◌∙◌, subst, arith}
+use Rattle.std.proofs.Common.{◌≡◌, ℕ, suc, ◌+◌, ◌-◌, ◌<◌, Bool, true, false, cond, List, [], ◌∷◌, ◌++◌, map, length, take, drop, Option, Some, None, is_some, if◌then◌else◌, refl, sym, ap, ◌∙◌, subst, arith}
 use Rattle.std.specs.Prelude.{◌||◌, ◌==◌, nat_lt, IsTrue, unwrap_or}
 use Rattle.std.specs.Option.{option_map, option_or, option_and_then}
 use Rattle.std.specs.List.{list_any, filter_map, cons_option}
@@ -11,7 +11,7 @@ use Rattle.std.proofs.lemmas.Option.{same_Some, slice_get_within}
 use Rattle.chain_defs.specs.Shape.{encoded}
 use Rattle.chain_defs.specs.Schema.{OutPoint, out_point, CellInput, CellOutput, Transaction, Block}
 use Rattle.chain_defs.specs.First.{AllHold}
-use Rattle.chain_defs.specs.Kept.{place_of, block_at}
+use Rattle.chain_defs.specs.Kept.{place_of}
 use Rattle.chain_defs.specs.Branch.{branch}
 use Rattle.chain_defs.proofs.KeptLaws.{slice_get-below, place_of-below}
 use Rattle.chain_defs.proofs.BranchLaws.{branch-last}
@@ -27,7 +27,7 @@ use Rattle.cell_defs.proofs.RowLaws.{live_row-join}
 use Rattle.cell_defs.specs.Undo.{row_at, spent_of}
 use Rattle.rule_defs.specs.Site.{Site, Found, site_at, height_at, find_cell, all_there}
 use Rattle.rule_defs.specs.TransactionRules.{form_rules, cell_rules}
-use Rattle.rule_defs.specs.Resolving.{spends_live_cells, spends_each_once, input_cells, inputs}
+use Rattle.rule_defs.specs.Resolving.{spends_live_cells, spends_each_once, input_cells}
 use Rattle.verdict_defs.specs.Scene.{scene_of}
 use Rattle.verdict_defs.specs.ScriptRules.{script_rules}
 use Rattle.verdict_defs.specs.Transactions.{is_proposed, transaction_rules, left_after, rules_from}

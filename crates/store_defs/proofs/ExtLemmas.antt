@@ -1,6 +1,6 @@
 -- The ext beside the block of a record: its form, and its fees.
 use Rattle.std.proofs.Common.{◌≡◌, ℕ, zero, suc, ◌+◌, ◌-◌, ◌*◌, ◌<◌, ◌≤◌, ◌^◌, Bool, true, false, cond, leb, List, [], ◌∷◌, ◌++◌, length, map, take, drop, Option, Some, None, refl, sym, ap, ◌∙◌, subst, inl, inr, ◌⊎◌, arith}
-use Rattle.std.specs.Prelude.{◌&&◌, ◌==◌, slice_get, IsTrue}
+use Rattle.std.specs.Prelude.{◌&&◌, ◌==◌, is_none, slice_get, IsTrue}
 use Rattle.std.specs.Option.{option_and_then}
 use Rattle.std.specs.List.{concat}
 use Rattle.std.specs.Int.{w32, w64, to_le_bytes}
@@ -18,10 +18,11 @@ use Rattle.verdict_defs.specs.Ext.{ext_of}
 use Rattle.rule_defs.specs.Capacity.{fees_from}
 use Rattle.verdict_defs.specs.Chain.{Chain}
 use Rattle.verdict_defs.specs.Laws.{CanJoin}
-use Rattle.disk_defs.specs.Log.{Record, LogContent, record_limit, records_of, log_of, content_of_records, are_first, blocks_over, block_of_record, block_of_parts, block_if, may_stand_on, parts_of_body}
-use Rattle.disk_defs.specs.LogLaws.{HasFittingBody}
+use Rattle.disk_defs.specs.Log.{Record, LogContent, records_of, of_blocks, log_of, content_of_records, blocks_over, block_of_record, block_of_parts, block_if, may_stand_on, parts_of_body}
+use Rattle.disk_defs.specs.LogLaws.{HasFittingBody, IsSaidBy}
+use Rattle.rule_defs.specs.Genesis.{broken_genesis_rule}
 use Rattle.store_defs.specs.Store.{HasJoined, EachHasJoined, HaveOwnExts, ext_over, ext_on, own_ext, ext_of_found, chain_before}
-use Rattle.disk_defs.proofs.Contents.{one_genesis, good_genesis, said}
+use Rattle.disk_defs.proofs.Contents.{one_genesis, good_genesis, says_by_parts}
 use Rattle.store_defs.proofs.JoinedLemmas.{over-front, joined_item, item_of_record, content_of_log}
 
 -- ---- The bytes of an ext
@@ -85,7 +86,7 @@ ext-within body item ext is = by_test (leb 4 (length body) && leb (4 + count_at 
 -- ---- The ext that a block joined with
 
 -- that of an item that can join
-ext_of_can : (chain : Chain) (item : List ℕ) (can : CanJoin chain.spec chain.blocks item)
+pub ext_of_can : (chain : Chain) (item : List ℕ) (can : CanJoin chain.spec chain.blocks item)
     → ext_over chain item ≡ ext_bytes (ext_of chain.spec chain.blocks can.may.parent can.block)
 unfolding ext_over
 ext_of_can chain item can = ap (ext_of_found chain) can.canonical ∙ ap (ext_on chain can.block) can.may.on_kept
@@ -106,7 +107,7 @@ fees_of_record before r after item ext b has fits parts canonical =
     ∙ ap (λ (x : Block). length x.transactions - 1) block_is
 
 -- Beside the item of a record whose block joined stands the own ext of that block.
-pub own_of_record : (log : LogContent) → EachHasJoined log → (before : ℕ) (r : Record) (b : Block) → slice_get log.records before ≡ Some r
+pub own_of_record : (log : LogContent) → EachHasJoined log → (before : ℕ) (r : Record) (b : Block) → slice_get (of_blocks log.records) before ≡ Some r
     → block_at log.blocks (before + 1) ≡ Some b → (item : List ℕ) × (parts_of_body r.body ≡ Some (item, own_ext (chain_before log (before + 1)) b))
 unfolding ext_over
 own_of_record log each before r b there here =
@@ -179,25 +180,13 @@ over-taken kept (first ∷ records) all over place r there =
         subst (λ (n : ℕ). IsTaken all n r) at (again x over place r there)
 
 content_taken : (records : List Record) (log : LogContent) → content_of_records records ≡ Some log → (place : ℕ) (r : Record)
-    → slice_get log.records place ≡ Some r → IsTaken log.blocks (place + 1) r
-content_taken [] log says place r there = absurd (cc)
-content_taken (one ∷ []) log says place r there = absurd (cc)
-content_taken (one ∷ two ∷ records) log says place r there = by_test (are_first one two && leb (length records) record_limit) refl says
-  where
-    by_blocks : are_first one two ≡ true → (o : Option (List Block)) → blocks_over (blocks_of_item two.body) records ≡ o → said one two records o ≡ Some log
-        → IsTaken log.blocks (place + 1) r
-    by_blocks first None is says = absurd (cc)
-    by_blocks first (Some blocks) is says =
-        let same : record { specification = one.body; genesis = two.body; records = records; blocks = blocks } ≡ log = (cc) in
-        let at : length (blocks_of_item two.body) + place ≡ place + 1 = omega (arith, one_genesis two.body (good_genesis one two first)) in
-        let its : slice_get records place ≡ Some r = ap (λ (l : LogContent). slice_get l.records place) same ∙ there in
-        subst (λ (l : LogContent). IsTaken l.blocks (place + 1) r) same
-        (subst (λ (n : ℕ). IsTaken blocks n r) at (over-taken (blocks_of_item two.body) records blocks is place r its))
-
-    by_test : (t : Bool) → (are_first one two && leb (length records) record_limit) ≡ t
-        → cond t (said one two records (blocks_over (blocks_of_item two.body) records)) None ≡ Some log → IsTaken log.blocks (place + 1) r
-    by_test false is says = absurd (cc)
-    by_test true is says = by_blocks (and_parts (are_first one two) (leb (length records) record_limit) is).0 (blocks_over (blocks_of_item two.body) records) refl says
+    → slice_get (of_blocks log.records) place ≡ Some r → IsTaken log.blocks (place + 1) r
+content_taken records log says place r there =
+    let is : IsSaidBy records log = (says_by_parts records log).0 says in
+    let good : is_none (broken_genesis_rule log.genesis) ≡ true =
+    ap (λ (item : List ℕ). is_none (broken_genesis_rule item)) (sym is.genesis) ∙ good_genesis is.one is.two is.first in
+    let at : length (blocks_of_item log.genesis) + place ≡ place + 1 = omega (arith, one_genesis log.genesis good) in
+    subst (λ (n : ℕ). IsTaken log.blocks n r) at (over-taken (blocks_of_item log.genesis) (of_blocks log.records) log.blocks is.over place r there)
 
 -- A record holds a block, and beside it bytes of the form of an ext.
 pub record HoldsBlock (r : Record) (b : Block) : Type 0 where
@@ -244,7 +233,7 @@ pub record HoldsItsExt (r : Record) (b : Block) : Type 0 where
 
 -- So does each record of a log whose blocks joined, for the block at its place after the genesis.
 pub exts_of_log : (bytes : List ℕ) (log : LogContent) → log_of bytes ≡ Some log → EachHasJoined log → (place : ℕ) (r : Record) (b : Block)
-    → slice_get log.records place ≡ Some r → block_at log.blocks (place + 1) ≡ Some b → HasFittingBody r → HoldsItsExt r b
+    → slice_get (of_blocks log.records) place ≡ Some r → block_at log.blocks (place + 1) ≡ Some b → HasFittingBody r → HoldsItsExt r b
 exts_of_log bytes log is_log each place r b there here fits =
     let took : IsTaken log.blocks (place + 1) r = content_taken (records_of (drop 8 bytes)) log (content_of_log bytes log is_log) place r there in
     let taken : block_of_record (take (place + 1) log.blocks) r ≡ Some b = took.taken ∙ sym took.there ∙ here in

@@ -1,20 +1,19 @@
 -- The fees in the ext of a block of a chain that has joined.
-use Rattle.std.proofs.Common.{◌≡◌, ℕ, zero, suc, ◌+◌, ◌-◌, ◌*◌, ◌<◌, ◌^◌, List, [], ◌∷◌, ◌++◌, length, map, take, drop, Option, Some, refl, sym, ap, ◌∙◌, subst, append_assoc, arith}
-use Rattle.std.specs.Prelude.{slice_get, slice_index}
+use Rattle.std.proofs.Common.{◌≡◌, ℕ, zero, suc, ◌+◌, ◌-◌, ◌*◌, ◌<◌, ◌^◌, List, [], ◌∷◌, ◌++◌, length, map, take, drop, refl, sym, ap, ◌∙◌, subst, append_assoc, arith}
+use Rattle.std.specs.Prelude.{slice_index}
 use Rattle.std.specs.Option.{option_and_then}
 use Rattle.std.specs.List.{All, slice_range, concat}
 use Rattle.std.specs.Int.{w32, w64, to_le_bytes, from_le_bytes}
 use Rattle.std.proofs.lemmas.Nat.{from_le_bytes-to_le_bytes_8}
 use Rattle.std.proofs.lemmas.List.{drop-drop, take_at, drop_at}
 use Rattle.std.proofs.lemmas.Option.{same_Some}
-use Rattle.chain_defs.specs.Schema.{Transaction, Block}
-use Rattle.chain_defs.specs.Kept.{block_at, place_of, parent_place}
+use Rattle.chain_defs.specs.Schema.{Block}
+use Rattle.chain_defs.specs.Kept.{place_of}
 use Rattle.chain_defs.specs.Branch.{branch}
 use Rattle.cell_defs.specs.Ext.{Ext, row_bytes, ext_bytes, fee_of}
 use Rattle.rule_defs.specs.Capacity.{fees_from}
 use Rattle.verdict_defs.specs.Ext.{ext_of}
-use Rattle.verdict_defs.specs.Chain.{Chain}
-use Rattle.store_defs.specs.Store.{IsJoined, HaveOwnExts, first_of, own_ext, ext_on}
+use Rattle.store_defs.specs.Store.{first_of, own_ext, ext_on}
 use Rattle.store_defs.proofs.ExtLemmas.{counts-fees}
 use Rattle.store_defs.specs.JoinedLaws.{HoldsFees, ExtsHoldFees}
 use Rattle.store_defs.proofs.RuleLemmas.{transactions-unbroken, fees-fit}

@@ -1,9 +1,8 @@
 -- What an image stands for has joined, and what has joined is kept.
-use Rattle.std.proofs.Common.{◌≡◌, ℕ, zero, suc, ◌+◌, ◌<◌, Bool, true, false, cond, leb, List, [], ◌∷◌, ◌++◌, length, take, drop, Option, Some, None, refl, sym, ap, ◌∙◌, subst, inl, inr, ◌⊎◌, arith}
-use Rattle.std.specs.Prelude.{◌&&◌, is_none, slice_get}
+use Rattle.std.proofs.Common.{◌≡◌, ℕ, zero, suc, ◌+◌, ◌<◌, Bool, true, false, cond, List, [], ◌∷◌, ◌++◌, length, take, drop, Option, Some, None, refl, sym, ap, ◌∙◌, subst, inl, inr, ◌⊎◌, arith}
+use Rattle.std.specs.Prelude.{is_none, slice_get}
 use Rattle.std.specs.Option.{option_and_then}
 use Rattle.std.specs.Str.{bytes_eq}
-use Rattle.std.proofs.lemmas.Bool.{and_parts}
 use Rattle.std.proofs.lemmas.List.{length-take-le, take-append-le, take_at, append-nil, append_assoc}
 use Rattle.std.proofs.lemmas.Option.{slice_get_within}
 use Rattle.outside.specs.Image.{Image}
@@ -12,16 +11,17 @@ use Rattle.chain_defs.specs.Schema.{Block, block}
 use Rattle.chain_defs.specs.First.{first_failing}
 use Rattle.chain_defs.specs.Kept.{block_hash, block_at, place_of, IsKept, block_list, blocks_of_item}
 use Rattle.chain_defs.proofs.KeptLaws.{slice_get-below, slice_get-take, slice_get-before, slice_get-push, slice_get-pushed}
-use Rattle.chain_defs.specs.Specification.{Specification, specification_of}
+use Rattle.chain_defs.specs.Specification.{Specification}
 use Rattle.verdict_defs.specs.Verdict.{verdict, joins, kept_after}
 use Rattle.verdict_defs.specs.Chain.{Chain, chain_after}
 use Rattle.verdict_defs.specs.Laws.{MayJoin, CanJoin}
 use Rattle.verdict_defs.proofs.VerdictLaws.{joins-exactly, keeps-what-joins, kept_after-stays, stands-on-kept}
 use Rattle.rule_defs.specs.Genesis.{genesis_rules, broken_by, broken_genesis_rule}
-use Rattle.disk_defs.specs.Log.{Record, LogContent, record_limit, records_of, magic, log_of, content_of_records, are_first, blocks_over, block_of_record}
+use Rattle.disk_defs.specs.Log.{Record, LogContent, records_of, of_blocks, magic, log_of, content_of_records, specification_in, blocks_over, block_of_record}
+use Rattle.disk_defs.specs.LogLaws.{IsSaidBy}
 use Rattle.store_defs.specs.Store.{StandsFor, HasJoined, EachHasJoined, IsJoined, chain_of, chain_before}
 use Rattle.store_defs.specs.StoreLaws.{StandsForWhatJoined}
-use Rattle.disk_defs.proofs.Contents.{counts_its_records, good_genesis, said}
+use Rattle.disk_defs.proofs.Contents.{counts_its_records, good_genesis, says_by_parts}
 
 -- ---- What joined is kept
 
@@ -106,23 +106,12 @@ item_begins item more good = by_block (decoded block item) good
     by_block (Some b) good = record { genesis = b; first = refl; good = none_of (first_failing (genesis_rules b)) good }
 
 content_begins : (records : List Record) (log : LogContent) → content_of_records records ≡ Some log → BeginsGood log.blocks
-content_begins [] log says = absurd (cc)
-content_begins (one ∷ []) log says = absurd (cc)
-content_begins (one ∷ two ∷ records) log says = by_test (are_first one two && leb (length records) record_limit) refl says
-  where
-    by_blocks : are_first one two ≡ true → (o : Option (List Block)) → blocks_over (blocks_of_item two.body) records ≡ o → said one two records o ≡ Some log
-        → BeginsGood log.blocks
-    by_blocks first None is says = absurd (cc)
-    by_blocks first (Some blocks) is says =
-        let same : record { specification = one.body; genesis = two.body; records = records; blocks = blocks } ≡ log = (cc) in
-        let front = over-front (blocks_of_item two.body) records blocks is in
-        subst (λ (l : LogContent). BeginsGood l.blocks) same
-        (subst BeginsGood (sym front.1) (item_begins two.body front.0 (good_genesis one two first)))
-
-    by_test : (t : Bool) → (are_first one two && leb (length records) record_limit) ≡ t
-        → cond t (said one two records (blocks_over (blocks_of_item two.body) records)) None ≡ Some log → BeginsGood log.blocks
-    by_test false is says = absurd (cc)
-    by_test true is says = by_blocks (and_parts (are_first one two) (leb (length records) record_limit) is).0 (blocks_over (blocks_of_item two.body) records) refl says
+content_begins records log says =
+    let is : IsSaidBy records log = (says_by_parts records log).0 says in
+    let front = over-front (blocks_of_item log.genesis) (of_blocks log.records) log.blocks is.over in
+    let good : is_none (broken_genesis_rule log.genesis) ≡ true =
+    ap (λ (item : List ℕ). is_none (broken_genesis_rule item)) (sym is.genesis) ∙ good_genesis is.one is.two is.first in
+    subst BeginsGood (sym front.1) (item_begins log.genesis front.0 good)
 
 -- what a log says its records say
 pub content_of_log : (bytes : List ℕ) (log : LogContent) → log_of bytes ≡ Some log → content_of_records (records_of (drop 8 bytes)) ≡ Some log
@@ -151,7 +140,7 @@ pub item_of_record : (log : LogContent) (before : ℕ) (r : Record) (b : Block) 
     → block_at log.blocks (before + 1) ≡ Some b → (can : CanJoin (chain_of log).spec (take (before + 1) log.blocks) has.item) × (can.block ≡ b)
 item_of_record log before r b has there =
     let within : before + 1 < length log.blocks = slice_get_within log.blocks (before + 1) b there in
-    let spec : Specification = specification_of log.specification in
+    let spec : Specification = specification_in log in
     let kept : List Block = take (before + 1) log.blocks in
     let after : take (before + 2) log.blocks ≡ kept_after spec kept has.item = ap (λ (c : Chain). c.blocks) has.kept in
     let joined = joined_item spec kept has.item (ap length (sym after) ∙ has.grown) in
@@ -165,17 +154,17 @@ item_of_record log before r b has there =
     (can, same)
 
 -- The block at a place after the genesis could join over those before it.
-block_joined : (log : LogContent) → EachHasJoined log → length log.blocks ≡ length log.records + 1
+block_joined : (log : LogContent) → EachHasJoined log → length log.blocks ≡ length (of_blocks log.records) + 1
     → (before : ℕ) (b : Block) → block_at log.blocks (before + 1) ≡ Some b → MayJoin (chain_of log).spec (take (before + 1) log.blocks) b
 block_joined log each count before b there =
     let within : before + 1 < length log.blocks = slice_get_within log.blocks (before + 1) b there in
-    let r = slice_get-below log.records before (omega (arith, within, count)) in
+    let r = slice_get-below (of_blocks log.records) before (omega (arith, within, count)) in
     let found = item_of_record log before r.0 b (each before r.0 r.1) there in
     subst (MayJoin (chain_of log).spec (take (before + 1) log.blocks)) found.1 found.0.may
 
 -- ---- A log whose blocks joined
 
-joined_of_log : (log : LogContent) → BeginsGood log.blocks → length log.blocks ≡ length log.records + 1 → EachHasJoined log → IsJoined (chain_of log)
+joined_of_log : (log : LogContent) → BeginsGood log.blocks → length log.blocks ≡ length (of_blocks log.records) + 1 → EachHasJoined log → IsJoined (chain_of log)
 joined_of_log log begins count each = record {
   genesis = begins.genesis;
   first = begins.first;

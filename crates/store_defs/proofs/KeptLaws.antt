@@ -1,11 +1,11 @@
 -- Each block of a chain that has joined can be taken back with its ext.
-use Rattle.std.proofs.Common.{◌≡◌, ℕ, suc, ◌<◌, List, [], ◌∷◌, ◌++◌, length, take, drop, Option, Some, None, if◌then◌else◌, refl, sym, ap, ◌∙◌, subst, arith}
+use Rattle.std.proofs.Common.{◌≡◌, ℕ, suc, ◌<◌, List, [], ◌∷◌, ◌++◌, length, take, drop, Option, None, if◌then◌else◌, refl, sym, ap, ◌∙◌, subst, arith}
 use Rattle.std.specs.Prelude.{slice_index}
 use Rattle.std.specs.Option.{option_map, option_and_then}
 use Rattle.std.proofs.lemmas.List.{append-nil, append_assoc, length_push, length-take-le}
 use Rattle.std.proofs.lemmas.Option.{slice_get_within, same_Some}
 use Rattle.chain_defs.specs.Schema.{OutPoint, Block}
-use Rattle.chain_defs.specs.Kept.{place_of, parent_place, block_at}
+use Rattle.chain_defs.specs.Kept.{place_of}
 use Rattle.chain_defs.specs.Branch.{branch, branch_places}
 use Rattle.chain_defs.proofs.BranchLaws.{parent_place-below}
 use Rattle.cell_defs.specs.Cell.{Cell}
@@ -16,10 +16,7 @@ use Rattle.cell_defs.proofs.FitLemmas.{found-same}
 use Rattle.cell_defs.specs.Undo.{without, row_at, row_spent, spent_of}
 use Rattle.cell_defs.specs.UndoLaws.{ComesBefore}
 use Rattle.verdict_defs.specs.Ext.{ext_of}
-use Rattle.verdict_defs.specs.Chain.{Chain}
-use Rattle.verdict_defs.specs.Laws.{MayJoin}
 use Rattle.verdict_defs.proofs.VerdictLaws.{branch-more}
-use Rattle.store_defs.specs.Store.{IsJoined}
 use Rattle.store_defs.proofs.KeptLemmas.{Grows, grows, parts-at}
 use Rattle.store_defs.specs.ExtLaws.{KeptExtsTakeBack}
 use Rattle.store_defs.proofs.ExtLaws.{exts-take-back}

@@ -14,6 +14,8 @@ pub mod HeaderLaws
 pub mod UncleLaws
 pub mod TypedLaws
 pub mod FeeLaws
+pub mod EditionLemmas
+pub mod EditedLemmas
 pub mod SpentLemmas
 pub mod ExtLaws
 pub mod KeptLaws

@@ -8,11 +8,10 @@ use Rattle.chain_defs.specs.First.{first_failing}
 use Rattle.chain_defs.specs.Kept.{block_at, place_of}
 use Rattle.cell_defs.specs.Ext.{ext_bytes}
 use Rattle.verdict_defs.specs.Ext.{ext_of}
-use Rattle.chain_defs.specs.Specification.{specification_of}
 use Rattle.verdict_defs.specs.Chain.{Chain, chain_after}
 use Rattle.verdict_defs.specs.Laws.{MayJoin}
 use Rattle.rule_defs.specs.Genesis.{genesis_rules}
-use Rattle.disk_defs.specs.Log.{LogContent, Record, log_of, parts_of_body, new_log}
+use Rattle.disk_defs.specs.Log.{LogContent, Record, of_blocks, specification_in, log_of, parts_of_body, new_log}
 use Rattle.disk_defs.specs.Snapshot.{IsSoundArea}
 
 -- What stands in the folder when a run begins.
@@ -24,9 +23,9 @@ pub data Store : Type 0 where
   -- a log that keeps this chain
   Keeps : Chain → Store
 
--- the chain that a log keeps: its specification and all its blocks
+-- the chain that a log keeps: its specification, with the edition that the log tells, and all its blocks
 abbrev pub chain_of : LogContent → Chain
-chain_of log = record { spec = specification_of log.specification; blocks = log.blocks }
+chain_of log = record { spec = specification_in log; blocks = log.blocks }
 
 abbrev pub store_of_log : Option LogContent → Store
 store_of_log None = NotALog
@@ -85,11 +84,11 @@ pub record AreJoined (chain : Chain) (exts : List (List ℕ)) : Type 0 where
 
 -- the chain where the first blocks of a log stand alone, so many of them
 abbrev pub chain_before : LogContent → ℕ → Chain
-chain_before log count = record { spec = specification_of log.specification; blocks = take count log.blocks }
+chain_before log count = record { spec = specification_in log; blocks = take count log.blocks }
 
--- A log is sound: each block after the genesis joined over those before it.
+-- A log is sound: each block after the genesis joined over those before it, wherever the record of an edition stands.
 abbrev pub EachHasJoined : LogContent → Type 0
-EachHasJoined log = (place : ℕ) (r : Record) → slice_get log.records place ≡ Some r → HasJoined (chain_before log (place + 1)) r (chain_before log (place + 2))
+EachHasJoined log = (place : ℕ) (r : Record) → slice_get (of_blocks log.records) place ≡ Some r → HasJoined (chain_before log (place + 1)) r (chain_before log (place + 2))
 
 -- An image stands for a chain: its log keeps just this, each block after the genesis joined over those before it; and where the gate of an area of
 -- snapshots is open, the area holds a snapshot of the chain's blocks that belongs there.

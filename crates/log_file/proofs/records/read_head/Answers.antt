@@ -1,4 +1,3 @@
-use Rattle.std.proofs.Common.{Err, ap}
 use Rattle.log_file.specs.Grammar.{blocks_with}
 use Rattle.log_file.proofs.Exits.{on_each, stop_counts, answer_counts, answer_still, counts_on, as_before_then, in_log_also}
 use Rattle.log_file.proofs.Front.{told_wrong_start, told_wrong_spec, told_wrong_genesis, told_begun}

@@ -25,7 +25,7 @@ moved-requires-clause-from g c =
 
 pub moved-requires-clause-to : goal.moved-requires-clause-to
 moved-requires-clause-to g c =
-    place_of-below c.args.kept.now.chain.blocks c.args.block.now.header.parent_hash c.args.entry.parent c.requires.entry.on_kept
+    place_of-below c.args.kept.now.chain.blocks c.args.candidate.now.block.now.header.parent_hash c.args.candidate.now.entry.parent c.requires.entry.on_kept
 
 pub moved-requires-clause-counts : goal.moved-requires-clause-counts
 moved-requires-clause-counts g c = c.requires.counts
@@ -35,7 +35,7 @@ judge_on-requires-clause-counts g c = c.moved.ensures.read.count ∙ c.requires.
 
 pub moved-requires-2-clause-from : goal.moved-requires-2-clause-from
 moved-requires-2-clause-from g c =
-    place_of-below c.args.kept.now.chain.blocks c.args.block.now.header.parent_hash c.args.entry.parent c.requires.entry.on_kept
+    place_of-below c.args.kept.now.chain.blocks c.args.candidate.now.block.now.header.parent_hash c.args.candidate.now.entry.parent c.requires.entry.on_kept
 
 pub moved-requires-2-clause-to : goal.moved-requires-2-clause-to
 moved-requires-2-clause-to g c =
@@ -76,8 +76,8 @@ pub returns-in-Err-Broken-clause-decided : goal.returns-in-Err-Broken-clause-dec
 returns-in-Err-Broken-clause-decided g c tells live =
     let chain = c.args.kept.now.chain in
     ap Refused (c.number.ensures ∙ ap rule_number c.in-Err-Broken.rule-is)
-    ∙ verdict-refused chain.spec chain.blocks c.args.block.now c.args.entry c.requires.entry (rule_number c.in-Err-Broken.rule)
-    (first-at-sight chain.spec (branch chain.blocks c.args.entry.parent) c.args.block.now (rule_number c.in-Err-Broken.rule)
+    ∙ verdict-refused chain.spec chain.blocks c.args.candidate.now.block.now c.args.candidate.now.entry c.requires.entry (rule_number c.in-Err-Broken.rule)
+    (first-at-sight chain.spec (branch chain.blocks c.args.candidate.now.entry.parent) c.args.candidate.now.block.now (rule_number c.in-Err-Broken.rule)
     (c.in-Err-Broken.ensures.broken c.in-Err-Broken.rule (ap Err c.in-Err-Broken.field-0-is)))
 
 -- ---- By the live cells of its parent
@@ -87,7 +87,7 @@ returns-then-is_tip_next-clause-cells g c tells live =
     let at : tip_place c.args.kept.now.chain.blocks ≡ Some c.tip-from.result =
     sym (ap (λ (v : KeptValue). tip_place v.chain.blocks) c.kept.view_is)
     ∙ c.tip-from.ensures.of_blocks (blocks_of c.kept.inside.blocks.stored) c.kept.invariant.indexed in
-    at-parent c.args.kept.now.chain.blocks c.args.entry.parent c.in-Ok-judge_on.decision (rows c.in-Ok-moved.there) c.in-Ok-judge_on.ensures.on
+    at-parent c.args.kept.now.chain.blocks c.args.candidate.now.entry.parent c.in-Ok-judge_on.decision (rows c.in-Ok-moved.there) c.in-Ok-judge_on.ensures.on
     (sym c.is_tip_next.ensures ∙ c.if-is_tip_next.true) (c.in-Ok-moved.ensures.cells tells (live c.tip-from.result at))
 
 pub returns-then-is_tip_next-clause-decided : goal.returns-then-is_tip_next-clause-decided
@@ -136,15 +136,15 @@ returns-in-Err-moved-clause-undamaged g c tells live damage was =
 
 pub returns-in-Err-clause-asked : goal.returns-in-Err-clause-asked
 returns-in-Err-clause-asked g c = λ _.
-    wants-passed c.args.kept.now.chain c.args.block.now c.args.entry.parent c.requires.entry.new c.requires.entry.on_kept c.in-Ok.ensures.passed.sight
+    wants-passed c.args.kept.now.chain c.args.candidate.now.block.now c.args.candidate.now.entry.parent c.requires.entry.new c.requires.entry.on_kept c.in-Ok.ensures.passed.sight
 
 pub returns-in-Err-judge_on-clause-asked : goal.returns-in-Err-judge_on-clause-asked
 returns-in-Err-judge_on-clause-asked g c = λ _.
-    wants-passed c.args.kept.now.chain c.args.block.now c.args.entry.parent c.requires.entry.new c.requires.entry.on_kept c.in-Ok.ensures.passed.sight
+    wants-passed c.args.kept.now.chain c.args.candidate.now.block.now c.args.candidate.now.entry.parent c.requires.entry.new c.requires.entry.on_kept c.in-Ok.ensures.passed.sight
 
 pub returns-in-Err-moved-clause-asked : goal.returns-in-Err-moved-clause-asked
 returns-in-Err-moved-clause-asked g c = λ _.
-    wants-passed c.args.kept.now.chain c.args.block.now c.args.entry.parent c.requires.entry.new c.requires.entry.on_kept c.in-Ok.ensures.passed.sight
+    wants-passed c.args.kept.now.chain c.args.candidate.now.block.now c.args.candidate.now.entry.parent c.requires.entry.new c.requires.entry.on_kept c.in-Ok.ensures.passed.sight
 
 -- ---- Nothing is read where it is answered at sight
 
@@ -156,23 +156,23 @@ returns-in-Err-Read-clause-sight g c = λ _. refl
 
 pub returns-in-Err-clause-sight : goal.returns-in-Err-clause-sight
 returns-in-Err-clause-sight g c = λ none.
-    absurd (takes-some c.args.kept.now.chain c.args.block.now c.args.entry.parent c.in-Ok.ensures.passed.sight none)
+    absurd (takes-some c.args.kept.now.chain c.args.candidate.now.block.now c.args.candidate.now.entry.parent c.in-Ok.ensures.passed.sight none)
 
 pub returns-in-Err-judge_on-clause-sight : goal.returns-in-Err-judge_on-clause-sight
 returns-in-Err-judge_on-clause-sight g c = λ none.
-    absurd (takes-some c.args.kept.now.chain c.args.block.now c.args.entry.parent c.in-Ok.ensures.passed.sight none)
+    absurd (takes-some c.args.kept.now.chain c.args.candidate.now.block.now c.args.candidate.now.entry.parent c.in-Ok.ensures.passed.sight none)
 
 pub returns-then-is_tip_next-clause-sight : goal.returns-then-is_tip_next-clause-sight
 returns-then-is_tip_next-clause-sight g c = λ none.
-    absurd (takes-some c.args.kept.now.chain c.args.block.now c.args.entry.parent c.in-Ok.ensures.passed.sight none)
+    absurd (takes-some c.args.kept.now.chain c.args.candidate.now.block.now c.args.candidate.now.entry.parent c.in-Ok.ensures.passed.sight none)
 
 pub returns-in-Ok-moved-2-clause-sight : goal.returns-in-Ok-moved-2-clause-sight
 returns-in-Ok-moved-2-clause-sight g c = λ none.
-    absurd (takes-some c.args.kept.now.chain c.args.block.now c.args.entry.parent c.in-Ok.ensures.passed.sight none)
+    absurd (takes-some c.args.kept.now.chain c.args.candidate.now.block.now c.args.candidate.now.entry.parent c.in-Ok.ensures.passed.sight none)
 
 pub returns-in-Err-moved-clause-sight : goal.returns-in-Err-moved-clause-sight
 returns-in-Err-moved-clause-sight g c = λ none.
-    absurd (takes-some c.args.kept.now.chain c.args.block.now c.args.entry.parent c.in-Ok.ensures.passed.sight none)
+    absurd (takes-some c.args.kept.now.chain c.args.candidate.now.block.now c.args.candidate.now.entry.parent c.in-Ok.ensures.passed.sight none)
 
 -- ---- Each row is of a kept block
 

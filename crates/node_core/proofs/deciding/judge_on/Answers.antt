@@ -24,10 +24,10 @@ use Rattle.node_core.proofs.deciding.judge_on.Goals as goal
 
 pub judge-requires-clause-placed : goal.judge-requires-clause-placed
 judge-requires-clause-placed g c =
-    kept-parent c.kept.inside.blocks.stored c.kept.inside.tree.entries c.kept.inside.uncles c.args.entry.parent c.kept.invariant
-    (within-entries (blocks_of c.kept.inside.blocks.stored) c.args.kept.now.chain.blocks c.kept.inside.tree.entries c.args.entry.parent
+    kept-parent c.kept.inside.blocks.stored c.kept.inside.tree.entries c.kept.inside.uncles c.args.candidate.now.entry.parent c.kept.invariant
+    (within-entries (blocks_of c.kept.inside.blocks.stored) c.args.kept.now.chain.blocks c.kept.inside.tree.entries c.args.candidate.now.entry.parent
     (ap (λ (v : KeptValue). v.chain.blocks) c.kept.view_is) c.kept.invariant.indexed
-    (place_of-below c.args.kept.now.chain.blocks c.args.block.now.header.parent_hash c.args.entry.parent c.requires.entry.on_kept))
+    (place_of-below c.args.kept.now.chain.blocks c.args.candidate.now.block.now.header.parent_hash c.args.candidate.now.entry.parent c.requires.entry.on_kept))
 
 pub judge-requires-clause-counts : goal.judge-requires-clause-counts
 judge-requires-clause-counts g c =
@@ -48,13 +48,13 @@ returns-in-Err-Broken-clause-decided g c tells live =
     let told = told-stored c.kept.inside.spec stored c.kept.inside.tree.entries c.args.kept.now _ c.kept.view_is tells in
     let whole = ap (λ (v : KeptValue). v.chain) c.kept.view_is in
     let stands = whole-at-hand c.kept.inside.spec stored c.kept.inside.tree.entries c.kept.inside.uncles
-    c.args.state.now c.args.kept.now c.args.block.now c.args.entry c.kept.view_is c.kept.invariant c.requires.entry tells.joined live in
-    let passes = subst (λ (v : Chain). broken_at_sight v.spec (branch v.blocks c.args.entry.parent) c.args.block.now ≡ None) (sym whole) c.requires.passed.sight in
+    c.args.state.now c.args.kept.now c.args.candidate.now.block.now c.args.candidate.now.entry c.kept.view_is c.kept.invariant c.requires.entry tells.joined live in
+    let passes = subst (λ (v : Chain). broken_at_sight v.spec (branch v.blocks c.args.candidate.now.entry.parent) c.args.candidate.now.block.now ≡ None) (sym whole) c.requires.passed.sight in
     ap Refused (c.number.ensures ∙ ap rule_number c.in-Err-Broken.rule-is)
-    ∙ verdict-refused c.args.kept.now.chain.spec c.args.kept.now.chain.blocks c.args.block.now c.args.entry c.requires.entry (rule_number c.in-Err-Broken.rule)
-    (subst (λ (v : Chain). first_broken v.spec (branch v.blocks c.args.entry.parent) c.args.block.now ≡ Some (rule_number c.in-Err-Broken.rule)) whole
-    (block-breaks-first c.kept.inside.spec (blocks_of stored) c.args.entry.parent c.args.block.now (rule_number c.in-Err-Broken.rule)
-    (subst (StopsAs (judged_block c.kept.inside.spec (blocks_of stored) c.args.entry.parent c.args.block.now)) c.in-Err-Broken.field-0-is
+    ∙ verdict-refused c.args.kept.now.chain.spec c.args.kept.now.chain.blocks c.args.candidate.now.block.now c.args.candidate.now.entry c.requires.entry (rule_number c.in-Err-Broken.rule)
+    (subst (λ (v : Chain). first_broken v.spec (branch v.blocks c.args.candidate.now.entry.parent) c.args.candidate.now.block.now ≡ Some (rule_number c.in-Err-Broken.rule)) whole
+    (block-breaks-first c.kept.inside.spec (blocks_of stored) c.args.candidate.now.entry.parent c.args.candidate.now.block.now (rule_number c.in-Err-Broken.rule)
+    (subst (StopsAs (judged_block c.kept.inside.spec (blocks_of stored) c.args.candidate.now.entry.parent c.args.candidate.now.block.now)) c.in-Err-Broken.field-0-is
     ((c.in-Err-Broken.ensures.exact stored told stands).all passes))))
 
 pub returns-in-Err-Broken-clause-undamaged : goal.returns-in-Err-Broken-clause-undamaged
@@ -71,8 +71,8 @@ returns-in-Err-Read-clause-undamaged g c tells live damage was =
     let stored = c.kept.inside.blocks.stored in
     let told = told-stored c.kept.inside.spec stored c.kept.inside.tree.entries c.args.kept.now _ c.kept.view_is tells in
     let stands = whole-at-hand c.kept.inside.spec stored c.kept.inside.tree.entries c.kept.inside.uncles
-    c.args.state.now c.args.kept.now c.args.block.now c.args.entry c.kept.view_is c.kept.invariant c.requires.entry tells.joined live in
-    subst (StopsAs (judged_left c.kept.inside.spec (blocks_of stored) c.args.entry.parent c.args.block.now))
+    c.args.state.now c.args.kept.now c.args.candidate.now.block.now c.args.candidate.now.entry c.kept.view_is c.kept.invariant c.requires.entry tells.joined live in
+    subst (StopsAs (judged_left c.kept.inside.spec (blocks_of stored) c.args.candidate.now.entry.parent c.args.candidate.now.block.now))
     (c.in-Err-Read.field-0-is ∙ ap Read (sym c.in-Err-Read.stop-is ∙ same_stop _ _ was)) (c.in-Err-Read.ensures.exact stored told stands).left
 
 -- ---- Room
@@ -83,7 +83,7 @@ returns-then-has_room-clause-read g c = c.in-Ok.ensures.read
 pub returns-then-has_room-clause-ready : goal.returns-then-has_room-clause-ready
 returns-then-has_room-clause-ready g c =
     let whole = ap (λ (v : KeptValue). v.chain) c.kept.view_is in
-    may-be-kept c.args.kept.now.chain c.args.block.now (record { entry = c.args.entry; ext = c.in-Ok.ext; hashes = c.args.hashes }) c.requires.entry c.requires.passed
+    may-be-kept c.args.kept.now.chain c.args.candidate.now.block.now (record { entry = c.args.candidate.now.entry; ext = c.in-Ok.ext; hashes = c.args.hashes }) c.requires.entry c.requires.passed
     (room-for c.len.result _ c.has_room.result c.has_room.ensures c.if-has_room.true
     (c.len.ensures.of_blocks (blocks_of c.kept.inside.blocks.stored) c.kept.invariant.indexed ∙ ap (λ (v : Chain). length v.blocks) whole))
     c.in-Ok.ensures.rated c.in-Ok.ensures.fees
@@ -94,16 +94,16 @@ returns-then-has_room-clause-decided g c tells live =
     let told = told-stored c.kept.inside.spec stored c.kept.inside.tree.entries c.args.kept.now _ c.kept.view_is tells in
     let whole = ap (λ (v : KeptValue). v.chain) c.kept.view_is in
     let stands = whole-at-hand c.kept.inside.spec stored c.kept.inside.tree.entries c.kept.inside.uncles
-    c.args.state.now c.args.kept.now c.args.block.now c.args.entry c.kept.view_is c.kept.invariant c.requires.entry tells.joined live in
-    let passes = subst (λ (v : Chain). broken_at_sight v.spec (branch v.blocks c.args.entry.parent) c.args.block.now ≡ None) (sym whole) c.requires.passed.sight in
-    let judged = block-passes-by c.kept.inside.spec (blocks_of stored) c.args.entry.parent c.args.block.now (λ is. IsExt is c.in-Ok.ext)
+    c.args.state.now c.args.kept.now c.args.candidate.now.block.now c.args.candidate.now.entry c.kept.view_is c.kept.invariant c.requires.entry tells.joined live in
+    let passes = subst (λ (v : Chain). broken_at_sight v.spec (branch v.blocks c.args.candidate.now.entry.parent) c.args.candidate.now.block.now ≡ None) (sym whole) c.requires.passed.sight in
+    let judged = block-passes-by c.kept.inside.spec (blocks_of stored) c.args.candidate.now.entry.parent c.args.candidate.now.block.now (λ is. IsExt is c.in-Ok.ext)
     ((c.in-Ok.ensures.exact stored told stands).all passes) in
-    is-judged c.args.kept.now.chain c.args.block.now (record { entry = c.args.entry; ext = c.in-Ok.ext; hashes = c.args.hashes }) c.requires.entry
-    (subst (λ (v : Chain). first_broken v.spec (branch v.blocks c.args.entry.parent) c.args.block.now ≡ None) whole
+    is-judged c.args.kept.now.chain c.args.candidate.now.block.now (record { entry = c.args.candidate.now.entry; ext = c.in-Ok.ext; hashes = c.args.hashes }) c.requires.entry
+    (subst (λ (v : Chain). first_broken v.spec (branch v.blocks c.args.candidate.now.entry.parent) c.args.candidate.now.block.now ≡ None) whole
     judged.0)
     (room-for c.len.result _ c.has_room.result c.has_room.ensures c.if-has_room.true
     (c.len.ensures.of_blocks (blocks_of stored) c.kept.invariant.indexed ∙ ap (λ (v : Chain). length v.blocks) whole))
-    (subst (λ (v : Chain). c.in-Ok.ext ≡ ext_of v.spec v.blocks c.args.entry.parent c.args.block.now) whole
+    (subst (λ (v : Chain). c.in-Ok.ext ≡ ext_of v.spec v.blocks c.args.candidate.now.entry.parent c.args.candidate.now.block.now) whole
     judged.1)
 
 pub returns-then-has_room-clause-undamaged : goal.returns-then-has_room-clause-undamaged
@@ -121,12 +121,12 @@ returns-clause-decided g c tells live =
     let told = told-stored c.kept.inside.spec stored c.kept.inside.tree.entries c.args.kept.now _ c.kept.view_is tells in
     let whole = ap (λ (v : KeptValue). v.chain) c.kept.view_is in
     let stands = whole-at-hand c.kept.inside.spec stored c.kept.inside.tree.entries c.kept.inside.uncles
-    c.args.state.now c.args.kept.now c.args.block.now c.args.entry c.kept.view_is c.kept.invariant c.requires.entry tells.joined live in
-    let passes = subst (λ (v : Chain). broken_at_sight v.spec (branch v.blocks c.args.entry.parent) c.args.block.now ≡ None) (sym whole) c.requires.passed.sight in
-    let judged = block-passes-by c.kept.inside.spec (blocks_of stored) c.args.entry.parent c.args.block.now (λ is. IsExt is c.in-Ok.ext)
+    c.args.state.now c.args.kept.now c.args.candidate.now.block.now c.args.candidate.now.entry c.kept.view_is c.kept.invariant c.requires.entry tells.joined live in
+    let passes = subst (λ (v : Chain). broken_at_sight v.spec (branch v.blocks c.args.candidate.now.entry.parent) c.args.candidate.now.block.now ≡ None) (sym whole) c.requires.passed.sight in
+    let judged = block-passes-by c.kept.inside.spec (blocks_of stored) c.args.candidate.now.entry.parent c.args.candidate.now.block.now (λ is. IsExt is c.in-Ok.ext)
     ((c.in-Ok.ensures.exact stored told stands).all passes) in
-    verdict-full c.args.kept.now.chain.spec c.args.kept.now.chain.blocks c.args.block.now c.args.entry c.requires.entry c.len.result c.has_room.result
-    (subst (λ (v : Chain). first_broken v.spec (branch v.blocks c.args.entry.parent) c.args.block.now ≡ None) whole
+    verdict-full c.args.kept.now.chain.spec c.args.kept.now.chain.blocks c.args.candidate.now.block.now c.args.candidate.now.entry c.requires.entry c.len.result c.has_room.result
+    (subst (λ (v : Chain). first_broken v.spec (branch v.blocks c.args.candidate.now.entry.parent) c.args.candidate.now.block.now ≡ None) whole
     judged.0)
     c.has_room.ensures c.if-has_room.false
     (c.len.ensures.of_blocks (blocks_of stored) c.kept.invariant.indexed ∙ ap (λ (v : Chain). length v.blocks) whole)

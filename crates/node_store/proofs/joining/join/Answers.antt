@@ -9,7 +9,6 @@ use Rattle.verdict_defs.specs.Chain.{Chain, chain_after}
 use Rattle.store_defs.specs.JoinLaws.{record_over}
 use Rattle.log_file.specs.Pieces.{after_gate, block_record}
 use Rattle.log_file.specs.Grammar.{record_of}
-use Rattle.log_file.specs.Opening.{kept_records}
 use Rattle.log_file.proofs.Creating.{others_same}
 use Rattle.log_file.proofs.Exits.{fault_counts}
 use Rattle.node_store.specs.declared.decision.Decision.TheVariants.{Joins}
@@ -35,7 +34,7 @@ pub next_rec-rec-requires-clause-limit : goal.next_rec-rec-requires-clause-limit
 next_rec-rec-requires-clause-limit g c =
     let ready : IsReadyItem c.node.inside.kept.chain c.args.item.now (Joins c.args.joining) =
     subst (λ (v : NodeValue). IsReadyItem v.chain c.args.item.now (Joins c.args.joining)) (sym c.node.view_is) c.requires.ready in
-    place_limit (length c.node.inside.kept.chain.blocks) c.node.inside.log.place (omega (arith, ready.2.ready.room)) c.node.invariant.within
+    place_limit (length c.node.inside.kept.chain.blocks) c.node.inside.log.place c.node.inside.kept.chain.spec.second_from (omega (arith, ready.2.ready.room)) c.node.invariant.within
 
 pub next_rec-rec-requires-clause-filled : goal.next_rec-rec-requires-clause-filled
 next_rec-rec-requires-clause-filled g c =
@@ -59,7 +58,7 @@ pub append-requires-clause-limit : goal.append-requires-clause-limit
 append-requires-clause-limit g c =
     let ready : IsReadyItem c.node.inside.kept.chain c.args.item.now (Joins c.args.joining) =
     subst (λ (v : NodeValue). IsReadyItem v.chain c.args.item.now (Joins c.args.joining)) (sym c.node.view_is) c.requires.ready in
-    place_limit (length c.node.inside.kept.chain.blocks) c.node.inside.log.place (omega (arith, ready.2.ready.room)) c.node.invariant.within
+    place_limit (length c.node.inside.kept.chain.blocks) c.node.inside.log.place c.node.inside.kept.chain.spec.second_from (omega (arith, ready.2.ready.room)) c.node.invariant.within
 
 pub append-requires-clause-there : goal.append-requires-clause-there
 append-requires-clause-there g c =
@@ -150,7 +149,7 @@ returns-in-Err-append-clause-left g c =
     (IsDecided v.chain c.args.item.now (Joins c.args.joining)) v c.args.item.now) c.node.view_is (record {
       moments = λ decided only.
           let of = of_told (node_of c.node.inside.kept c.node.inside.log.place c.node.inside.state c.node.inside.cache) (g.D.Disk.reads_as c.args.disk.now) (g.D.Disk.images c.args.disk.now) only.now only.told own in
-          let records = record_of 1 of.read.specification ∷ kept_records (stored_of c.node.inside.kept) in
+          let records = record_of 1 of.read.specification ∷ of.read.records in
           let can = can_join c.node.inside.kept.chain c.args.item.now c.args.joining decided in
           let form = form_is c.node.inside.kept.chain c.args.item.now c.in-Ok.ext.items c.args.joining decided c.in-Ok.ensures.filled.of_ext c.in-Ok.ensures.filled.form in
           let filled : c.prepare.new.body ≡ after_gate (record_over c.node.inside.kept.chain c.args.item.now) =
@@ -192,7 +191,7 @@ returns-in-Ok-append-clause-left g c =
     (IsDecided v.chain c.args.item.now (Joins c.args.joining)) v c.args.item.now) c.node.view_is (record {
       moments = λ decided only.
           let of = of_told (node_of c.node.inside.kept c.node.inside.log.place c.node.inside.state c.node.inside.cache) (g.D.Disk.reads_as c.args.disk.now) (g.D.Disk.images c.args.disk.now) only.now only.told own in
-          let records = record_of 1 of.read.specification ∷ kept_records (stored_of c.node.inside.kept) in
+          let records = record_of 1 of.read.specification ∷ of.read.records in
           let can = can_join c.node.inside.kept.chain c.args.item.now c.args.joining decided in
           let form = form_is c.node.inside.kept.chain c.args.item.now c.in-Ok.ext.items c.args.joining decided c.in-Ok.ensures.filled.of_ext c.in-Ok.ensures.filled.form in
           let filled : c.prepare.new.body ≡ after_gate (record_over c.node.inside.kept.chain c.args.item.now) =
@@ -255,7 +254,7 @@ returns-in-Ok-append-clause-joined g c =
       live = c.in-Ok-join.ensures.live;
       image = λ decided only.
           let of = of_told (node_of c.node.inside.kept c.node.inside.log.place c.node.inside.state c.node.inside.cache) (g.D.Disk.reads_as c.args.disk.now) (g.D.Disk.images c.args.disk.now) only.now only.told own in
-          let records = record_of 1 of.read.specification ∷ kept_records (stored_of c.node.inside.kept) in
+          let records = record_of 1 of.read.specification ∷ of.read.records in
           let can = can_join c.node.inside.kept.chain c.args.item.now c.args.joining decided in
           let form = form_is c.node.inside.kept.chain c.args.item.now c.in-Ok.ext.items c.args.joining decided c.in-Ok.ensures.filled.of_ext c.in-Ok.ensures.filled.form in
           let filled : c.prepare.new.body ≡ after_gate (record_over c.node.inside.kept.chain c.args.item.now) =

@@ -1,4 +1,4 @@
-use Rattle.node_store.proofs.LogLemmas.{log_has_records, reads_its_record, says_what_is_kept, log_has_blocks, says_what_is_opened, opens_known, follows_the_log, says_one_more, adds_a_record}
+use Rattle.node_store.proofs.LogLemmas.{log_has_records, reads_its_record, says_what_is_kept, log_has_blocks, says_what_is_opened, opens_known, follows_the_log, passes_editions, says_one_more, adds_a_record}
 use Rattle.node_store.proofs.AgreeLemmas.{agrees_always, keeps_after_append}
 use Rattle.node_store.proofs.laws.store_laws.Goals as goal
 
@@ -13,6 +13,7 @@ returns c = record {
   agrees_always = agrees_always;
   keeps_after_append = keeps_after_append;
   follows_the_log = follows_the_log;
+  passes_editions = passes_editions;
   says_one_more = says_one_more;
   adds_a_record = adds_a_record;
 }
