@@ -40,9 +40,10 @@ INPUT = 3
 # what `rt try` takes as an input, runs and prints at most
 MOST_INPUT, MOST_SECONDS, MOST_TEXT = 64 << 20, 60, '1 MiB'
 # of the words after a folder, those that read no input
-READ_NOTHING = ('tip', 'header', 'json', 'epoch', 'audit', 'cell', 'dao', 'make', 'soak')
-# of these, those that write to a store
-WRITE = ('init', 'import')
+READ_NOTHING = ('migrate', 'tip', 'header', 'json', 'epoch', 'audit', 'cell', 'list', 'dao', 'make', 'soak')
+# those that write to a store, and what may be there where one did not run to its end
+WRITE = {'init': 'a store may be made: ./%s FOLDER tip tells', 'import': 'blocks may be kept: ./%s FOLDER tip tells',
+         'watch': 'blocks may be kept: ./%s FOLDER tip tells', 'migrate': 'the store may have its edition: the same command tells, ./%s FOLDER migrate N'}
 # programs whose first word is a folder
 IN_A_FOLDER = ('ckbdev',)
 SIGNALS = (signal.SIGHUP, signal.SIGINT, signal.SIGQUIT, signal.SIGTERM)
@@ -158,7 +159,7 @@ def why_not(said, status, words):
     command = words[1] if NAME in IN_A_FOLDER and len(words) > 1 else ''
     kept = ''
     if command in WRITE:
-        kept = '; %s: ./%s FOLDER tip tells' % ('blocks may be kept' if command == 'import' else 'a store may be made', NAME)
+        kept = '; ' + WRITE[command] % NAME
     if re.search(r'(?m)^checked: no-answer: .*time limit', said):
         return 'it had not ended after %d seconds, the most that an unproved run takes: a build has no such limit%s' % (MOST_SECONDS, kept)
     if re.search(r'(?m)^checked: no-answer: the program wrote more than', said):

@@ -35,7 +35,8 @@ say_refused() {
     folder=$1 command=$2
     shift 2
     case $command in
-        exec | header | json) count=1 form=N takes='one word after it, N' ;;
+        exec | header | json | migrate) count=1 form=N takes='one word after it, N' ;;
+        list | watch) count=1 form=HASH takes='one word after it, HASH' ;;
         cell | dao) count=2 form='HASH N' takes='two words after it, HASH and N' ;;
         make | soak) count=2 form='N M' takes='two words after it, N and M' ;;
         *) count=0 form='' takes='no word after it' ;;

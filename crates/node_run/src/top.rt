@@ -11,7 +11,7 @@ ghost use Rattle.report_defs.specs.Report.{import_limits};
 ghost use Rattle.report_defs.specs.Words as grammar;
 ghost use Rattle.report_defs.specs.Status.{IsOneOf};
 ghost use Rattle.report_defs.specs.Promise.{statuses_of};
-ghost use Rattle.report_defs.specs.Survival.{IsPromised, CallsNoDisk, OpensStore, AsksStore, KeepsRecords, NoneJoins, items_of, as_before};
+ghost use Rattle.report_defs.specs.Survival.{IsPromised, CallsNoDisk, OpensStore, AsksStore, Imports, Migrates, KeepsRecords, MayAdd, NoneJoins, refusals, as_before};
 ghost use Rattle.run_text.specs.Items.{Gave};
 ghost use Rattle.node_store.specs.OpeningSteps.{moves_to_open};
 ghost use Rattle.node_store.specs.Steps.{steps_over};
@@ -22,6 +22,7 @@ use report_defs::{Command, Status};
 use run_alone::standalone;
 use run_import::import;
 use run_init::init;
+use run_migration::migrate;
 use run_query::query;
 use run_question::question;
 use run_simulation::simulate;
@@ -31,7 +32,7 @@ use std::sync::ledger::Ledger;
 
 /// Does what the words ask for: reads the input, writes its text, and answers how it ended.
 /// The words are a folder, which is any word that is not empty, and a command: `init`, `import`, `tip`, `epoch`, `audit`, `check`,
-/// `assemble`, `header` or `json` and a height, `cell` or `dao` with the hash of a transaction and an index, `asm`, `dis`, `unjson`, `exec` and a
+/// `assemble`, `header` or `json` and a height, `migrate` and an epoch, `watch` or `list` and the hash of a lock, `cell` or `dao` with the hash of a transaction and an index, `asm`, `dis`, `unjson`, `exec` and a
 /// budget in cycles, at most 2^40, or `make` or `soak` with a seed and a count of blocks, at most 20,000 and 100.
 pub fn run<S: Source, K: Sink, D: Disk, L: Ledger>(
     alloc: Global,
@@ -62,7 +63,7 @@ pub fn run<S: Source, K: Sink, D: Disk, L: Ledger>(
     // What the disk reads as is known after the call exactly where it was known before, so that the same is said of the next run.
     ensures told { IsKnownAsBefore (D.reads_as disk.old) (D.reads_as disk.new) }
 
-    // Where the disk is not called, is as it was, also for an `init` that finds a log, and where it is only read: it has no log, or a query or question finds its log at rest.
+    // Where the disk is not called, is as it was, also for an `init` that finds a log, and where it is only read: it has no log, or a query or question, or a `migrate` that is refused, finds its log at rest.
     ensures uncalled { CallsNoDisk (grammar.command_of (map string_bytes words.now)) → disk.new ≡ disk.old }
     ensures as_before { IsOneOf (as_before (grammar.command_of (map string_bytes words.now))) result
         → IsAsBefore D.reads_as D.images D.moment D.left_since disk.old disk.new }
@@ -72,32 +73,38 @@ pub fn run<S: Source, K: Sink, D: Disk, L: Ledger>(
         → OpensStore (grammar.command_of (map string_bytes words.now)) → IsOnlyRead D.reads_as D.images D.moment D.left_since disk.old disk.new }
     ensures rests { (now : Image) → D.reads_as disk.old ≡ Some now → slice_index now.log (end_of_log now.log) ≢ 1
         → AsksStore (grammar.command_of (map string_bytes words.now)) → IsOnlyRead D.reads_as D.images D.moment D.left_since disk.old disk.new }
+    ensures refused_rests { (now : Image) → D.reads_as disk.old ≡ Some now → slice_index now.log (end_of_log now.log) ≢ 1
+        → Migrates (grammar.command_of (map string_bytes words.now)) → IsOneOf refusals result
+        → IsOnlyRead D.reads_as D.images D.moment D.left_since disk.old disk.new }
 
     // A command that opens the store keeps the records of LOG, over a log that is sound or not, and whatever status it ends with: an image is one of the
-    // start, or its LOG has the records that it read as, and after them those of some of the items.
+    // start, or its LOG has the records that it read as, and after them those of some of the items, or that of the edition which is asked for, where the chain may have it.
     ensures records { OpensStore (grammar.command_of (map string_bytes words.now)) → Gave (S.left input.old) (S.left input.new)
         (λ given. (now : Image) (chain : Chain) → D.reads_as disk.old ≡ Some now → store_of now ≡ Keeps chain
-        → KeepsRecords (items_of (grammar.command_of (map string_bytes words.now)) given) now (D.images disk.old) (D.images disk.new)
+        → KeepsRecords (MayAdd (grammar.command_of (map string_bytes words.now)) chain given) now (D.images disk.old) (D.images disk.new)
         (D.left_since disk.new (D.moment disk.old))) }
 
     // Nothing joined, nothing written: over a sound store whose log is at rest an import only reads the disk where none of its items joins.
-    ensures still { grammar.command_of (map string_bytes words.now) ≡ Some Command.Import → Gave (S.left input.old) (S.left input.new)
+    ensures still { Imports (grammar.command_of (map string_bytes words.now)) → Gave (S.left input.old) (S.left input.new)
         (λ given. (now : Image) (chain : Chain) → D.reads_as disk.old ≡ Some now → StandsFor chain now → slice_index now.log (end_of_log now.log) ≢ 1
         → NoneJoins chain (split_of import_limits given).items → IsOnlyRead D.reads_as D.images D.moment D.left_since disk.old disk.new) }
 
     // Only a command that opens the store counts steps: a query or question at most one for each row of the snapshot that is loaded and those from its tip to
-    // the tip, or those from the genesis; an import over a store that is sound at most these, and for each item that is not answered at sight one and those
+    // the tip, or those from the genesis, and so a migration; an import over a store that is sound at most these, and for each item that is not answered at sight one and those
     // from the tip to its parent and back.
     ensures steps { (OpensStore (grammar.command_of (map string_bytes words.now)) → ⊥) → steps.new ≡ steps.old }
     ensures query_steps { (now : Image) → D.reads_as disk.old ≡ Some now → AsksStore (grammar.command_of (map string_bytes words.now))
         → steps.new ≤ steps.old + moves_to_open now }
-    ensures import_steps { grammar.command_of (map string_bytes words.now) ≡ Some Command.Import → Gave (S.left input.old) (S.left input.new)
+    ensures migrate_steps { (now : Image) → D.reads_as disk.old ≡ Some now → Migrates (grammar.command_of (map string_bytes words.now))
+        → steps.new ≤ steps.old + moves_to_open now }
+    ensures import_steps { Imports (grammar.command_of (map string_bytes words.now)) → Gave (S.left input.old) (S.left input.new)
         (λ given. (now : Image) (chain : Chain) → D.reads_as disk.old ≡ Some now → StandsFor chain now
         → steps.new ≤ steps.old + moves_to_open now + steps_over chain (split_of import_limits given).items) }
 {
     match command_of(words) {
         Some(Command::Init) => init(alloc, input, out, disk),
-        Some(Command::Import) => import(alloc, input, out, disk, steps),
+        Some(Command::Import { watched }) => import(alloc, input, out, disk, watched, steps),
+        Some(Command::Migrate { epoch }) => migrate(alloc, out, disk, epoch, steps),
         Some(Command::Query(asked)) => query(alloc, out, disk, asked, steps),
         Some(Command::Question(asked)) => question(alloc, input, out, disk, asked, steps),
         Some(Command::Standalone(command)) => standalone(alloc, input, out, command),

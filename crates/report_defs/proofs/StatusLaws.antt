@@ -13,8 +13,11 @@ use Rattle.verdict_defs.specs.declared.trial.Trial.TheVariants.{Passes, Refused}
 use Rattle.chain_defs.specs.Specification.{broken_specification_rule}
 use Rattle.rule_defs.specs.Genesis.{broken_genesis_rule}
 use Rattle.store_defs.specs.Store.{Store, NoLog, NotALog, Keeps}
+use Rattle.store_defs.specs.declared.moved.Moved.{Moved}
+use Rattle.store_defs.specs.declared.moved.Moved.TheVariants as moves
+use Rattle.store_defs.specs.Migration.{migration}
 use Rattle.report_defs.specs.declared.command.Command.{Command}
-use Rattle.report_defs.specs.declared.command.Command.TheVariants.{Init, Import, Query, Question, Standalone, Simulation}
+use Rattle.report_defs.specs.declared.command.Command.TheVariants.{Init, Import, Migrate, Query, Question, Standalone, Simulation}
 use Rattle.report_defs.specs.declared.command.Question as questions
 use Rattle.report_defs.specs.declared.command.Question.TheVariants.{Check, Assemble}
 use Rattle.report_defs.specs.declared.command.Standalone as files
@@ -26,8 +29,8 @@ use Rattle.report_defs.specs.declared.status.Status.TheVariants.{Done, SomeRefus
 use Rattle.report_defs.specs.Status.{IsOneOf}
 use Rattle.report_defs.specs.Assembly.{refuses as refuses_line}
 use Rattle.report_defs.specs.Items.{split_of, end_offset, end_of_whole}
-use Rattle.report_defs.specs.Report.{Report, init_limits, import_limits, question_limits, status_of_end, report_at_end, report_of_rules, report_of_items, init_report, report_of_check, report_with_witness, report_of_assembly, answer_to_question, status_of_trial, IsAnswerToFile, IsReportOfFile, IsReport}
-use Rattle.report_defs.specs.Promise.{init_statuses, import_statuses, query_statuses, question_statuses, standalone_statuses, statuses_of}
+use Rattle.report_defs.specs.Report.{Report, init_limits, import_limits, question_limits, status_of_end, report_at_end, report_of_rules, report_of_items, init_report, report_of_check, report_with_witness, report_of_assembly, answer_to_question, status_of_trial, IsAnswerToFile, IsReportOfFile, report_of_moved, IsReport}
+use Rattle.report_defs.specs.Promise.{init_statuses, import_statuses, migrate_statuses, query_statuses, question_statuses, standalone_statuses, statuses_of}
 use Rattle.report_defs.specs.Laws.{HasOwnStatus}
 
 abbrev Has : List Status → Report → Type 0
@@ -101,6 +104,13 @@ question-end judged offset ends.Cut has = inr (inr (inr (inr (inr (inr (inr (inl
 question-end judged offset ends.BadSize has = inr (inr (inr (inr (inr (inr (inr (inr (inl refl))))))))
 question-end judged offset ends.Extra has = inr (inr (inr (inr (inr (inr (inr (inr (inr (inl refl)))))))))
 
+-- ---- `migrate`
+
+of-moved : (epoch : ℕ) (moved : Moved) → Has migrate_statuses (report_of_moved epoch moved)
+of-moved epoch moves.Done = inl refl
+of-moved epoch (moves.TooEarly reached) = inr (inr (inr (inr (inr (inl refl)))))
+of-moved epoch (moves.Already first) = inr (inr (inr (inr (inr (inr (inl refl))))))
+
 -- ---- Without a store
 
 of-answer : (command : files.Standalone) (file : List ℕ) (said : Report) → IsAnswerToFile command file said → Has (standalone_statuses command) said
@@ -130,11 +140,14 @@ told statuses said report is has = subst (Has statuses) (sym is) has
 pub own-status : HasOwnStatus
 own-status None input store said is = inl (ap (λ (r : Report). r.status) is)
 own-status (Some Init) input store said is = told init_statuses said _ is (of-init input store)
-own-status (Some Import) input NoLog said is = told import_statuses said _ is (inr (inr (inr (inr (inr (inr (inl refl)))))))
-own-status (Some Import) input NotALog said is = told import_statuses said _ is (inr (inr (inr (inr (inr (inr (inl refl)))))))
-own-status (Some Import) input (Keeps chain) said is =
+own-status (Some (Import watched)) input NoLog said is = told import_statuses said _ is (inr (inr (inr (inr (inr (inr (inl refl)))))))
+own-status (Some (Import watched)) input NotALog said is = told import_statuses said _ is (inr (inr (inr (inr (inr (inr (inl refl)))))))
+own-status (Some (Import watched)) input (Keeps chain) said is =
     let split = split_of import_limits input in
     told import_statuses said _ is (import-end (list_any refuses (verdicts_over chain split.items)) split.end)
+own-status (Some (Migrate epoch)) input NoLog said is = told migrate_statuses said _ is (inr (inr (inr (inr (inl refl)))))
+own-status (Some (Migrate epoch)) input NotALog said is = told migrate_statuses said _ is (inr (inr (inr (inr (inl refl)))))
+own-status (Some (Migrate epoch)) input (Keeps chain) said is = told migrate_statuses said _ is (of-moved epoch (migration chain epoch))
 own-status (Some (Query query)) input NoLog said is = told query_statuses said _ is (inr (inr (inr (inr (inl refl)))))
 own-status (Some (Query query)) input NotALog said is = told query_statuses said _ is (inr (inr (inr (inr (inl refl)))))
 own-status (Some (Query query)) input (Keeps chain) said is = told query_statuses said _ is (inl refl)

@@ -9,7 +9,7 @@ use Rattle.verdict_defs.specs.Chain.{Chain, verdict_over}
 use Rattle.pool_defs.specs.Laws.{breakable}
 use Rattle.store_defs.specs.Store.{Store, Keeps, StandsFor}
 use Rattle.report_defs.specs.declared.command.Command.{Command}
-use Rattle.report_defs.specs.declared.command.Command.TheVariants.{Init, Import, Query, Question, Standalone, Simulation}
+use Rattle.report_defs.specs.declared.command.Command.TheVariants.{Init, Import, Migrate, Query, Question, Standalone, Simulation}
 use Rattle.report_defs.specs.declared.command.Simulation as simulations
 use Rattle.report_defs.specs.declared.command.Simulation.TheVariants.{Make, Soak}
 use Rattle.report_defs.specs.declared.command.Question.TheVariants.{Assemble}
@@ -29,7 +29,8 @@ IsPinnedSimulation (Soak seed count) = HashesDiffer seed count
 abbrev pub IsPinned : Option Command → Type 0
 IsPinned None = Unit {0}
 IsPinned (Some Init) = Unit {0}
-IsPinned (Some Import) = Unit {0}
+IsPinned (Some (Import watched)) = Unit {0}
+IsPinned (Some (Migrate epoch)) = Unit {0}
 IsPinned (Some (Query query)) = Unit {0}
 IsPinned (Some (Question question)) = Unit {0}
 IsPinned (Some (Standalone command)) = Unit {0}

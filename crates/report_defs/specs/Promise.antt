@@ -7,12 +7,12 @@ use Rattle.outside.specs.Image.{Image}
 use Rattle.verdict_defs.specs.Chain.{Chain}
 use Rattle.store_defs.specs.Store.{Store, NoLog, NotALog, Keeps, store_of, StandsFor}
 use Rattle.report_defs.specs.declared.command.Command.{Command}
-use Rattle.report_defs.specs.declared.command.Command.TheVariants.{Init, Import, Query, Question, Standalone, Simulation}
+use Rattle.report_defs.specs.declared.command.Command.TheVariants.{Init, Import, Migrate, Query, Question, Standalone, Simulation}
 use Rattle.report_defs.specs.declared.command.Question as questions
 use Rattle.report_defs.specs.declared.command.Standalone as files
 use Rattle.report_defs.specs.declared.command.Standalone.TheVariants.{Exec, Asm, Dis, Unjson}
 use Rattle.report_defs.specs.declared.status.Status.{Status}
-use Rattle.report_defs.specs.declared.status.Status.TheVariants.{Done, SomeRefused, BadWords, InputFault, SinkFault, DiskFault, NoMemory, NotAStore, CutInput, BadSize, StoreThere, BadGenesis, ExtraInput}
+use Rattle.report_defs.specs.declared.status.Status.TheVariants.{Done, SomeRefused, BadWords, InputFault, SinkFault, DiskFault, NoMemory, NotAStore, CutInput, BadSize, StoreThere, BadGenesis, ExtraInput, TooEarly, AlreadyMigrated}
 use Rattle.report_defs.specs.Status.{IsOneOf}
 use Rattle.report_defs.specs.Items.{IsAtWord, Limits, split_of, end_offset, ReadsNoFurther}
 use Rattle.report_defs.specs.Report.{Report, text_of, init_limits, import_limits, question_limits, lines_over, file_limit}
@@ -21,7 +21,7 @@ use Rattle.report_defs.specs.Report.{Report, text_of, init_limits, import_limits
 
 -- those of a report: no fault stopped the run, and memory was enough
 abbrev pub reported : List Status
-reported = Done ∷ SomeRefused ∷ BadWords ∷ NotAStore ∷ CutInput ∷ BadSize ∷ StoreThere ∷ BadGenesis ∷ ExtraInput ∷ []
+reported = Done ∷ SomeRefused ∷ BadWords ∷ NotAStore ∷ CutInput ∷ BadSize ∷ StoreThere ∷ BadGenesis ∷ ExtraInput ∷ TooEarly ∷ AlreadyMigrated ∷ []
 
 abbrev pub IsReported : Status → Type 0
 IsReported status = IsOneOf reported status
@@ -36,6 +36,9 @@ init_statuses = Done ∷ InputFault ∷ SinkFault ∷ DiskFault ∷ NoMemory ∷
 
 abbrev pub import_statuses : List Status
 import_statuses = Done ∷ SomeRefused ∷ InputFault ∷ SinkFault ∷ DiskFault ∷ NoMemory ∷ NotAStore ∷ CutInput ∷ BadSize ∷ ExtraInput ∷ []
+
+abbrev pub migrate_statuses : List Status
+migrate_statuses = Done ∷ SinkFault ∷ DiskFault ∷ NoMemory ∷ NotAStore ∷ TooEarly ∷ AlreadyMigrated ∷ []
 
 abbrev pub query_statuses : List Status
 query_statuses = Done ∷ SinkFault ∷ DiskFault ∷ NoMemory ∷ NotAStore ∷ []
@@ -63,7 +66,8 @@ simulation_statuses = Done ∷ SinkFault ∷ NoMemory ∷ []
 abbrev pub statuses_of : Option Command → List Status
 statuses_of None = BadWords ∷ []
 statuses_of (Some Init) = init_statuses
-statuses_of (Some Import) = import_statuses
+statuses_of (Some (Import watched)) = import_statuses
+statuses_of (Some (Migrate epoch)) = migrate_statuses
 statuses_of (Some (Query query)) = query_statuses
 statuses_of (Some (Question question)) = question_statuses
 statuses_of (Some (Standalone command)) = standalone_statuses command
@@ -93,15 +97,15 @@ abbrev pub all_but_last : List (List ℕ) → List (List ℕ)
 all_but_last items = take (length items - 1) items
 
 -- How the lines keep up with items that the source gave whole, over the chain at the start. The rest is what it gave after them.
-pub record WritesInOrder (chain : Chain) (items : List (List ℕ)) (rest taken : List ℕ) : Type 0 where
+pub record WritesInOrder (watched : Option (List ℕ)) (chain : Chain) (items : List (List ℕ)) (rest taken : List ℕ) : Type 0 where
   -- each item but the last has its whole line
-  pub lines : IsPrefix (concat (lines_over chain (all_but_last items))) taken
+  pub lines : IsPrefix (concat (lines_over watched chain (all_but_last items))) taken
   -- each has it before a byte of the next item is read
-  pub lines_first : 0 < length rest → IsPrefix (concat (lines_over chain items)) taken
+  pub lines_first : 0 < length rest → IsPrefix (concat (lines_over watched chain items)) taken
 
 -- the text is the lines of the first items, and nothing more
-abbrev pub AreWholeLines : Chain → List (List ℕ) → List ℕ → Type 0
-AreWholeLines chain items taken = (count : ℕ) × (taken ≡ concat (lines_over chain (take count items)))
+abbrev pub AreWholeLines : Option (List ℕ) → Chain → List (List ℕ) → List ℕ → Type 0
+AreWholeLines watched chain items taken = (count : ℕ) × (taken ≡ concat (lines_over watched chain (take count items)))
 
 -- nothing was read and nothing written
 pub record IsUntouched (given taken : List ℕ) : Type 0 where
@@ -128,11 +132,11 @@ pub record InitsInOrder (store : Store) (given : List ℕ) (left : Option (List 
   pub there : (store ≡ NoLog → ⊥) → IsUntouched given taken
   pub whole : ReadsWhole init_limits (Done ∷ BadGenesis ∷ []) given left taken status
 
--- `import`, over the chain of a store
-pub record ImportsInOrder (chain : Chain) (given : List ℕ) (left : Option (List ℕ)) (taken : List ℕ) (status : Status) : Type 0 where
-  pub written : WritesInOrder chain (split_of import_limits given).items (split_of import_limits given).rest taken
+-- `import`, over the chain of a store, where a lock may be watched
+pub record ImportsInOrder (watched : Option (List ℕ)) (chain : Chain) (given : List ℕ) (left : Option (List ℕ)) (taken : List ℕ) (status : Status) : Type 0 where
+  pub written : WritesInOrder watched chain (split_of import_limits given).items (split_of import_limits given).rest taken
   -- only the sink leaves a part of a line, or of the text after the lines
-  pub whole_lines : IsStoppedBeforeTheSink status → AreWholeLines chain (split_of import_limits given).items taken
+  pub whole_lines : IsStoppedBeforeTheSink status → AreWholeLines watched chain (split_of import_limits given).items taken
   pub to_end : IsOneOf (Done ∷ SomeRefused ∷ []) status → IsAtEnd left
   pub to_early_end : ReadsToTheEnd import_limits given left status
   -- nothing is read after a size word at which the reading ends
@@ -149,7 +153,7 @@ OverStore NoLog P given taken status = FindsNoStore given taken status
 OverStore NotALog P given taken status = FindsNoStore given taken status
 OverStore (Keeps chain) P given taken status = P chain
 
--- a query or a simulation: nothing is read, and nothing written where the run was stopped before the sink
+-- a query, `migrate` or a simulation: nothing is read, and nothing written where the run was stopped before the sink
 pub record ReadsNothingInOrder (given taken : List ℕ) (status : Status) : Type 0 where
   pub unread : given ≡ []
   pub silent : IsStoppedBeforeTheSink status → taken ≡ []
@@ -181,7 +185,8 @@ IsSoundStoreOf reads store = (now : Image) × (reads ≡ Some now) × (store ≡
 abbrev pub Finds : Option Command → Option Image → Store → Type 0
 Finds None reads store = Unit {0}
 Finds (Some Init) reads store = IsStoreOf reads store
-Finds (Some Import) reads store = IsSoundStoreOf reads store
+Finds (Some (Import watched)) reads store = IsSoundStoreOf reads store
+Finds (Some (Migrate epoch)) reads store = IsSoundStoreOf reads store
 Finds (Some (Query query)) reads store = IsSoundStoreOf reads store
 Finds (Some (Question question)) reads store = IsSoundStoreOf reads store
 Finds (Some (Standalone command)) reads store = Unit {0}
@@ -191,7 +196,8 @@ Finds (Some (Simulation simulation)) reads store = Unit {0}
 abbrev pub KeepsOrder : Option Command → Store → List ℕ → Option (List ℕ) → List ℕ → Status → Type 0
 KeepsOrder None store given left taken status = IsUntouched given taken
 KeepsOrder (Some Init) store given left taken status = InitsInOrder store given left taken status
-KeepsOrder (Some Import) store given left taken status = OverStore store (λ chain. ImportsInOrder chain given left taken status) given taken status
+KeepsOrder (Some (Import watched)) store given left taken status = OverStore store (λ chain. ImportsInOrder watched chain given left taken status) given taken status
+KeepsOrder (Some (Migrate epoch)) store given left taken status = OverStore store (λ chain. ReadsNothingInOrder given taken status) given taken status
 KeepsOrder (Some (Query query)) store given left taken status = OverStore store (λ chain. ReadsNothingInOrder given taken status) given taken status
 KeepsOrder (Some (Question question)) store given left taken status = OverStore store (λ chain. AnswersInOrder question given left taken status) given taken status
 KeepsOrder (Some (Standalone command)) store given left taken status = ReadsFileInOrder (file_limit command) given left taken status

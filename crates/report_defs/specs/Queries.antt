@@ -1,17 +1,19 @@
 -- What queries tell of a chain: each is answered from the best branch, genesis to tip (docs/COMMANDS.md).
-use Rattle.std.specs.Prelude.{ℕ, ◌-◌, ◌^◌, Bool, ◌&&◌, ◌==◌, nat_lt, List, [], ◌++◌, length, Option, Some, None, pos, if◌then◌else◌}
+use Rattle.std.specs.Prelude.{ℕ, ◌-◌, ◌^◌, Bool, ◌&&◌, ◌==◌, nat_lt, List, [], ◌++◌, map, length, Option, Some, None, pos, if◌then◌else◌}
 use Rattle.std.specs.Option.{option_map}
-use Rattle.std.specs.List.{list_all}
+use Rattle.std.specs.List.{list_all, concat}
 use Rattle.std.specs.Int.{w64, from_le_bytes}
 use Rattle.chain_defs.specs.Shape.{encoded}
-use Rattle.chain_defs.specs.Schema.{Block, header}
+use Rattle.chain_defs.specs.Schema.{OutPoint, Block, header}
 use Rattle.chain_defs.specs.Dao.{as_u64}
 use Rattle.chain_defs.specs.Epochs.{epoch_number, epoch_index}
 use Rattle.chain_defs.specs.Specification.{Specification}
 use Rattle.chain_defs.specs.Kept.{block_at, block_hash}
-use Rattle.chain_defs.specs.Tip.{tip, best_branch}
+use Rattle.chain_defs.specs.Tip.{tip, tip_place, best_branch}
 use Rattle.cell_defs.specs.Cell.{Cell, script_hash, data_hash, occupied_by}
 use Rattle.cell_defs.specs.Events.{live_cell}
+use Rattle.cell_defs.specs.Row.{Row}
+use Rattle.cell_defs.specs.ByLock.{cells_by_lock, capacity_of}
 use Rattle.rule_defs.specs.Site.{site_after}
 use Rattle.rule_defs.specs.Withdrawals.{is_dao_cell, is_withdrawing}
 use Rattle.rule_defs.specs.Capacity.{withdrawn}
@@ -20,7 +22,7 @@ use Rattle.supply_defs.specs.Laws.{supply_balance, occupied_balance}
 use Rattle.report_defs.specs.declared.dao.DaoState.{DaoState}
 use Rattle.report_defs.specs.declared.dao.DaoState.TheVariants.{NotDao, Deposit, Withdrawing}
 use Rattle.json_defs.specs.Blocks as json
-use Rattle.report_defs.specs.Text.{line_feed, header_line, epoch_line, cell_line, deposit_line, withdrawing_line, none_line, overflow_line, not_dao_line, audit_line}
+use Rattle.report_defs.specs.Text.{line_feed, header_line, epoch_line, cell_line, listed_line, total_line, deposit_line, withdrawing_line, none_line, overflow_line, not_dao_line, audit_line}
 
 -- ---- `header`
 
@@ -77,6 +79,32 @@ cell_of (Some cell) = live_line cell
 -- What is live with an out-point.
 abbrev pub cell_answer : List ℕ → ℕ → Chain → List ℕ
 cell_answer tx_hash index chain = cell_of (cell_at_tip chain tx_hash index)
+
+-- ---- `list`
+
+-- the live cells of a lock on the branch of a place, where there is one
+abbrev pub cells_on : List Block → List ℕ → Option ℕ → List (OutPoint × Row)
+cells_on kept lock None = []
+cells_on kept lock (Some place) = cells_by_lock kept place lock
+
+-- The live cells of the best branch whose lock has a hash, in rising order of their out-points.
+abbrev pub cells_at_tip : List ℕ → Chain → List (OutPoint × Row)
+cells_at_tip lock chain = cells_on chain.blocks lock (tip_place chain.blocks)
+
+-- how many they are, and what they hold together
+abbrev pub total_of : List (OutPoint × Row) → ℕ × ℕ
+total_of cells = (length cells, capacity_of cells)
+
+abbrev pub line_of_listed : OutPoint × Row → List ℕ
+line_of_listed listed = listed_line listed.0.tx_hash listed.0.index listed.1.capacity
+
+-- a line for each of some cells, and then the line of all
+abbrev pub lines_of_cells : List (OutPoint × Row) → List ℕ
+lines_of_cells cells = concat (map line_of_listed cells) ++ total_line (total_of cells)
+
+-- The live cells of a lock.
+abbrev pub list_answer : List ℕ → Chain → List ℕ
+list_answer lock chain = lines_of_cells (cells_at_tip lock chain)
 
 -- ---- `dao`
 

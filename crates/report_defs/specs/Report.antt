@@ -1,19 +1,24 @@
 -- The report of a run that meets no fault and has memory enough: what it prints and how it ends (docs/COMMANDS.md).
 use Rattle.std.specs.Prelude.{◌≡◌, ◌⊎◌, ℕ, ◌^◌, ◌<◌, ◌≤◌, List, [], ◌∷◌, ◌++◌, map, length, Option, Some, None, if◌then◌else◌}
 use Rattle.std.specs.List.{concat, list_any}
+use Rattle.std.specs.Option.{option_map}
 use Rattle.chain_defs.specs.Shape.{decoded, IsA}
 use Rattle.chain_defs.specs.Schema.{block, Block, cellbase_witness, CellbaseWitness}
+use Rattle.chain_defs.specs.Fold.{verdicts}
 use Rattle.chain_defs.specs.Tip.{tip}
 use Rattle.chain_defs.specs.Specification.{broken_specification_rule}
 use Rattle.verdict_defs.specs.declared.verdict.Verdict.{Verdict}
 use Rattle.verdict_defs.specs.Verdict.{refuses}
-use Rattle.verdict_defs.specs.Chain.{Chain, verdicts_over}
+use Rattle.verdict_defs.specs.Chain.{Chain, verdict_over, verdicts_over, chain_after}
 use Rattle.verdict_defs.specs.Trial.{trial}
 use Rattle.verdict_defs.specs.declared.trial.Trial.{Trial}
 use Rattle.verdict_defs.specs.declared.trial.Trial.TheVariants.{Passes, Refused}
 use Rattle.pool_defs.specs.Assembly.{Assembled, assembled}
 use Rattle.rule_defs.specs.Genesis.{broken_genesis_rule}
 use Rattle.store_defs.specs.Store.{Store, NoLog, NotALog, Keeps}
+use Rattle.store_defs.specs.declared.moved.Moved.{Moved}
+use Rattle.store_defs.specs.declared.moved.Moved.TheVariants as moves
+use Rattle.store_defs.specs.Migration.{migration}
 use Rattle.machine_defs.specs.Alone.{answer_ecall}
 use Rattle.machine_defs.specs.Program.{execution}
 use Rattle.machine_defs.specs.Assembly.{lines_of, Assembles, IsFirstBad}
@@ -22,9 +27,9 @@ use Rattle.machine_defs.specs.Listing.{dis}
 use Rattle.json_defs.specs.Blocks as blocks
 use Rattle.json_defs.specs.Laws.{IsReadAs}
 use Rattle.report_defs.specs.declared.command.Command.{Command}
-use Rattle.report_defs.specs.declared.command.Command.TheVariants.{Init, Import, Query, Question, Standalone, Simulation}
+use Rattle.report_defs.specs.declared.command.Command.TheVariants.{Init, Import, Migrate, Query, Question, Standalone, Simulation}
 use Rattle.report_defs.specs.declared.command.Query as queries
-use Rattle.report_defs.specs.declared.command.Query.TheVariants.{Tip, Header, Json, Epoch, Cell, Dao, Audit}
+use Rattle.report_defs.specs.declared.command.Query.TheVariants.{Tip, Header, Json, Epoch, Cell, Cells, Dao, Audit}
 use Rattle.report_defs.specs.declared.command.Question as questions
 use Rattle.report_defs.specs.declared.command.Question.TheVariants.{Check, Assemble}
 use Rattle.report_defs.specs.declared.command.Standalone as files
@@ -34,11 +39,11 @@ use Rattle.report_defs.specs.declared.command.Simulation.TheVariants.{Make, Soak
 use Rattle.report_defs.specs.declared.end.End.{End}
 use Rattle.report_defs.specs.declared.end.End.TheVariants.{AtEnd, Cut, BadSize, Extra}
 use Rattle.report_defs.specs.declared.status.Status.{Status}
-use Rattle.report_defs.specs.declared.status.Status.TheVariants.{Done, SomeRefused, BadWords, NotAStore, CutInput, BadSize as BadSizeStatus, StoreThere, BadGenesis, ExtraInput}
+use Rattle.report_defs.specs.declared.status.Status.TheVariants.{Done, SomeRefused, BadWords, NotAStore, CutInput, BadSize as BadSizeStatus, StoreThere, BadGenesis, ExtraInput, TooEarly, AlreadyMigrated}
 use Rattle.report_defs.specs.Items.{Limits, Split, split_of, end_offset, whole_limits, end_of_whole}
-use Rattle.report_defs.specs.Text.{line, trial_line, tip_line, genesis_line, bad_spec_line, bad_genesis_line, cut_line, bad_size_line, extra_line, execution_line, bad_line, bad_json, made_line, soak_line}
+use Rattle.report_defs.specs.Text.{line, trial_line, tip_line, genesis_line, bad_spec_line, bad_genesis_line, edition_line, too_early_line, cut_line, bad_size_line, extra_line, execution_line, bad_line, bad_json, made_line, soak_line}
 use Rattle.report_defs.specs.Assembly.{assembly_items, pool_line, no_block_line, last_line, status_of_lines}
-use Rattle.report_defs.specs.Queries.{header_answer, json_answer, epoch_answer, cell_answer, dao_answer, audit_answer}
+use Rattle.report_defs.specs.Queries.{header_answer, json_answer, epoch_answer, cell_answer, cells_at_tip, total_of, list_answer, dao_answer, audit_answer}
 use Rattle.report_defs.specs.declared.counts.Counts.{Counts}
 use Rattle.report_defs.specs.Simulation.{generated_counts, AreSoakCounts}
 
@@ -136,7 +141,7 @@ init_report input NoLog = report_of_init (split_of init_limits input)
 init_report input NotALog = report_without_lines [] StoreThere
 init_report input (Keeps chain) = report_without_lines [] StoreThere
 
--- ---- `import`
+-- ---- `import` and `watch`
 
 -- all items of `import` have at most 2^40 bytes
 unfoldable pub input_limit : ℕ
@@ -145,19 +150,38 @@ input_limit = 2 ^ 40
 abbrev pub import_limits : Limits
 import_limits = record { item = λ place. Some item_limit; input = Some input_limit }
 
--- a line for each item, over a chain
-abbrev pub lines_over : Chain → List (List ℕ) → List (List ℕ)
-lines_over chain items = map line (verdicts_over chain items)
+-- of a lock that is watched: how many live cells of the best branch have it, and what they hold together
+abbrev pub balance_over : Option (List ℕ) → Chain → Option (ℕ × ℕ)
+balance_over watched chain = option_map (λ lock. total_of (cells_at_tip lock chain)) watched
+
+-- The line of an item over a chain: the verdict on it, and of a lock that is watched the balance after it.
+abbrev pub line_over : Option (List ℕ) → Chain → List ℕ → List ℕ
+line_over watched chain item = line (verdict_over chain item) (balance_over watched (chain_after chain item))
+
+-- a line for each item, over what is kept by then
+abbrev pub lines_over : Option (List ℕ) → Chain → List (List ℕ) → List (List ℕ)
+lines_over watched chain items = verdicts chain_after (line_over watched) chain items
 
 abbrev pub status_of_verdicts : List Verdict → Status
 status_of_verdicts judged = if list_any refuses judged then SomeRefused else Done
 
-abbrev pub report_of_import : Chain → Split → Report
-report_of_import chain split = record {
-  lines = lines_over chain split.items;
+abbrev pub report_of_import : Option (List ℕ) → Chain → Split → Report
+report_of_import watched chain split = record {
+  lines = lines_over watched chain split.items;
   closing = closing_of_end (end_offset split) split.end;
   status = status_of_end (status_of_verdicts (verdicts_over chain split.items)) split.end;
 }
+
+-- ---- `migrate`
+
+-- what comes of asking for an edition from this epoch on
+abbrev pub report_of_moved : ℕ → Moved → Report
+report_of_moved epoch moves.Done = report_without_lines (edition_line epoch) Done
+report_of_moved epoch (moves.TooEarly reached) = report_without_lines (too_early_line reached) TooEarly
+report_of_moved epoch (moves.Already first) = report_without_lines (edition_line first) AlreadyMigrated
+
+abbrev pub report_of_migration : ℕ → Chain → Report
+report_of_migration epoch chain = report_of_moved epoch (migration chain epoch)
 
 -- ---- Queries
 
@@ -168,6 +192,7 @@ answer_to_query (Header height) chain = header_answer height chain
 answer_to_query (Json height) chain = json_answer height chain
 answer_to_query Epoch chain = epoch_answer chain
 answer_to_query (Cell tx_hash index) chain = cell_answer tx_hash index chain
+answer_to_query (Cells lock) chain = list_answer lock chain
 answer_to_query (Dao tx_hash index) chain = dao_answer tx_hash index chain
 answer_to_query Audit chain = audit_answer chain
 
@@ -270,7 +295,8 @@ IsReportOfSimulation simulation said = (text : List ℕ) × IsAnswerToSimulation
 abbrev pub IsReport : Option Command → List ℕ → Store → Report → Type 0
 IsReport None input store said = said ≡ report_without_lines [] BadWords
 IsReport (Some Init) input store said = said ≡ init_report input store
-IsReport (Some Import) input store said = said ≡ report_over store (λ chain. report_of_import chain (split_of import_limits input))
+IsReport (Some (Import watched)) input store said = said ≡ report_over store (λ chain. report_of_import watched chain (split_of import_limits input))
+IsReport (Some (Migrate epoch)) input store said = said ≡ report_over store (report_of_migration epoch)
 IsReport (Some (Query query)) input store said = said ≡ report_over store (report_of_query query)
 IsReport (Some (Question question)) input store said = said ≡ report_over store (λ chain. report_of_question question chain (split_of (question_limits question) input))
 IsReport (Some (Standalone command)) input store said = IsReportOfFile command input said

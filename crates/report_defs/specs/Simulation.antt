@@ -2,25 +2,16 @@
 use Rattle.std.specs.Prelude.{◌≡◌, ℕ, ◌<◌, ◌≤◌, List, [], ◌∷◌, map, length, Option, Some, None}
 use Rattle.std.specs.List.{filter}
 use Rattle.chain_defs.specs.Shape.{encoded}
-use Rattle.chain_defs.specs.Schema.{OutPoint, Block, block}
+use Rattle.chain_defs.specs.Schema.{Block, block}
 use Rattle.chain_defs.specs.Kept.{block_hash}
 use Rattle.chain_defs.specs.Tip.{tip, best_branch}
-use Rattle.cell_defs.specs.Cell.{Cell}
-use Rattle.cell_defs.specs.Events.{Event, Makes, Spends, events, last_naming}
+use Rattle.cell_defs.specs.Events.{events}
+use Rattle.cell_defs.specs.LiveCells.{live_cells}
 use Rattle.verdict_defs.specs.Verdict.{joins}
 use Rattle.verdict_defs.specs.Chain.{Chain, chain_of_genesis, verdicts_over, chain_over}
 use Rattle.gen_defs.specs.Start.{specification, specification_bytes, genesis}
 use Rattle.gen_defs.specs.Chain.{block_made, blocks_made}
 use Rattle.report_defs.specs.declared.counts.Counts.{Counts}
-
--- The live cells after events, as a list: each make that no later event names.
-unfoldable pub live_cells : List Event → List (OutPoint × Cell)
-live_cells [] = []
-live_cells (Makes o cell ∷ later) = elim (last_naming o later) [
-  | None ↦ (o, cell) ∷ live_cells later
-  | Some last ↦ live_cells later
-]
-live_cells (Spends o ∷ later) = live_cells later
 
 -- the height of a tip
 abbrev pub height_of : Option Block → ℕ

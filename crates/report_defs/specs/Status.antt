@@ -1,7 +1,7 @@
 -- The number of each status, which the program ends with (docs/COMMANDS.md, "Statuses").
 use Rattle.std.specs.Prelude.{◌≡◌, ◌⊎◌, ℕ, List, [], ◌∷◌}
 use Rattle.report_defs.specs.declared.status.Status.{Status}
-use Rattle.report_defs.specs.declared.status.Status.TheVariants.{Done, SomeRefused, BadWords, InputFault, SinkFault, DiskFault, NoMemory, NotAStore, CutInput, BadSize, StoreThere, BadGenesis, ExtraInput}
+use Rattle.report_defs.specs.declared.status.Status.TheVariants.{Done, SomeRefused, BadWords, InputFault, SinkFault, DiskFault, NoMemory, NotAStore, CutInput, BadSize, StoreThere, BadGenesis, ExtraInput, TooEarly, AlreadyMigrated}
 
 abbrev pub status_number : Status → ℕ
 status_number Done = 0
@@ -17,6 +17,8 @@ status_number BadSize = 9
 status_number StoreThere = 10
 status_number BadGenesis = 11
 status_number ExtraInput = 12
+status_number TooEarly = 13
+status_number AlreadyMigrated = 14
 
 -- it is one of these
 abbrev pub IsOneOf : List Status → Status → Type 0

@@ -24,12 +24,25 @@ hex_text bytes = codes "0x" ++ encode_lower bytes
 abbrev pub hash_text : List ℕ → List ℕ
 hash_text hash = hex_text hash
 
+-- how many cells, and what they hold together, in shannons
+abbrev pub total_text : ℕ × ℕ → List ℕ
+total_text total = decimal total.0 ++ codes " " ++ decimal total.1
+
+-- what is said of an item that was imported
+abbrev pub verdict_text : Verdict → List ℕ
+verdict_text (Joined number hash) = codes "joined " ++ decimal number ++ codes " " ++ hash_text hash
+verdict_text (Known hash) = codes "known " ++ hash_text hash
+verdict_text (Refused rule) = codes "refused J" ++ decimal rule
+verdict_text Full = codes "full"
+
+-- and of a lock that is watched
+abbrev pub balance_text : Option (ℕ × ℕ) → List ℕ
+balance_text None = []
+balance_text (Some balance) = codes " balance " ++ total_text balance
+
 -- the line of an item that was imported
-abbrev pub line : Verdict → List ℕ
-line (Joined number hash) = codes "joined " ++ decimal number ++ codes " " ++ hash_text hash ++ line_feed
-line (Known hash) = codes "known " ++ hash_text hash ++ line_feed
-line (Refused rule) = codes "refused J" ++ decimal rule ++ line_feed
-line Full = codes "full" ++ line_feed
+abbrev pub line : Verdict → Option (ℕ × ℕ) → List ℕ
+line verdict balance = verdict_text verdict ++ balance_text balance ++ line_feed
 
 -- the line of a transaction that was judged alone
 abbrev pub trial_line : Trial → List ℕ
@@ -68,6 +81,15 @@ cell_line capacity occupied height lock_hash type_hash data_hash data_len =
     codes "live " ++ decimal capacity ++ codes " " ++ decimal occupied ++ codes " " ++ decimal height ++ codes " " ++ hash_text lock_hash
     ++ codes " " ++ type_text type_hash ++ codes " " ++ hash_text data_hash ++ codes " " ++ decimal data_len ++ line_feed
 
+-- one of the live cells of a lock: its out-point, and what it holds, in shannons
+abbrev pub listed_line : List ℕ → ℕ → ℕ → List ℕ
+listed_line tx_hash index capacity =
+    codes "cell " ++ hash_text tx_hash ++ codes " " ++ decimal index ++ codes " " ++ decimal capacity ++ line_feed
+
+-- how many there are, and what they hold together
+abbrev pub total_line : ℕ × ℕ → List ℕ
+total_line total = codes "total " ++ total_text total ++ line_feed
+
 -- a deposit of this height, and what it counts
 abbrev pub deposit_line : ℕ → ℕ → List ℕ
 deposit_line deposit amount = codes "deposit " ++ decimal deposit ++ codes " " ++ decimal amount ++ line_feed
@@ -102,6 +124,16 @@ bad_spec_line rule = codes "bad spec S" ++ decimal rule ++ line_feed
 
 abbrev pub bad_genesis_line : ℕ → List ℕ
 bad_genesis_line rule = codes "bad genesis G" ++ decimal rule ++ line_feed
+
+-- ---- `migrate`
+
+-- an edition, by the first of its epochs
+abbrev pub edition_line : ℕ → List ℕ
+edition_line first = codes "edition " ++ decimal first ++ line_feed
+
+-- the epoch that a tip has reached, from which on an edition was asked for, or from an earlier one
+abbrev pub too_early_line : ℕ → List ℕ
+too_early_line reached = codes "too early " ++ decimal reached ++ line_feed
 
 -- ---- The end of an input
 

@@ -8,8 +8,8 @@ use Rattle.hex.specs.Hex.{IsBytes, decode_sized}
 use Rattle.hex.specs.declared.error.FromHexError.{FromHexError}
 use Rattle.report_defs.specs.Text.{hash_text}
 use Rattle.report_defs.specs.declared.command.Command.{Command}
-use Rattle.report_defs.specs.declared.command.Command.TheVariants.{Init, Import, Query, Question, Standalone, Simulation}
-use Rattle.report_defs.specs.declared.command.Query.TheVariants.{Tip, Header, Json, Epoch, Cell, Dao, Audit}
+use Rattle.report_defs.specs.declared.command.Command.TheVariants.{Init, Import, Migrate, Query, Question, Standalone, Simulation}
+use Rattle.report_defs.specs.declared.command.Query.TheVariants.{Tip, Header, Json, Epoch, Cell, Cells, Dao, Audit}
 use Rattle.report_defs.specs.declared.command.Question.TheVariants.{Check, Assemble}
 use Rattle.report_defs.specs.declared.command.Standalone.TheVariants.{Exec, Asm, Dis, Unjson}
 use Rattle.report_defs.specs.declared.command.Simulation.TheVariants.{Make, Soak}
@@ -61,7 +61,7 @@ soak_limit = 100
 abbrev pub command_alone : List ℕ → Option Command
 command_alone name =
     if bytes_eq name (codes "init") then Some Init
-    else if bytes_eq name (codes "import") then Some Import
+    else if bytes_eq name (codes "import") then Some (Import None)
     else if bytes_eq name (codes "tip") then Some (Query Tip)
     else if bytes_eq name (codes "epoch") then Some (Query Epoch)
     else if bytes_eq name (codes "audit") then Some (Query Audit)
@@ -78,6 +78,9 @@ command_with name argument =
     if bytes_eq name (codes "exec") then option_map (λ budget. Standalone (Exec budget)) (number_up_to budget_limit argument)
     else if bytes_eq name (codes "header") then option_map (λ height. Query (Header height)) (number_up_to number_limit argument)
     else if bytes_eq name (codes "json") then option_map (λ height. Query (Json height)) (number_up_to number_limit argument)
+    else if bytes_eq name (codes "migrate") then option_map (λ epoch. Migrate epoch) (number_up_to number_limit argument)
+    else if bytes_eq name (codes "watch") then option_map (λ lock. Import (Some lock)) (hash_of_word argument)
+    else if bytes_eq name (codes "list") then option_map (λ lock. Query (Cells lock)) (hash_of_word argument)
     else None
 
 -- an out-point of two words: the hash of a transaction, and an index

@@ -3,8 +3,11 @@
 pub enum Command {
     /// `init`: a specification and a genesis are read from the input, and a store of them is made.
     Init,
-    /// `import`: blocks are read from the input, and each is answered.
-    Import,
+    /// `import`: blocks are read from the input, and each is answered. `watch`: the same, and of the lock with a hash each answer
+    /// has the balance.
+    Import { watched: Option<[u8; 32]> },
+    /// `migrate`: the store is given an edition of the rules, from an epoch on, and nothing is read.
+    Migrate { epoch: u64 },
     /// The store is asked, and nothing is read.
     Query(Query),
     /// The store is asked about a whole input.
@@ -28,6 +31,8 @@ pub enum Query {
     Epoch,
     /// `cell`: prints the live cell with an out-point.
     Cell { tx_hash: [u8; 32], index: u64 },
+    /// `list`: prints the live cells whose lock has a hash, and what they hold together.
+    Cells { lock: [u8; 32] },
     /// `dao`: prints what a live cell of the Nervos DAO counts.
     Dao { tx_hash: [u8; 32], index: u64 },
     /// `audit`: prints by how much what the best branch issued, and what its live cells occupy, differ from what is there.

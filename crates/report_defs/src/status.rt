@@ -30,6 +30,10 @@ pub enum Status {
     BadGenesis,
     /// Bytes follow what the command takes.
     ExtraInput,
+    /// The store has no edition, and its tip has reached the epoch that it is to have one from.
+    TooEarly,
+    /// The store has an edition already.
+    AlreadyMigrated,
 }
 
 impl Status {
@@ -51,6 +55,8 @@ impl Status {
             Status::StoreThere => 10,
             Status::BadGenesis => 11,
             Status::ExtraInput => 12,
+            Status::TooEarly => 13,
+            Status::AlreadyMigrated => 14,
         }
     }
 }

@@ -13,9 +13,9 @@ use Rattle.chain_defs.specs.First.{AllHold}
 use Rattle.chain_defs.proofs.FirstLemmas.{finds_none}
 use Rattle.chain_defs.specs.Specification.{specification_of, broken_specification_rule, keeps_s1, keeps_s2, keeps_s3, keeps_s4, keeps_s5, keeps_s6, keeps_s7}
 use Rattle.chain_defs.specs.Kept.{block_list, blocks_of_item}
-use Rattle.disk_defs.specs.Log.{Record, LogContent, record_limit, are_first, parts_of_body, may_stand_on, block_if, block_of_parts, block_of_record, blocks_over, content_of_records, records_of}
+use Rattle.disk_defs.specs.Log.{Record, LogContent, of_blocks, parts_of_body, may_stand_on, block_if, block_of_parts, block_of_record, blocks_over, content_of_records, records_of}
 use Rattle.cell_defs.specs.Ext.{is_ext}
-use Rattle.disk_defs.proofs.Contents.{said, begins_well}
+use Rattle.disk_defs.proofs.Contents.{says_by_parts, begins_well}
 use Rattle.verdict_defs.specs.Chain.{Chain}
 use Rattle.store_defs.proofs.JoinedLemmas.{content_of_log}
 use Rattle.report_laws.specs.CanonicalLaws.{KeptIsInRange}
@@ -62,19 +62,8 @@ of-item item = by_decoded (decoded block item) refl
     by_decoded (Some b) is = All-cons HasEncoding b [] (of-decoded item b is) (All-nil HasEncoding)
 
 all-of-log : (records : List Record) (log : LogContent) → content_of_records records ≡ Some log → All HasEncoding log.blocks
-all-of-log [] log says = absurd (cc)
-all-of-log (one ∷ []) log says = absurd (cc)
-all-of-log (one ∷ two ∷ records) log says = by_test (are_first one two && leb (length records) record_limit) says
-  where
-    by_blocks : (found : Option (List Block)) → blocks_over (blocks_of_item two.body) records ≡ found → said one two records found ≡ Some log → All HasEncoding log.blocks
-    by_blocks None is says = absurd (cc)
-    by_blocks (Some blocks) is says =
-        let same : record { specification = one.body; genesis = two.body; records = records; blocks = blocks } ≡ log = (cc) in
-        subst (λ (l : LogContent). All HasEncoding l.blocks) same (all-over (blocks_of_item two.body) records blocks is (of-item two.body))
-
-    by_test : (t : Bool) → cond t (said one two records (blocks_over (blocks_of_item two.body) records)) None ≡ Some log → All HasEncoding log.blocks
-    by_test false says = absurd (cc)
-    by_test true says = by_blocks (blocks_over (blocks_of_item two.body) records) refl says
+all-of-log records log says =
+    all-over (blocks_of_item log.genesis) (of_blocks log.records) log.blocks ((says_by_parts records log).0 says).over (of-item log.genesis)
 
 at-place : (P : Block → Type 0) (blocks : List Block) (place : ℕ) (b : Block) → All P blocks → slice_get blocks place ≡ Some b → P b
 at-place P [] place b all there = absurd (cc)

@@ -10,7 +10,7 @@ use Rattle.json_defs.specs.Blocks as form
 use Rattle.json_defs.specs.Laws.{IsOneOfText}
 use Rattle.store_defs.specs.Store.{Store}
 use Rattle.report_defs.specs.declared.command.Command.{Command}
-use Rattle.report_defs.specs.declared.command.Command.TheVariants.{Init, Import, Query, Question, Standalone, Simulation}
+use Rattle.report_defs.specs.declared.command.Command.TheVariants.{Init, Import, Migrate, Query, Question, Standalone, Simulation}
 use Rattle.report_defs.specs.declared.command.Standalone as files
 use Rattle.report_defs.specs.declared.command.Standalone.TheVariants.{Exec, Asm, Dis, Unjson}
 use Rattle.report_defs.specs.declared.command.Simulation as simulations
@@ -60,7 +60,8 @@ module _ (one_code : OneCodeAssembles) (one_bad_line : OneLineIsFirstBad) (none_
   pub one-report : OneReport
   one-report None input store one other pinned a b = a ∙ sym b
   one-report (Some Init) input store one other pinned a b = a ∙ sym b
-  one-report (Some Import) input store one other pinned a b = a ∙ sym b
+  one-report (Some (Import watched)) input store one other pinned a b = a ∙ sym b
+  one-report (Some (Migrate epoch)) input store one other pinned a b = a ∙ sym b
   one-report (Some (Query query)) input store one other pinned a b = a ∙ sym b
   one-report (Some (Question question)) input store one other pinned a b = a ∙ sym b
   one-report (Some (Standalone command)) input store one other pinned a b = one-of-file command input one other a b

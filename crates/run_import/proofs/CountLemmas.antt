@@ -29,9 +29,9 @@ given_also P items rest given are has = subst (λ (s : Split). P s.items) (sym (
 
 -- ---- Items one after the other
 
-module _ (chain : Chain) (offset : ℕ) (left_old left left_new taken_old taken : Option (List ℕ)) (now : Chain) (refused : Bool)
+module _ (watched : Option (List ℕ)) (chain : Chain) (offset : ℕ) (left_old left left_new taken_old taken : Option (List ℕ)) (now : Chain) (refused : Bool)
     (were_sound are_sound was_on is_on : Type 0) (leaves : (Image → Type 0) → Type 0) (steps_old steps_now : ℕ)
-    (whole : Whole chain offset left_old left taken_old taken now refused were_sound are_sound was_on is_on leaves steps_old steps_now) where
+    (whole : Whole watched chain offset left_old left taken_old taken now refused were_sound are_sound was_on is_on leaves steps_old steps_now) where
   -- What has P of the items, where no whole one stands after them.
   pub part_also : (P : List (List ℕ) → Type 0) → P whole.items → (given : List ℕ) → Gives left left_new given
       → IsPartial item_limit (Some input_limit) offset given → Gave left_old left_new (λ given. P (split_of import_limits given).items)

@@ -7,7 +7,7 @@ use Rattle.std.proofs.lemmas.List.Folds.{list_any-append}
 use Rattle.outside.specs.Image.{Image}
 use Rattle.outside.specs.Disk.{LeavesOnly}
 use Rattle.outside.specs.Streams.{Gives, Takes}
-use Rattle.outside.proofs.Streams.{gives_more, takes_more}
+use Rattle.outside.proofs.Streams.{gives_none, takes_none, gives_more, takes_more}
 use Rattle.outside.proofs.Moments.{started, leaves_also, leaves_then, now_too}
 use Rattle.verdict_defs.specs.declared.verdict.Verdict.{Verdict}
 use Rattle.verdict_defs.specs.Verdict as rules
@@ -20,7 +20,7 @@ use Rattle.report_defs.specs.Status.{IsOneOf}
 use Rattle.report_defs.specs.Text.{line}
 use Rattle.report_defs.specs.Items.{IsItem, AreItems}
 use Rattle.report_defs.proofs.ItemLemmas.{all_items-append}
-use Rattle.report_defs.specs.Report.{item_limit, input_limit, import_limits}
+use Rattle.report_defs.specs.Report.{item_limit, input_limit, import_limits, line_over}
 use Rattle.report_defs.specs.Promise.{import_statuses}
 use Rattle.report_defs.specs.Survival.{Each}
 use Rattle.run_text.specs.Items.{IsPartial, IsItemAt, EndsAt, IsReadingStop, IsNext}
@@ -28,12 +28,12 @@ use Rattle.run_text.specs.declared.next.Next.{Next}
 use Rattle.run_text.proofs.Reading.{few_partial}
 use Rattle.node_store.specs.Node.{NodeValue, IsOn}
 use Rattle.node_store.specs.Steps.{moves_for, steps_over}
-use Rattle.run_text.specs.Output.{Transfers, IsPartOf, IsWritten, IsWritingStop, line_over, text_over}
+use Rattle.run_text.specs.Output.{Transfers, IsPartOf, IsWritten, IsWritingStop, text_over}
 use Rattle.run_import.specs.Import.{AreImported, IsAnswered, IsCutShort, KeepsSome, item_stops}
 use Rattle.run_text.specs.Store.{opening_stops}
 use Rattle.run_import.specs.declared.importing.Ended.{Ended}
 use Rattle.run_import.proofs.LineLemmas.{concat-push, lines-push, take_all}
-use Rattle.run_text.proofs.LineLemmas.{line_some}
+use Rattle.run_text.proofs.LineLemmas.{line_some, line_over-some}
 use Rattle.run_text.proofs.Tables.{held, lacks, among}
 use Rattle.run_text.proofs.Statuses.{not_early, reading_stops, writing_stops, disk_stops}
 
@@ -43,7 +43,7 @@ input_limit-is = refl
 
 -- Whole items were imported, and nothing of a next one was read. Where the node was sound they are answered by their lines. Where the
 -- node was on its disk it is so now, and at each moment a crash left what joined of some of them.
-pub record Whole (chain : Chain) (offset : ℕ) (left_old left_new taken_old taken_new : Option (List ℕ)) (now : Chain) (refused : Bool)
+pub record Whole (watched : Option (List ℕ)) (chain : Chain) (offset : ℕ) (left_old left_new taken_old taken_new : Option (List ℕ)) (now : Chain) (refused : Bool)
     (were_sound are_sound was_on is_on : Type 0) (leaves : (Image → Type 0) → Type 0) (steps_old steps_now : ℕ) : Type 0 where
   pub items : List (List ℕ)
   pub taken : List ℕ
@@ -53,12 +53,33 @@ pub record Whole (chain : Chain) (offset : ℕ) (left_old left_new taken_old tak
   pub place : offset ≡ length (concat items)
   pub within : offset ≤ input_limit
   pub sound : were_sound → are_sound
-  pub lines : were_sound → taken ≡ text_over chain items
+  pub lines : were_sound → taken ≡ text_over watched chain items
   pub kept_now : were_sound → now ≡ chain_over chain items
   pub any_refused : were_sound → refused ≡ list_any rules.refuses (verdicts_over chain items)
   pub on : was_on → is_on
   pub moments : was_on → leaves (KeepsSome chain items)
   pub steps : were_sound → steps_now ≤ steps_old + steps_over chain items
+
+-- nothing was imported yet
+abbrev pub whole_none : (watched : Option (List ℕ)) (chain : Chain) (left taken : Option (List ℕ)) (were_sound are_sound was_on : Type 0) (leaves : (Image → Type 0) → Type 0)
+    (steps : ℕ) → (were_sound → are_sound) → (was_on → leaves (KeepsSome chain []))
+    → Whole watched chain 0 left left taken taken chain false were_sound are_sound was_on was_on leaves steps steps
+whole_none watched chain left taken were_sound are_sound was_on leaves steps sound moments = record {
+  items = [];
+  taken = [];
+  gives = gives_none left;
+  takes = takes_none taken;
+  all = tt;
+  place = refl;
+  within = omega (arith, input_limit-is);
+  sound = sound;
+  lines = λ is. refl;
+  kept_now = λ is. refl;
+  any_refused = λ is. refl;
+  on = λ on. on;
+  moments = moments;
+  steps = λ is. omega arith;
+}
 
 -- ---- What a crash leaves
 
@@ -126,10 +147,11 @@ known_limits most all one two offset left result given next =
     subst (λ n. IsNext item_limit (Some n) offset left result given) two (subst (λ n. IsNext n (Some all) offset left result given) one next)
 
 -- the disk stopped it, or missing memory, before its line
-pub cut_before_line : (verdict : Verdict) (status : Status) → IsOneOf (DiskFault ∷ NoMemory ∷ []) status → IsCutShort (line verdict) status []
-cut_before_line verdict status one = record {
+pub cut_before_line : (verdict : Verdict) (balance : Option (ℕ × ℕ)) (status : Status) → IsOneOf (DiskFault ∷ NoMemory ∷ []) status
+    → IsCutShort (line verdict balance) status []
+cut_before_line verdict balance status one = record {
   stop = disk_stops status one;
-  part = record { prefix = (line verdict, refl); shorter = line_some verdict };
+  part = record { prefix = (line verdict balance, refl); shorter = line_some verdict balance };
   silent = λ early. refl;
 }
 
@@ -187,17 +209,17 @@ steps-push chain (x ∷ items) item =
     omega (arith, later)
 
 -- one item more was imported
-pub whole_more : (chain : Chain) (offset : ℕ) (left_old left left_new taken_old taken taken_new : Option (List ℕ)) (now new : Chain) (refused : Bool)
+pub whole_more : (watched : Option (List ℕ)) (chain : Chain) (offset : ℕ) (left_old left left_new taken_old taken taken_new : Option (List ℕ)) (now new : Chain) (refused : Bool)
     (were_sound are_sound sound_new was_on is_on on_new : Type 0) (leaves leaves_new : (Image → Type 0) → Type 0) (steps_old steps_now steps_new : ℕ)
     (item given text : List ℕ) (verdict : Verdict) (size : ℕ) (any : Bool)
     → size ≡ length item → any ≡ (refused || rules.refuses verdict)
-    → (whole : Whole chain offset left_old left taken_old taken now refused were_sound are_sound was_on is_on leaves steps_old steps_now) → IsItemAt item_limit (Some input_limit) offset item given
+    → (whole : Whole watched chain offset left_old left taken_old taken now refused were_sound are_sound was_on is_on leaves steps_old steps_now) → IsItemAt item_limit (Some input_limit) offset item given
     → Gives left left_new given → Takes taken taken_new text
-    → (are_sound → verdict ≡ verdict_over now item) → (are_sound → new ≡ chain_after now item) → (are_sound → text ≡ line_over now item)
+    → (are_sound → verdict ≡ verdict_over now item) → (are_sound → new ≡ chain_after now item) → (are_sound → text ≡ line_over watched now item)
     → (are_sound → sound_new) → (is_on → on_new) → (was_on → leaves_new (KeepsSome chain (whole.items ++ item ∷ []))) → steps_new ≤ steps_now + moves_for now item
-    → (more : Whole chain (offset + size) left_old left_new taken_old taken_new new any were_sound sound_new was_on on_new leaves_new steps_old steps_new)
+    → (more : Whole watched chain (offset + size) left_old left_new taken_old taken_new new any were_sound sound_new was_on on_new leaves_new steps_old steps_new)
     × (more.items ≡ whole.items ++ item ∷ [])
-whole_more chain offset left_old left left_new taken_old taken taken_new now new refused were_sound are_sound sound_new was_on is_on on_new leaves leaves_new steps_old steps_now steps_new item given text verdict size any
+whole_more watched chain offset left_old left left_new taken_old taken taken_new now new refused were_sound are_sound sound_new was_on is_on on_new leaves leaves_new steps_old steps_now steps_new item given text verdict size any
     long either whole at gives takes judged kept_is text_is stay goes_on moments most = (
       record {
         items = whole.items ++ item ∷ [];
@@ -210,8 +232,8 @@ whole_more chain offset left_old left left_new taken_old taken taken_new now new
         sound = λ sound. stay (whole.sound sound);
         lines = λ sound.
             ap (λ bs. bs ++ text) (whole.lines sound)
-            ∙ ap (λ bs. text_over chain whole.items ++ bs) (text_is (whole.sound sound) ∙ ap (λ (k : Chain). line_over k item) (whole.kept_now sound))
-            ∙ sym (lines-push chain whole.items item);
+            ∙ ap (λ bs. text_over watched chain whole.items ++ bs) (text_is (whole.sound sound) ∙ ap (λ (k : Chain). line_over watched k item) (whole.kept_now sound))
+            ∙ sym (lines-push watched chain whole.items item);
         kept_now = λ sound. kept_is (whole.sound sound) ∙ ap (λ (k : Chain). chain_after k item) (whole.kept_now sound) ∙ sym (keep-push chain_after chain whole.items item);
         any_refused = λ sound.
             either ∙ ap (λ b. b || rules.refuses verdict) (whole.any_refused sound)
@@ -235,13 +257,13 @@ whole_more chain offset left_old left left_new taken_old taken taken_new now new
 -- ---- The exits
 
 -- the reading ended after whole items
-pub imported_to_end : (chain : Chain) (offset : ℕ) (left_old left left_new taken_old taken : Option (List ℕ)) (now : Chain) (ended : Ended)
+pub imported_to_end : (watched : Option (List ℕ)) (chain : Chain) (offset : ℕ) (left_old left left_new taken_old taken : Option (List ℕ)) (now : Chain) (ended : Ended)
     (were_sound are_sound was_on is_on : Type 0) (images : Image → Type 0) (leaves : (Image → Type 0) → Type 0) (steps_old steps_now : ℕ) (given : List ℕ)
-    → Whole chain offset left_old left taken_old taken now ended.refused were_sound are_sound was_on is_on leaves steps_old steps_now → Gives left left_new given
+    → Whole watched chain offset left_old left taken_old taken now ended.refused were_sound are_sound was_on is_on leaves steps_old steps_now → Gives left left_new given
     → EndsAt (Some item_limit) (Some input_limit) offset left_new ended.end given → IsPartial item_limit (Some input_limit) offset given → ended.offset ≡ offset
     → (is_on → Each images (StandsFor now))
-    → Transfers left_old left_new taken_old taken (λ given taken. were_sound → AreImported chain left_new (Ok ended) was_on images leaves given taken)
-imported_to_end chain offset left_old left left_new taken_old taken now ended were_sound are_sound was_on is_on images leaves steps_old steps_now given whole gives ends partial there stand = (
+    → Transfers left_old left_new taken_old taken (λ given taken. were_sound → AreImported watched chain left_new (Ok ended) was_on images leaves given taken)
+imported_to_end watched chain offset left_old left left_new taken_old taken now ended were_sound are_sound was_on is_on images leaves steps_old steps_now given whole gives ends partial there stand = (
   concat whole.items ++ given,
   whole.taken,
   gives_more left_old left left_new (concat whole.items) given whole.gives gives,
@@ -271,14 +293,14 @@ imported_to_end chain offset left_old left left_new taken_old taken now ended we
 )
 
 -- the reading was stopped after whole items
-pub imported_to_fault : (chain : Chain) (offset : ℕ) (left_old left left_new taken_old taken : Option (List ℕ)) (now : Chain) (refused : Bool)
+pub imported_to_fault : (watched : Option (List ℕ)) (chain : Chain) (offset : ℕ) (left_old left left_new taken_old taken : Option (List ℕ)) (now : Chain) (refused : Bool)
     (were_sound are_sound was_on is_on : Type 0) (images : Image → Type 0) (leaves : (Image → Type 0) → Type 0) (steps_old steps_now : ℕ) (status : Status) (given : List ℕ)
-    → (whole : Whole chain offset left_old left taken_old taken now refused were_sound are_sound was_on is_on leaves steps_old steps_now) → Gives left left_new given → IsReadingStop status
+    → (whole : Whole watched chain offset left_old left taken_old taken now refused were_sound are_sound was_on is_on leaves steps_old steps_now) → Gives left left_new given → IsReadingStop status
     → IsPartial item_limit (Some input_limit) offset given ⊎ IsItemAt item_limit (Some input_limit) offset given given
     → (is_on → Each images (StandsFor now))
     → (leaves (KeepsSome chain whole.items) → leaves (KeepsSome chain (whole.items ++ given ∷ [])))
-    → Transfers left_old left_new taken_old taken (λ given taken. were_sound → AreImported chain left_new (Err status) was_on images leaves given taken)
-imported_to_fault chain offset left_old left left_new taken_old taken now refused were_sound are_sound was_on is_on images leaves steps_old steps_now status given whole gives stop (inl partial) stand weaker = (
+    → Transfers left_old left_new taken_old taken (λ given taken. were_sound → AreImported watched chain left_new (Err status) was_on images leaves given taken)
+imported_to_fault watched chain offset left_old left left_new taken_old taken now refused were_sound are_sound was_on is_on images leaves steps_old steps_now status given whole gives stop (inl partial) stand weaker = (
   concat whole.items ++ given,
   whole.taken,
   gives_more left_old left left_new (concat whole.items) given whole.gives gives,
@@ -296,7 +318,7 @@ imported_to_fault chain offset left_old left left_new taken_old taken now refuse
     came = record {
       stop = reading_stops status stop;
       part = [];
-      taken_is = whole.lines sound ∙ sym (append-nil (text_over chain whole.items));
+      taken_is = whole.lines sound ∙ sym (append-nil (text_over watched chain whole.items));
       silent = λ early. refl;
       last = inl (refl, refl);
     };
@@ -304,7 +326,7 @@ imported_to_fault chain offset left_old left left_new taken_old taken now refuse
     moments = whole.moments;
   },
 )
-imported_to_fault chain offset left_old left left_new taken_old taken now refused were_sound are_sound was_on is_on images leaves steps_old steps_now status given whole gives stop (inr at) stand weaker = (
+imported_to_fault watched chain offset left_old left left_new taken_old taken now refused were_sound are_sound was_on is_on images leaves steps_old steps_now status given whole gives stop (inr at) stand weaker = (
   concat whole.items ++ given,
   whole.taken,
   gives_more left_old left left_new (concat whole.items) given whole.gives gives,
@@ -322,15 +344,15 @@ imported_to_fault chain offset left_old left left_new taken_old taken now refuse
     came = record {
       stop = reading_stops status stop;
       part = [];
-      taken_is = whole.lines sound ∙ sym (append-nil (text_over chain whole.items));
+      taken_is = whole.lines sound ∙ sym (append-nil (text_over watched chain whole.items));
       silent = λ early. refl;
       last = inr (
         given,
         refl,
         refl,
         record {
-          prefix = (line_over (chain_over chain whole.items) given, refl);
-          shorter = line_some (verdict_over (chain_over chain whole.items) given);
+          prefix = (line_over watched (chain_over chain whole.items) given, refl);
+          shorter = line_over-some watched (chain_over chain whole.items) given;
         },
       );
     };
@@ -340,14 +362,14 @@ imported_to_fault chain offset left_old left left_new taken_old taken now refuse
 )
 
 -- an item was read, and its import was stopped
-pub imported_to_line : (chain : Chain) (offset : ℕ) (left_old left left_new taken_old taken taken_new : Option (List ℕ)) (now : Chain) (refused : Bool)
+pub imported_to_line : (watched : Option (List ℕ)) (chain : Chain) (offset : ℕ) (left_old left left_new taken_old taken taken_new : Option (List ℕ)) (now : Chain) (refused : Bool)
     (were_sound are_sound was_on is_on : Type 0) (images : Image → Type 0) (leaves leaves_new : (Image → Type 0) → Type 0) (steps_old steps_now : ℕ) (status : Status) (item given part : List ℕ)
-    → (whole : Whole chain offset left_old left taken_old taken now refused were_sound are_sound was_on is_on leaves steps_old steps_now) → IsItemAt item_limit (Some input_limit) offset item given
-    → Gives left left_new given → Takes taken taken_new part → (are_sound → IsCutShort (line_over now item) status part)
+    → (whole : Whole watched chain offset left_old left taken_old taken now refused were_sound are_sound was_on is_on leaves steps_old steps_now) → IsItemAt item_limit (Some input_limit) offset item given
+    → Gives left left_new given → Takes taken taken_new part → (are_sound → IsCutShort (line_over watched now item) status part)
     → (were_sound → is_on → Each images (λ image. StandsFor (chain_over chain whole.items) image ⊎ StandsFor (chain_over chain (whole.items ++ item ∷ [])) image))
     → (was_on → leaves_new (KeepsSome chain (whole.items ++ item ∷ [])))
-    → Transfers left_old left_new taken_old taken_new (λ given taken. were_sound → AreImported chain left_new (Err status) was_on images leaves_new given taken)
-imported_to_line chain offset left_old left left_new taken_old taken taken_new now refused were_sound are_sound was_on is_on images leaves leaves_new steps_old steps_now status item given part
+    → Transfers left_old left_new taken_old taken_new (λ given taken. were_sound → AreImported watched chain left_new (Err status) was_on images leaves_new given taken)
+imported_to_line watched chain offset left_old left left_new taken_old taken taken_new now refused were_sound are_sound was_on is_on images leaves leaves_new steps_old steps_now status item given part
     whole at gives takes short exit moments = (
       concat whole.items ++ item,
       whole.taken ++ part,
@@ -370,7 +392,7 @@ imported_to_line chain offset left_old left left_new taken_old taken taken_new n
               part = part;
               taken_is = ap (λ bs. bs ++ part) (whole.lines sound);
               silent = cut.silent;
-              last = inr (item, refl, refl, subst (λ (k : Chain). IsPartOf (line_over k item) part) (whole.kept_now sound) cut.part);
+              last = inr (item, refl, refl, subst (λ (k : Chain). IsPartOf (line_over watched k item) part) (whole.kept_now sound) cut.part);
             };
             exit = λ was. exit sound (whole.on was);
             moments = moments;

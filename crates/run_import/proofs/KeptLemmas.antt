@@ -1,5 +1,5 @@
 -- What is kept of a store that was opened, and then of items.
-use Rattle.std.proofs.Common.{◌≡◌, ◌⊎◌, inl, inr, ℕ, ◌≤◌, List, length, take, sym, subst, arith}
+use Rattle.std.proofs.Common.{◌≡◌, ◌⊎◌, inl, inr, ℕ, ◌≤◌, List, length, take, Option, sym, subst, arith}
 use Rattle.outside.specs.Image.{Image}
 use Rattle.outside.specs.Disk.{LeavesOnly}
 use Rattle.outside.proofs.Moments.{leaves_also, leaves_then}
@@ -14,16 +14,16 @@ use Rattle.run_import.proofs.LineLemmas.{take_all}
 module _ {D : Type 0} (images : D → Image → Type 0) (moment : D → ℕ) (left_since : D → ℕ → Image → Type 0)
     (counts_now : (disk : D) (t : ℕ) (image : Image) → t ≤ moment disk → images disk image → left_since disk t image) where
   -- opened, and then some items imported
-  pub keeps_imported : (old mid new : D) (chain : Chain) (items before : List (List ℕ)) (taken : List ℕ) (status : Status)
-      → IsKeptPrefix chain items taken (length before) → take (length before) items ≡ before
+  pub keeps_imported : (watched : Option (List ℕ)) (old mid new : D) (chain : Chain) (items before : List (List ℕ)) (taken : List ℕ) (status : Status)
+      → IsKeptPrefix watched chain items taken (length before) → take (length before) items ≡ before
       → LeavesOnly moment left_since old mid (λ image. images old image ⊎ StandsFor chain image)
       → Each (images new) (λ image. StandsFor (chain_over chain before) image ⊎ StandsFor (chain_over chain items) image)
       → LeavesOnly moment left_since mid new (KeepsSome chain items)
-      → KeepsStore chain items taken status (images old) (images new) (left_since new (moment old))
-  keeps_imported old mid new chain items before taken status front is opened exit moments = record {
+      → KeepsStore watched chain items taken status (images old) (images new) (left_since new (moment old))
+  keeps_imported watched old mid new chain items before taken status front is opened exit moments = record {
     exit = λ image left. elim (exit image left) [
       | inl some ↦ inr (length before, front, subst (λ xs. StandsFor (chain_over chain xs) image) (sym is) some)
-      | inr all ↦ inr (length items, prefix_of_all chain items taken front.answered, subst (λ xs. StandsFor (chain_over chain xs) image) (sym (take_all items)) all)
+      | inr all ↦ inr (length items, prefix_of_all watched chain items taken front.answered, subst (λ xs. StandsFor (chain_over chain xs) image) (sym (take_all items)) all)
     ];
     moments = (leaves_then moment left_since old mid new (λ image. images old image ⊎ KeepsSome chain items image)
         (leaves_also moment left_since old mid (λ image. images old image ⊎ StandsFor chain image) (λ image. images old image ⊎ KeepsSome chain items image) opened here)

@@ -1,8 +1,10 @@
 pub mod CountLemmas
 pub mod ImportLemmas
 pub mod ImportReport
+pub mod KeepLemmas
 pub mod KeptLemmas
 pub mod LineLemmas
 pub mod RecordLemmas
 pub mod SnapshotLemmas
 pub mod Statuses
+pub mod WatchLemmas

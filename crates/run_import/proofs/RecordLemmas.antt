@@ -13,7 +13,7 @@ use Rattle.disk_defs.specs.Log.{Record, records_of}
 use Rattle.disk_defs.specs.Rest.{IsAtRest, IsSettled, IsAppended}
 use Rattle.log_file.specs.Pieces.{block_record}
 use Rattle.report_defs.specs.Survival.{AreOfSome, GoesOn, KeepsRecords}
-use Rattle.run_store.proofs.RecordLemmas.{opened_goes_on}
+use Rattle.run_store.proofs.RecordLemmas.{none_of, opened_goes_on}
 
 -- an item more, of which there is none
 pub some_more : (items : List (List ℕ)) (item : List ℕ) (records : List Record) → AreOfSome items records → AreOfSome (items ++ item ∷ []) records
@@ -33,12 +33,12 @@ some_push (x ∷ items) item ext records (inr (own, later, is, some)) =
 
 -- LOG at rest with the records of before and those of some items
 pub at_rest_goes_on : (items : List (List ℕ)) (records added : List Record) (place : ℕ) (bytes : List ℕ) → AreOfSome items added
-    → IsAtRest place (records ++ added) bytes → GoesOn items records bytes
+    → IsAtRest place (records ++ added) bytes → GoesOn (AreOfSome items) records bytes
 at_rest_goes_on items records added place bytes some rest = record { begins = rest.begins; added = added; some = some; holds = rest.holds }
 
 pub appended_goes_on : (items : List (List ℕ)) (item ext : List ℕ) (records added : List Record) (place : ℕ) (images : Image → Type 0) (image : Image)
     → AreOfSome items added → ComesBy (λ old new. IsAppended place (records ++ added) (block_record item ext) old.log new.log) images image
-    → GoesOn (items ++ item ∷ []) records image.log
+    → GoesOn (AreOfSome (items ++ item ∷ [])) records image.log
 appended_goes_on items item ext records added place images image some (before, left, appended) =
     elim appended.rest [
       | inl rest ↦ at_rest_goes_on (items ++ item ∷ []) records added place image.log (some_more items item added some) rest
@@ -58,18 +58,18 @@ pub record HasGrown (items : List (List ℕ)) (records : List Record) (place : �
   pub added : List Record
   pub some : AreOfSome items added
   pub settled : IsSettled place (records ++ added) reads images
-  pub moments : leaves (λ image. GoesOn items records image.log)
+  pub moments : leaves (λ image. GoesOn (AreOfSome items) records image.log)
 
 settled_goes_on : (items : List (List ℕ)) (records added : List Record) (place : ℕ) (reads : Option Image) (images : Image → Type 0) → AreOfSome items added
-    → IsSettled place (records ++ added) reads images → (image : Image) → images image → GoesOn items records image.log
+    → IsSettled place (records ++ added) reads images → (image : Image) → images image → GoesOn (AreOfSome items) records image.log
 settled_goes_on items records added place reads images some settled image left =
     at_rest_goes_on items records added place image.log some (subst (IsAtRest place (records ++ added)) (sym (settled.durable image left)) settled.rest)
 
-pub goes_more : (items : List (List ℕ)) (item : List ℕ) (records : List Record) (bytes : List ℕ) → GoesOn items records bytes → GoesOn (items ++ item ∷ []) records bytes
+pub goes_more : (items : List (List ℕ)) (item : List ℕ) (records : List Record) (bytes : List ℕ) → GoesOn (AreOfSome items) records bytes → GoesOn (AreOfSome (items ++ item ∷ [])) records bytes
 goes_more items item records bytes goes = record { begins = goes.begins; added = goes.added; some = some_more items item goes.added goes.some; holds = goes.holds }
 
 left_goes_on : (items : List (List ℕ)) (item : List ℕ) (records added : List Record) (place : ℕ) (images : Image → Type 0) (image : Image) → AreOfSome items added
-    → IsLeftByImport place (records ++ added) item images image → GoesOn (items ++ item ∷ []) records image.log
+    → IsLeftByImport place (records ++ added) item images image → GoesOn (AreOfSome (items ++ item ∷ [])) records image.log
 left_goes_on items item records added place images image some (ext, appended) = appended_goes_on items item ext records added place images image some appended
 
 -- the records after an item of a verdict
@@ -84,12 +84,12 @@ module _ {D : Type 0} (images : D → Image → Type 0) (moment : D → ℕ) (le
   -- a store was opened, and then items imported
   pub imported_keeps : (old mid new : D) (items : List (List ℕ)) (now : Image) (chain : Chain) → store_of now ≡ Keeps chain
       → LeavesOnly moment left_since old mid (IsLeftByOpening now.log (images old))
-      → LeavesOnly moment left_since mid new (λ image. GoesOn items (records_of (drop 8 now.log)) image.log)
-      → KeepsRecords items now (images old) (images new) (left_since new (moment old))
+      → LeavesOnly moment left_since mid new (λ image. GoesOn (AreOfSome items) (records_of (drop 8 now.log)) image.log)
+      → KeepsRecords (AreOfSome items) now (images old) (images new) (left_since new (moment old))
   imported_keeps old mid new items now chain keeps opened imported =
-      let also : LeavesOnly moment left_since old new (λ image. images old image ⊎ GoesOn items (records_of (drop 8 now.log)) image.log) =
+      let also : LeavesOnly moment left_since old new (λ image. images old image ⊎ GoesOn (AreOfSome items) (records_of (drop 8 now.log)) image.log) =
       leaves_then moment left_since old mid new _
-      (leaves_also moment left_since old mid _ _ opened (opened_goes_on items now chain (images old) keeps))
+      (leaves_also moment left_since old mid _ _ opened (opened_goes_on (AreOfSome items) now chain (images old) (none_of items) keeps))
       (leaves_also moment left_since mid new _ _ imported (λ image goes. inr goes)) in
       record { exit = now_too moment left_since images counts_now old new _ also; moments = also.each }
 
@@ -110,7 +110,7 @@ module _ {D : Type 0} (images : D → Image → Type 0) (moment : D → ℕ) (le
   pub grown_moments : (old mid new : D) (items : List (List ℕ)) (item : List ℕ) (records : List Record) (place : ℕ) (reads : Option Image)
       → (grown : HasGrown items records place reads (images mid) (LeavesOnly moment left_since old mid))
       → LeavesOnly moment left_since mid new (IsLeftByImport place (records ++ grown.added) item (images mid))
-      → LeavesOnly moment left_since old new (λ image. GoesOn (items ++ item ∷ []) records image.log)
+      → LeavesOnly moment left_since old new (λ image. GoesOn (AreOfSome (items ++ item ∷ [])) records image.log)
   grown_moments old mid new items item records place reads grown second =
       leaves_then moment left_since old mid new _
       (leaves_also moment left_since old mid _ _ grown.moments (λ image goes. goes_more items item records image.log goes))

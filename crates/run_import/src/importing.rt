@@ -1,5 +1,5 @@
-// The command `import`: blocks, each answered by a line.
-ghost use Rattle.std.specs.Prelude.{List, ◌≡◌, ◌≢◌, ◌⊎◌, ◌+◌, [], ◌∷◌, ◌<◌, ◌≤◌, ◌^◌, false, Err, Some, length, slice_index, string_bytes, IfOk, if◌then◌else◌};
+// The commands `import` and `watch`: blocks, each answered by a line.
+ghost use Rattle.std.specs.Prelude.{List, ℕ, Option, ◌≡◌, ◌≢◌, ◌⊎◌, ◌+◌, [], ◌∷◌, ◌<◌, ◌≤◌, ◌^◌, false, Err, Some, length, slice_index, string_bytes, IfOk, if◌then◌else◌};
 ghost use Rattle.outside.specs.Causes.{CountsFault};
 ghost use Rattle.outside.specs.Disk.{LeavesOnly, IsOnlyRead, IsKnownAsBefore};
 ghost use Rattle.outside.specs.Image.{Image};
@@ -13,19 +13,21 @@ ghost use Rattle.report_defs.specs.Report as reports;
 ghost use Rattle.report_defs.specs.Status.{IsOneOf};
 ghost use Rattle.report_defs.specs.Text.{line};
 ghost use Rattle.report_defs.specs.Promise.{import_statuses};
-ghost use Rattle.report_defs.specs.Survival.{NoneJoins, GoesOn, KeepsRecords};
+ghost use Rattle.report_defs.specs.Survival.{NoneJoins, AreOfSome, GoesOn, KeepsRecords};
 ghost use Rattle.report_defs.specs.declared.command.Command.TheVariants.{Import};
 ghost use Rattle.run_text.specs.Items.{Gave, IsNext};
-ghost use Rattle.node_store.specs.Import.{IsImported, LeavesEither};
+ghost use Rattle.node_store.specs.Import.{LeavesEither};
 ghost use Rattle.node_store.specs.Node.{IsItsOwn, IsSoundOn, IsOn, IsSettledAfter};
 ghost use Rattle.node_store.specs.OpeningSteps.{moves_to_open};
 ghost use Rattle.node_store.specs.Steps.{moves_for, steps_over};
 ghost use Rattle.run_text.specs.Output.{Took, Transfers};
-ghost use Rattle.run_text.specs.Store.{Delivers};
+ghost use Rattle.run_text.specs.Store.{Delivers, opening_stops};
 ghost use Rattle.run_import.specs.Import.{IsAnswered, AreImported, item_stops};
-ghost use Rattle.run_text.specs.Output.{line_over};
+ghost use Rattle.report_defs.specs.Report.{line_over};
+ghost use Rattle.run_import.specs.Watching.{IsSoundWatching, IsFollowed};
 
-use crate::lines::verdict_line;
+use crate::lines::item_line;
+use crate::watching::{Watch, balance_of, follow, watch_of};
 use node_core::Rules;
 use node_store::Node;
 use outside::{Disk, NoMemory, Sink, Source, Steps};
@@ -59,15 +61,62 @@ fn next_block<S: Source>(alloc: Global, input: &mut S, offset: u64) -> Result<Ne
     next_item(alloc, input, ITEM_LIMIT, Some(INPUT_LIMIT), offset)
 }
 
-/// Writes the line of a verdict.
-fn write_verdict<K: Sink>(alloc: Global, out: &mut K, verdict: &Verdict) -> Result<(), Status>
-    ensures written { Took (K.taken out.old) (K.taken out.new) (IsAnswered (line verdict.now) result) }
+/// Writes the line of an item, with the balance of a lock that is watched.
+fn write_line<K: Sink>(
+    alloc: Global,
+    out: &mut K,
+    verdict: &Verdict,
+    balance: Option<(u64, u128)>,
+) -> Result<(), Status>
+    ensures written { Took (K.taken out.old) (K.taken out.new) (IsAnswered (line verdict.now balance) result) }
     ensures status { (status : Status) → result ≡ Err status → IsOneOf (Status.SinkFault ∷ Status.NoMemory ∷ []) status }
     ensures faults { CountsFault (K.faults out.old) (K.faults out.new) (result ≡ Err Status.SinkFault) }
 {
-    match verdict_line(alloc, verdict) {
+    match item_line(alloc, verdict, balance) {
         Ok(text) => write_text(out, text.as_bytes()),
         Err(_) => Err(Status::NoMemory),
+    }
+}
+
+/// Judges an item and keeps what joins. What is watched follows the tip.
+fn keep_item<D: Disk, L: Ledger>(
+    alloc: Global,
+    disk: &mut D,
+    node: Node,
+    watch: Option<Watch>,
+    item: &[u8],
+    steps: &mut Steps<L>,
+) -> Result<(Node, Option<Watch>, Verdict), Status>
+    requires size { length item.now < 2 ^ 31 }
+    requires own { IsItsOwn node (D.reads_as disk.old) (D.images disk.old) }
+    ensures imported { IfOk result (λ answer. IsFollowed node answer.0 watch answer.1 item.now answer.2 (D.reads_as disk.old) (D.reads_as disk.new) (D.images disk.old) (D.images disk.new)) }
+    ensures left { LeavesEither D.reads_as D.images D.moment D.left_since disk.old disk.new (IsSoundOn node (D.reads_as disk.old)) node item.now }
+    ensures status { (status : Status) → result ≡ Err status → IsOneOf opening_stops status }
+    ensures sound { (watched : Option (List ℕ)) → IsSoundWatching watched node watch (D.reads_as disk.old) → result ≡ Err Status.NotAStore → ⊥ }
+    ensures told { IsKnownAsBefore (D.reads_as disk.old) (D.reads_as disk.new) }
+    ensures settled { (records : List Record) → IsSettled node.place records (D.reads_as disk.old) (D.images disk.old)
+        → IfOk result (λ answer. IsSettledAfter records item.now answer.2 answer.0.place (D.reads_as disk.new) (D.images disk.new)) }
+    ensures still { IsSoundOn node (D.reads_as disk.old) → joins (verdict_over node.chain item.now) ≡ false → D.content_of disk.new ≡ D.content_of disk.old }
+    ensures cause { CountsFault (D.faults disk.old) (D.faults disk.new) (result ≡ Err Status.DiskFault) }
+    ensures most { steps.new ≤ steps.old + moves_for node.chain item.now }
+{
+    let before = node.tree().tip();
+    let (next, verdict) = match node.import(alloc, disk, &Rules { alloc }, item, steps) {
+        Ok(answer) => answer,
+        Err(stop) => return Err(status_of_reading(stop)),
+    };
+    let mut next = next;
+    // (never over a chain that has joined: it has the blocks that it had)
+    if before >= next.tree().len() {
+        drop(next);
+        return Err(Status::NotAStore);
+    }
+    match follow(alloc, disk, &mut next, watch, before) {
+        Ok(watch) => Ok((next, watch, verdict)),
+        Err(stop) => {
+            drop(next);
+            Err(status_of_reading(stop))
+        }
     }
 }
 
@@ -77,31 +126,34 @@ fn import_item<K: Sink, D: Disk, L: Ledger>(
     out: &mut K,
     disk: &mut D,
     node: Node,
+    watch: Option<Watch>,
     item: &[u8],
     steps: &mut Steps<L>,
-) -> Result<(Node, Verdict), Status>
+) -> Result<(Node, Option<Watch>, Verdict), Status>
     requires size { length item.now < 2 ^ 31 }
     requires own { IsItsOwn node (D.reads_as disk.old) (D.images disk.old) }
-    ensures imported { IfOk result (λ answer. IsImported node answer.0 item.now answer.1 (D.reads_as disk.old) (D.reads_as disk.new) (D.images disk.old) (D.images disk.new)) }
+    ensures imported { IfOk result (λ answer. IsFollowed node answer.0 watch answer.1 item.now answer.2 (D.reads_as disk.old) (D.reads_as disk.new) (D.images disk.old) (D.images disk.new)) }
     ensures left { LeavesEither D.reads_as D.images D.moment D.left_since disk.old disk.new (IsSoundOn node (D.reads_as disk.old)) node item.now }
-    ensures written { Took (K.taken out.old) (K.taken out.new) (λ taken. IsSoundOn node (D.reads_as disk.old) → IsAnswered (line_over node.chain item.now) result taken) }
+    ensures written { Took (K.taken out.old) (K.taken out.new) (λ taken. (watched : Option (List ℕ)) → IsSoundWatching watched node watch (D.reads_as disk.old)
+        → IsAnswered (line_over watched node.chain item.now) result taken) }
     ensures status { (status : Status) → result ≡ Err status → IsOneOf item_stops status }
     ensures told { IsKnownAsBefore (D.reads_as disk.old) (D.reads_as disk.new) }
     ensures settled { (records : List Record) → IsSettled node.place records (D.reads_as disk.old) (D.images disk.old)
-        → IfOk result (λ answer. IsSettledAfter records item.now answer.1 answer.0.place (D.reads_as disk.new) (D.images disk.new)) }
+        → IfOk result (λ answer. IsSettledAfter records item.now answer.2 answer.0.place (D.reads_as disk.new) (D.images disk.new)) }
     ensures still { IsSoundOn node (D.reads_as disk.old) → joins (verdict_over node.chain item.now) ≡ false → D.content_of disk.new ≡ D.content_of disk.old }
     ensures out_faults { CountsFault (K.faults out.old) (K.faults out.new) (result ≡ Err Status.SinkFault) }
     ensures disk_faults { CountsFault (D.faults disk.old) (D.faults disk.new) (result ≡ Err Status.DiskFault) }
     ensures most { steps.new ≤ steps.old + moves_for node.chain item.now }
 {
-    let (next, verdict) = match node.import(alloc, disk, &Rules, item, steps) {
+    let (next, watch, verdict) = match keep_item(alloc, disk, node, watch, item, steps) {
         Ok(answer) => answer,
-        Err(stop) => return Err(status_of_reading(stop)),
+        Err(status) => return Err(status),
     };
-    match write_verdict(alloc, out, &verdict) {
-        Ok(()) => Ok((next, verdict)),
+    let balance = balance_of(&watch);
+    match write_line(alloc, out, &verdict, balance) {
+        Ok(()) => Ok((next, watch, verdict)),
         Err(status) => {
-            drop(next);
+            drop((next, watch));
             Err(status)
         }
     }
@@ -114,11 +166,12 @@ fn import_items<S: Source, K: Sink, D: Disk, L: Ledger>(
     out: &mut K,
     disk: &mut D,
     opened: Node,
+    watched: Option<[u8; 32]>,
     steps: &mut Steps<L>,
 ) -> Result<Ended, Status>
     requires own { IsItsOwn opened (D.reads_as disk.old) (D.images disk.old) }
     ensures imported { Transfers (S.left input.old) (S.left input.new) (K.taken out.old) (K.taken out.new)
-        (λ given taken. IsSoundOn opened (D.reads_as disk.old) → AreImported opened.chain (S.left input.new) result (IsOn opened (D.reads_as disk.old) (D.images disk.old))
+        (λ given taken. IsSoundOn opened (D.reads_as disk.old) → AreImported watched opened.chain (S.left input.new) result (IsOn opened (D.reads_as disk.old) (D.images disk.old))
         (D.images disk.new) (LeavesOnly D.moment D.left_since disk.old disk.new) given taken) }
     ensures told { IsKnownAsBefore (D.reads_as disk.old) (D.reads_as disk.new) }
     ensures status { (status : Status) → result ≡ Err status → IsOneOf (Status.InputFault ∷ item_stops) status }
@@ -129,10 +182,17 @@ fn import_items<S: Source, K: Sink, D: Disk, L: Ledger>(
         → steps.new ≤ steps.old + steps_over opened.chain (split_of reports.import_limits given).items) }
     ensures records { Gave (S.left input.old) (S.left input.new) (λ given. (records : List Record)
         → IsSettled opened.place records (D.reads_as disk.old) (D.images disk.old)
-        → LeavesOnly D.moment D.left_since disk.old disk.new (λ image. GoesOn (split_of reports.import_limits given).items records image.log)) }
+        → LeavesOnly D.moment D.left_since disk.old disk.new (λ image. GoesOn (AreOfSome (split_of reports.import_limits given).items) records image.log)) }
     ensures still { Gave (S.left input.old) (S.left input.new) (λ given. IsSoundOn opened (D.reads_as disk.old)
         → NoneJoins opened.chain (split_of reports.import_limits given).items → D.content_of disk.new ≡ D.content_of disk.old) }
 {
+    let mut watch = match watch_of(alloc, &opened, watched) {
+        Ok(watch) => watch,
+        Err(_) => {
+            drop(opened);
+            return Err(Status::NoMemory);
+        }
+    };
     let mut node = opened;
     let mut offset = 0u64;
     let mut refused = false;
@@ -140,7 +200,7 @@ fn import_items<S: Source, K: Sink, D: Disk, L: Ledger>(
         let item = match next_block(alloc, input, offset) {
             Ok(Next::Item(item)) => item,
             Ok(Next::End(end)) => {
-                drop(node);
+                drop((node, watch));
                 return Ok(Ended {
                     end,
                     offset,
@@ -148,15 +208,18 @@ fn import_items<S: Source, K: Sink, D: Disk, L: Ledger>(
                 });
             }
             Err(status) => {
-                drop(node);
+                drop((node, watch));
                 return Err(status);
             }
         };
-        let (next, verdict) = match import_item(alloc, out, disk, node, &item, steps) {
+        let (next, later, verdict) = match import_item(
+            alloc, out, disk, node, watch, &item, steps,
+        ) {
             Ok(answer) => answer,
             Err(status) => return Err(status),
         };
         node = next;
+        watch = later;
         offset += item.len() as u64;
         refused = refused || verdict.refuses();
     }
@@ -180,16 +243,17 @@ fn answer_to_end(alloc: Global, ended: &Ended) -> Result<Answer, NoMemory>
     })
 }
 
-/// Imports what the input holds.
+/// Imports what the input holds. Where a lock is watched, by its hash, each line of an item ends with its balance.
 pub fn import<S: Source, K: Sink, D: Disk, L: Ledger>(
     alloc: Global,
     input: &mut S,
     out: &mut K,
     disk: &mut D,
+    watched: Option<[u8; 32]>,
     steps: &mut Steps<L>,
 ) -> Status
     ensures import { Transfers (S.left input.old) (S.left input.new) (K.taken out.old) (K.taken out.new)
-        (λ given taken. Delivers Import (D.reads_as disk.old) (D.images disk.old) (D.images disk.new) (D.left_since disk.new (D.moment disk.old))
+        (λ given taken. Delivers (Import watched) (D.reads_as disk.old) (D.images disk.old) (D.images disk.new) (D.left_since disk.new (D.moment disk.old))
         (S.left input.new) given taken result) }
     ensures status { IsOneOf import_statuses result }
     ensures told { IsKnownAsBefore (D.reads_as disk.old) (D.reads_as disk.new) }
@@ -201,7 +265,7 @@ pub fn import<S: Source, K: Sink, D: Disk, L: Ledger>(
     ensures steps { Gave (S.left input.old) (S.left input.new) (λ given. (now : Image) (chain : Chain) → D.reads_as disk.old ≡ Some now → StandsFor chain now
         → steps.new ≤ steps.old + moves_to_open now + steps_over chain (split_of reports.import_limits given).items) }
     ensures records { Gave (S.left input.old) (S.left input.new) (λ given. (now : Image) (chain : Chain) → D.reads_as disk.old ≡ Some now → store_of now ≡ Keeps chain
-        → KeepsRecords (split_of reports.import_limits given).items now (D.images disk.old) (D.images disk.new) (D.left_since disk.new (D.moment disk.old))) }
+        → KeepsRecords (AreOfSome (split_of reports.import_limits given).items) now (D.images disk.old) (D.images disk.new) (D.left_since disk.new (D.moment disk.old))) }
     ensures still { Gave (S.left input.old) (S.left input.new) (λ given. (now : Image) (chain : Chain) → D.reads_as disk.old ≡ Some now → StandsFor chain now
         → slice_index now.log (end_of_log now.log) ≢ 1 → NoneJoins chain (split_of reports.import_limits given).items
         → IsOnlyRead D.reads_as D.images D.moment D.left_since disk.old disk.new) }
@@ -210,7 +274,7 @@ pub fn import<S: Source, K: Sink, D: Disk, L: Ledger>(
         Ok(node) => node,
         Err(status) => return status,
     };
-    let ended = match import_items(alloc, input, out, disk, node, steps) {
+    let ended = match import_items(alloc, input, out, disk, node, watched, steps) {
         Ok(ended) => ended,
         Err(status) => return status,
     };

@@ -10,14 +10,23 @@ use Rattle.chain_defs.specs.Tip.{tip_place}
 use Rattle.chain_tree.specs.declared.entry.Entry.{Entry}
 use Rattle.chain_tree.specs.Told.{Stored, blocks_of}
 use Rattle.uncle_rules.specs.Embedded.{UnclesValue}
+use Rattle.rewards.specs.Own.{HaveOwnFees}
 use Rattle.rewards.specs.Reading.{IsUndamaged}
 use Rattle.store_defs.specs.Store.{AreJoined}
 use Rattle.supply_defs.specs.Laws.{supply_balance, occupied_balance}
 use Rattle.supply.specs.Standing.{HaveJoined}
-use Rattle.node_store.specs.Kept.{KeptValue, kept_of, AreKept, HoldsJoined}
+use Rattle.node_store.specs.Kept.{KeptValue, kept_of, exts_of, AreKept, CountFees, HoldsJoined}
 use Rattle.node_store.proofs.KeptSources.{told-stored}
-use Rattle.node_core.proofs.OwnLemmas.{have-own-fees}
+use Rattle.node_store.proofs.FeeLaws.{exts-keep-fees}
 use Rattle.run_query.specs.Queries.{balances_of}
+
+-- each ext holds its own fees
+have-own-fees : (spec : Specification) (stored : List Stored) → AreJoined (record { spec = spec; blocks = blocks_of stored }) (exts_of stored)
+    → CountFees stored → HaveOwnFees spec stored
+have-own-fees spec stored kept counted place it above there = record {
+  count = λ parent on. (exts-keep-fees spec stored kept counted place parent it above there on).0;
+  each = λ parent j on within. (exts-keep-fees spec stored kept counted place parent it above there on).1.each j within;
+}
 
 -- what is kept has joined, where a source tells it
 pub have-joined : (spec : Specification) (stored : List Stored) (entries : List Entry) (index : UnclesValue) (kept : KeptValue) (told : Option (List Stored))
@@ -29,7 +38,7 @@ have-joined spec stored entries index kept told whole are tells =
       known = record {
         is = told-stored spec stored entries kept told whole tells;
         indexes = are.indexed;
-        own = have-own-fees spec stored before.joined before.own are.counted;
+        own = have-own-fees spec stored before are.counted;
       };
       joined = before.joined;
       canonical = are.canonical;

@@ -1,4 +1,5 @@
 pub mod AuditLemmas
+pub mod ListLemmas
 pub mod QueryLemmas
 pub mod QueryReport
 pub mod Statuses

@@ -1,4 +1,4 @@
-//! The queries: `tip`, `header`, `json`, `epoch`, `audit`, `cell` and `dao`.
+//! The queries: `tip`, `header`, `json`, `epoch`, `audit`, `cell`, `list` and `dao`.
 //!
 //! [`query`] opens the store, prints the answer that `report_defs` defines over the chain that the disk keeps, and only
 //! reads a disk whose log is at rest. A query more is a function that finds its answer (`answer_to`).
@@ -7,6 +7,7 @@
 mod audit;
 mod dao;
 mod lines;
+mod list;
 mod over_blocks;
 mod over_disk;
 mod queries;

@@ -15,7 +15,7 @@ ghost use Rattle.report_defs.specs.Queries.{header_of, json_of, cell_of, cell_at
 ghost use Rattle.report_defs.specs.declared.command.Query.TheVariants as queries;
 ghost use Rattle.report_defs.specs.Status.{IsOneOf};
 ghost use Rattle.report_defs.specs.Promise.{query_statuses};
-ghost use Rattle.report_defs.specs.Survival.{KeepsRecords};
+ghost use Rattle.report_defs.specs.Survival.{KeepsRecords, MayAdd};
 ghost use Rattle.report_defs.specs.declared.command.Command.TheVariants as commands;
 ghost use Rattle.node_store.specs.OpeningSteps.{moves_to_open};
 ghost use Rattle.cell_state.specs.State.{rows};
@@ -29,6 +29,7 @@ ghost use Rattle.run_text.specs.Store.{Delivers, IsQueryPrinted, OnlyReads, open
 use crate::audit::audit;
 use crate::dao::dao;
 use crate::lines::{epoch_line, header_line, live_line, none_line, tip_line};
+use crate::list::list;
 use cell_model::OutPoint;
 use epochs::epoch_of;
 use json_blocks::to_json;
@@ -60,6 +61,7 @@ fn answer_to<D: Disk>(
         Query::Json { height } => json(alloc, disk, node, height),
         Query::Epoch => epoch(alloc, node),
         Query::Cell { tx_hash, index } => cell(alloc, node, tx_hash, index),
+        Query::Cells { lock } => list(alloc, node, &lock),
         Query::Dao { tx_hash, index } => dao(alloc, disk, node, tx_hash, index),
         Query::Audit => audit(alloc, disk, node),
     }
@@ -243,7 +245,7 @@ pub fn query<K: Sink, D: Disk, L: Ledger>(
         → Delivers (commands.Query asked) (D.reads_as disk.old) (D.images disk.old) (D.images disk.new) (D.left_since disk.new (D.moment disk.old)) left [] taken result) }
     ensures status { IsOneOf query_statuses result }
     ensures records { (now : Image) (chain : Chain) → D.reads_as disk.old ≡ Some now → store_of now ≡ Keeps chain
-        → KeepsRecords [] now (D.images disk.old) (D.images disk.new) (D.left_since disk.new (D.moment disk.old)) }
+        → KeepsRecords (MayAdd (Some (commands.Query asked)) chain []) now (D.images disk.old) (D.images disk.new) (D.left_since disk.new (D.moment disk.old)) }
     ensures told { IsKnownAsBefore (D.reads_as disk.old) (D.reads_as disk.new) }
     ensures no_log { (now : Image) → D.reads_as disk.old ≡ Some now → ((chain : Chain) → store_of now ≡ Keeps chain → ⊥)
         → IsOnlyRead D.reads_as D.images D.moment D.left_since disk.old disk.new }

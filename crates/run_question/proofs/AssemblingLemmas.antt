@@ -30,7 +30,7 @@ whole-at-tip spec stored entries index state kept place whole are joined live is
       stands = stands-tip spec stored entries index (rows state) place are (subst (λ (k : KeptValue). AreOfTip k.chain.blocks (rows state)) (sym whole) live)
           before.joined is below;
       uncles = are.uncles;
-      fees = have-own-fees spec stored before.joined before.own are.counted;
+      fees = have-own-fees spec stored before are.counted;
     }
 
 -- ---- A block that is assembled

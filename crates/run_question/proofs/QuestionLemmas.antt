@@ -1,6 +1,6 @@
 -- What a question read, printed and left at each exit.
 use Rattle.std.proofs.Common.{◌≡◌, ◌⊎◌, ℕ, ◌≤◌, List, [], ◌∷◌, refl, ap, sym, ◌∙◌, subst}
-use Rattle.std.specs.Prelude.{Option, Some, Result, Ok, Err, IfOk, IfSome, string_bytes}
+use Rattle.std.specs.Prelude.{Option, Some, None, Result, Ok, Err, IfOk, IfSome, string_bytes}
 use Rattle.outside.specs.Image.{Image}
 use Rattle.outside.specs.Disk.{LeavesOnly, IsAsBefore, IsKnownAsBefore}
 use Rattle.chain_defs.specs.Shape.{decoded}
@@ -105,7 +105,7 @@ module _ {D : Type 0} (reads_as : D → Option Image) (images : D → Image → 
   question_unopened question old new left status one none here moments = record {
     delivers = unopened (commands.Question question) (reads_as old) (images old) (images new) (left_since new (moment old)) left status (λ store found. found) one none
         (λ input. refl) (λ input. refl) (λ never. never) (λ never. never) (λ chain stop. (question_stopped question chain left [] status stop (items_no_further (question_limits question) [] tt tt [] refl)).order)
-        (λ now told chain keeps sound. keeps_unopened images moment left_since counts_now old new chain [] status
+        (λ now told chain keeps sound. keeps_unopened images moment left_since counts_now None old new chain [] status
         (by_disk_or_memory status one (sound_opening (reads_as old) status now none told (sound_here (reads_as old) (images old) now here told sound)))
         (moments now chain told keeps sound));
     answers = λ now chain told stands done. absurd (opening_not_done status one done);

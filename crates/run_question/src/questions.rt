@@ -12,7 +12,8 @@ ghost use Rattle.report_defs.specs.Items.{AreItems};
 ghost use Rattle.report_defs.specs.Text as text;
 ghost use Rattle.report_defs.specs.Status.{IsOneOf};
 ghost use Rattle.report_defs.specs.Promise.{question_statuses};
-ghost use Rattle.report_defs.specs.Survival.{KeepsRecords};
+ghost use Rattle.report_defs.specs.Survival.{KeepsRecords, MayAdd};
+ghost use Rattle.report_defs.specs.declared.command.Command.TheVariants as commands;
 ghost use Rattle.run_text.specs.Items.{Gave};
 ghost use Rattle.run_text.specs.Whole.{IsReadWhole};
 ghost use Rattle.node_store.specs.OpeningSteps.{moves_to_open};
@@ -177,7 +178,7 @@ pub fn question<S: Source, K: Sink, D: Disk, L: Ledger>(
         (S.left input.new) given taken result) }
     ensures status { IsOneOf question_statuses result }
     ensures records { (now : Image) (chain : Chain) → D.reads_as disk.old ≡ Some now → store_of now ≡ Keeps chain
-        → KeepsRecords [] now (D.images disk.old) (D.images disk.new) (D.left_since disk.new (D.moment disk.old)) }
+        → KeepsRecords (MayAdd (Some (commands.Question asked)) chain []) now (D.images disk.old) (D.images disk.new) (D.left_since disk.new (D.moment disk.old)) }
     ensures told { IsKnownAsBefore (D.reads_as disk.old) (D.reads_as disk.new) }
     ensures no_log { (now : Image) → D.reads_as disk.old ≡ Some now → ((chain : Chain) → store_of now ≡ Keeps chain → ⊥)
         → IsOnlyRead D.reads_as D.images D.moment D.left_since disk.old disk.new }

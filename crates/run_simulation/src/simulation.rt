@@ -32,7 +32,7 @@ fn make(alloc: Global, seed: u64, count: u32) -> Result<String, NoMemory>
     requires { count ≤ 20000 }
     ensures { IfOk result (λ text. IsAnswerToSimulation (Simulation.Make seed count) (string_bytes text)) }
 {
-    let counted = counts_of(alloc, &Rules, seed, count)?;
+    let counted = counts_of(alloc, &Rules { alloc }, seed, count)?;
     let line = made_line(alloc, count, &counted)?;
     Ok(line)
 }
@@ -42,7 +42,7 @@ fn soak(alloc: Global, seed: u64, count: u32) -> Result<String, NoMemory>
     requires { count ≤ 100 }
     ensures { IfOk result (λ text. IsAnswerToSimulation (Simulation.Soak seed count) (string_bytes text)) }
 {
-    let counted = match soak_counts_of(alloc, &Rules, seed, count) {
+    let counted = match soak_counts_of(alloc, &Rules { alloc }, seed, count) {
         Ok(counted) => counted,
         Err(stop) => return Err(stop),
     };

@@ -8,10 +8,6 @@ use Rattle.outside.specs.declared.disk.ReadStop.{ReadStop}
 use Rattle.outside.specs.declared.disk.ReadStop.TheVariants as stops
 use Rattle.outside.proofs.Endings.{no_fault, counts-as}
 use Rattle.outside.proofs.Moments.{leaves_also, leaves_then, now_too}
-use Rattle.rule_defs.specs.declared.rule.Rule.{Rule}
-use Rattle.block_judge.specs.Stops.{stop_in}
-use Rattle.block_judge.specs.declared.stop.JudgeStop.{JudgeStop}
-use Rattle.block_judge.specs.declared.stop.JudgeStop.TheVariants.{Broken, Read}
 use Rattle.verdict_defs.specs.Chain.{Chain}
 use Rattle.store_defs.specs.Store.{Keeps, store_of, StandsFor, IsSound}
 use Rattle.report_defs.specs.declared.status.Status.{Status}
@@ -55,17 +51,17 @@ module _ {S C : Type 0} {content_of : S → C} {faults : S → ℕ} {old new : S
       cause = counts-as left.cause (λ is. ap Some (fault.0 (same_stop _ _ is))) (λ is. ap Err (fault.1 (same_Some stop stops.DiskFault is)));
     }
 
-    -- where a node judged, a broken rule is no stop
-    pub looks_judged : {Fault : Type 0} {judged : JudgeStop} {rule : Rule} → LeavesAll content_of reads_as images faults old new before after (stop_in judged)
-        → judged ≡ Broken rule → (Fault → ⊥) → OnlyReads content_of faults old new Fault
-    looks_judged left is none = looks_found (subst (λ (j : JudgeStop). LeavesAll content_of reads_as images faults old new before after (stop_in j)) is left) none
+    -- where it judged, what stopped the reading is known by an equation: nothing
+    pub looks_judged : {Fault : Type 0} {found : Option ReadStop} → LeavesAll content_of reads_as images faults old new before after found
+        → found ≡ None → (Fault → ⊥) → OnlyReads content_of faults old new Fault
+    looks_judged left is none = looks_found (subst (λ (found : Option ReadStop). LeavesAll content_of reads_as images faults old new before after found) is left) none
 
-    -- and what is not read is one
-    pub looks_stopped_judging : {T : Type 0} {judged : JudgeStop} (stop : ReadStop) (status : Status)
-        → LeavesAll content_of reads_as images faults old new before after (stop_in judged) → judged ≡ Read stop
+    -- or a stop
+    pub looks_stopped_judging : {T : Type 0} {found : Option ReadStop} (stop : ReadStop) (status : Status)
+        → LeavesAll content_of reads_as images faults old new before after found → found ≡ Some stop
         → (status ≡ DiskFault) ↔ (stop ≡ stops.DiskFault) → OnlyReads content_of faults old new (◌≡◌ {A = Result T Status} (Err status) (Err DiskFault))
     looks_stopped_judging stop status left is =
-        looks_stopped stop status (subst (λ (j : JudgeStop). LeavesAll content_of reads_as images faults old new before after (stop_in j)) is left)
+        looks_stopped stop status (subst (λ (found : Option ReadStop). LeavesAll content_of reads_as images faults old new before after found) is left)
 
 -- nothing was looked at
 pub looks_not : {S C Fault : Type 0} {content_of : S → C} {faults : S → ℕ} (disk : S) → (Fault → ⊥) → OnlyReads content_of faults disk disk Fault
@@ -127,9 +123,9 @@ module _ {D C : Type 0} (content_of : D → C) (reads_as : D → Option Image) (
         → LeavesOnly moment left_since old mid (λ image. images old image ⊎ StandsFor chain image))
         → content_of new ≡ content_of mid
         → (now : Image) → reads_as old ≡ Some now → (chain : Chain) → store_of now ≡ Keeps chain → Each (images old) IsSound
-        → KeepsStore chain [] taken status (images old) (images new) (left_since new (moment old))
+        → KeepsStore None chain [] taken status (images old) (images new) (left_since new (moment old))
     keeps_looked old mid new node taken status kept on moments looked =
-        keeps_opened (reads_as old) node.chain [] (images old) (images new) (left_since new (moment old)) taken status kept
+        keeps_opened None (reads_as old) node.chain [] (images old) (images new) (left_since new (moment old)) taken status kept
         (λ now told keeps sound. keeps_read images moment left_since counts_now old new node.chain taken status
         (leaves_looked old mid new (λ image. images old image ⊎ StandsFor node.chain image) (moments now node.chain told keeps sound) looked)
         (stands_looked mid new node (if_told (reads_as old) (λ _. IsOn node (reads_as mid) (images mid)) now (on sound) told) looked))

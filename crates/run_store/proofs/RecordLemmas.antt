@@ -5,18 +5,17 @@ use Rattle.std.specs.Str.{bytes_eq}
 use Rattle.std.specs.Cmp.Lexicographic.{bytes_decides}
 use Rattle.std.proofs.lemmas.Bool.{and_parts}
 use Rattle.std.proofs.lemmas.Bool.Decides.{nat_tests}
-use Rattle.chain_defs.specs.Schema.{Block}
-use Rattle.chain_defs.specs.Kept.{blocks_of_item}
 use Rattle.chain_defs.specs.Specification.{broken_specification_rule}
 use Rattle.rule_defs.specs.Genesis.{broken_genesis_rule}
-use Rattle.disk_defs.proofs.Contents.{said}
+use Rattle.disk_defs.specs.LogLaws.{IsSaidBy}
+use Rattle.disk_defs.proofs.Contents.{says_by_parts}
 use Rattle.outside.specs.Image.{Image}
 use Rattle.outside.specs.Disk.{LeavesOnly}
 use Rattle.outside.proofs.Moments.{leaves_also, now_too}
 use Rattle.verdict_defs.specs.Chain.{Chain}
 use Rattle.store_defs.specs.Store.{NoLog, Keeps, store_of, store_of_log}
 use Rattle.node_store.specs.Node.{IsLeftByOpening}
-use Rattle.disk_defs.specs.Log.{Record, LogContent, magic, records_of, log_of, content_of_records, are_first, blocks_over, record_limit}
+use Rattle.disk_defs.specs.Log.{Record, LogContent, magic, records_of, log_of, content_of_records}
 use Rattle.report_defs.specs.Survival.{AreOfSome, GoesOn, KeepsRecords}
 
 pub none_of : (items : List (List ℕ)) → AreOfSome items []
@@ -36,24 +35,16 @@ of_kind : (r : Record) (kind : ℕ) → (r.kind == kind) ≡ true → r ≡ reco
 of_kind r kind is = let same : r.kind ≡ kind = grind (arith, nat_tests) in ap (λ k. record_of k r.body) same
 
 said_by : (records : List Record) (log : LogContent) → content_of_records records ≡ Some log → records ≡ all_records log
-said_by [] log says = absurd (cc)
-said_by (one ∷ []) log says = absurd (cc)
-said_by (one ∷ two ∷ records) log says = by_test (are_first one two && leb (length records) record_limit) refl says
-  where
-    by_blocks : are_first one two ≡ true → (o : Option (List Block)) → said one two records o ≡ Some log → one ∷ two ∷ records ≡ all_records log
-    by_blocks first None is = absurd (cc)
-    by_blocks first (Some blocks) is =
-        let same : record { specification = one.body; genesis = two.body; records = records; blocks = blocks } ≡ log = (cc) in
-        let front = and_parts ((one.kind == 1) && is_none (broken_specification_rule one.body) && (two.kind == 2)) (is_none (broken_genesis_rule two.body)) first in
-        let kinds = and_parts ((one.kind == 1) && is_none (broken_specification_rule one.body)) (two.kind == 2) front.0 in
-        ap (λ (r : Record). r ∷ two ∷ records) (of_kind one 1 (and_parts (one.kind == 1) (is_none (broken_specification_rule one.body)) kinds.0).0)
-        ∙ ap (λ (r : Record). record_of 1 one.body ∷ r ∷ records) (of_kind two 2 kinds.1)
-        ∙ ap all_records same
-
-    by_test : (t : Bool) → (are_first one two && leb (length records) record_limit) ≡ t
-        → cond t (said one two records (blocks_over (blocks_of_item two.body) records)) None ≡ Some log → one ∷ two ∷ records ≡ all_records log
-    by_test false is says = absurd (cc)
-    by_test true is says = by_blocks (and_parts (are_first one two) (leb (length records) record_limit) is).0 (blocks_over (blocks_of_item two.body) records) says
+said_by records log says =
+    let is : IsSaidBy records log = (says_by_parts records log).0 says in
+    let one : Record = is.one in
+    let two : Record = is.two in
+    let front = and_parts ((one.kind == 1) && is_none (broken_specification_rule one.body) && (two.kind == 2)) (is_none (broken_genesis_rule two.body)) is.first in
+    let kinds = and_parts ((one.kind == 1) && is_none (broken_specification_rule one.body)) (two.kind == 2) front.0 in
+    is.all
+    ∙ ap (λ (r : Record). r ∷ two ∷ log.records)
+    (of_kind one 1 (and_parts (one.kind == 1) (is_none (broken_specification_rule one.body)) kinds.0).0 ∙ ap (record_of 1) is.specification)
+    ∙ ap (λ (r : Record). record_of 1 log.specification ∷ r ∷ log.records) (of_kind two 2 kinds.1 ∙ ap (record_of 2) is.genesis)
 
 -- bytes that say something begin as a log, with the records that say it
 log_begins : (bytes : List ℕ) (log : LogContent) → log_of bytes ≡ Some log → (take 8 bytes ≡ magic) × (records_of (drop 8 bytes) ≡ all_records log)
@@ -66,14 +57,14 @@ log_begins bytes log says = by_test (bytes_eq (take 8 bytes) magic) refl says
     by_test true is says = ((bytes_decides (take 8 bytes) magic).0 is, said_by (records_of (drop 8 bytes)) log says)
 
 -- what opening leaves of a log
-pub says_goes_on : (items : List (List ℕ)) (bytes old : List ℕ) (log : LogContent) → log_of old ≡ Some log → log_of bytes ≡ log_of old
-    → GoesOn items (records_of (drop 8 old)) bytes
-says_goes_on items bytes old log was same =
+pub says_goes_on : (MayFollow : List Record → Type 0) (bytes old : List ℕ) (log : LogContent) → MayFollow [] → log_of old ≡ Some log → log_of bytes ≡ log_of old
+    → GoesOn MayFollow (records_of (drop 8 old)) bytes
+says_goes_on MayFollow bytes old log none was same =
     let now = log_begins bytes log (same ∙ was) in
     record {
       begins = now.0;
       added = [];
-      some = none_of items;
+      some = none;
       holds = now.1 ∙ sym (log_begins old log was).1 ∙ sym (append-nil (records_of (drop 8 old)));
     }
 
@@ -91,19 +82,19 @@ log_there now chain keeps = by_test (length now.log == 0) keeps
     by_test true keeps = absurd (cc)
     by_test false keeps = by_log (log_of now.log) refl keeps
 
-pub opened_goes_on : (items : List (List ℕ)) (now : Image) (chain : Chain) (images : Image → Type 0) → store_of now ≡ Keeps chain
-    → (image : Image) → IsLeftByOpening now.log images image → images image ⊎ GoesOn items (records_of (drop 8 now.log)) image.log
-opened_goes_on items now chain images keeps image (inl left) = inl left
-opened_goes_on items now chain images keeps image (inr (before, left, (bytes, says, is))) =
+pub opened_goes_on : (MayFollow : List Record → Type 0) (now : Image) (chain : Chain) (images : Image → Type 0) → MayFollow [] → store_of now ≡ Keeps chain
+    → (image : Image) → IsLeftByOpening now.log images image → images image ⊎ GoesOn MayFollow (records_of (drop 8 now.log)) image.log
+opened_goes_on MayFollow now chain images none keeps image (inl left) = inl left
+opened_goes_on MayFollow now chain images none keeps image (inr (before, left, (bytes, says, is))) =
     let log = log_there now chain keeps in
-    inr (subst (λ (i : Image). GoesOn items (records_of (drop 8 now.log)) i.log) (sym is) (says_goes_on items bytes now.log log.0 log.1 says))
+    inr (subst (λ (i : Image). GoesOn MayFollow (records_of (drop 8 now.log)) i.log) (sym is) (says_goes_on MayFollow bytes now.log log.0 none log.1 says))
 
 module _ {D : Type 0} (images : D → Image → Type 0) (moment : D → ℕ) (left_since : D → ℕ → Image → Type 0)
     (counts_now : (disk : D) (t : ℕ) (image : Image) → t ≤ moment disk → images disk image → left_since disk t image) where
   -- opened, and nothing more
-  pub opening_keeps : (old new : D) (items : List (List ℕ)) (now : Image) (chain : Chain) → store_of now ≡ Keeps chain
-      → LeavesOnly moment left_since old new (IsLeftByOpening now.log (images old)) → KeepsRecords items now (images old) (images new) (left_since new (moment old))
-  opening_keeps old new items now chain keeps opened =
-      let also : LeavesOnly moment left_since old new (λ image. images old image ⊎ GoesOn items (records_of (drop 8 now.log)) image.log) =
-      leaves_also moment left_since old new _ _ opened (opened_goes_on items now chain (images old) keeps) in
+  pub opening_keeps : (old new : D) (MayFollow : List Record → Type 0) (now : Image) (chain : Chain) → MayFollow [] → store_of now ≡ Keeps chain
+      → LeavesOnly moment left_since old new (IsLeftByOpening now.log (images old)) → KeepsRecords MayFollow now (images old) (images new) (left_since new (moment old))
+  opening_keeps old new MayFollow now chain none keeps opened =
+      let also : LeavesOnly moment left_since old new (λ image. images old image ⊎ GoesOn MayFollow (records_of (drop 8 now.log)) image.log) =
+      leaves_also moment left_since old new _ _ opened (opened_goes_on MayFollow now chain (images old) none keeps) in
       record { exit = now_too moment left_since images counts_now old new _ also; moments = also.each }

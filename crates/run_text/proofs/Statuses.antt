@@ -35,7 +35,7 @@ not_early status sink early = subst IsEarly sink (is_early status early)
 pub stop_not_reported : (status : Status) → IsStop status → IsReported status → ⊥
 stop_not_reported status stop told =
     each_of (λ s. IsStop s → ⊥) reported status
-    (λ n. n, (λ n. n, (λ n. n, (λ n. n, (λ n. n, (λ n. n, (λ n. n, (λ n. n, (λ n. n, tt))))))))) told stop
+    (λ n. n, (λ n. n, (λ n. n, (λ n. n, (λ n. n, (λ n. n, (λ n. n, (λ n. n, (λ n. n, (λ n. n, (λ n. n, tt))))))))))) told stop
 
 pub stop_not_done : (status : Status) → IsStop status → IsOneOf (Done ∷ SomeRefused ∷ []) status → ⊥
 stop_not_done status stop told = each_of (λ s. IsStop s → ⊥) (Done ∷ SomeRefused ∷ []) status (λ n. n, (λ n. n, tt)) told stop

@@ -103,13 +103,13 @@ delivers command reads chain at_start at_exit meanwhile left given taken status 
     delivers_over (IsJoined chain) command reads chain at_start at_exit meanwhile left given taken status sound kept (λ store found. opened_joined reads chain store kept found)
 
 -- what is kept of the chain that was opened is kept of that which the disk reads as
-pub keeps_opened : (reads : Option Image) (chain : Chain) (items : List (List ℕ)) (at_start at_exit meanwhile : Image → Type 0) (taken : List ℕ) (status : Status)
+pub keeps_opened : (watched : Option (List ℕ)) (reads : Option Image) (chain : Chain) (items : List (List ℕ)) (at_start at_exit meanwhile : Image → Type 0) (taken : List ℕ) (status : Status)
     → IfSome reads (λ now. store_of now ≡ Keeps chain)
-    → ((now : Image) → reads ≡ Some now → store_of now ≡ Keeps chain → Each at_start IsSound → KeepsStore chain items taken status at_start at_exit meanwhile)
-    → (now : Image) → reads ≡ Some now → (other : Chain) → store_of now ≡ Keeps other → Each at_start IsSound → KeepsStore other items taken status at_start at_exit meanwhile
-keeps_opened reads chain items at_start at_exit meanwhile taken status kept store now told other keeps sound =
+    → ((now : Image) → reads ≡ Some now → store_of now ≡ Keeps chain → Each at_start IsSound → KeepsStore watched chain items taken status at_start at_exit meanwhile)
+    → (now : Image) → reads ≡ Some now → (other : Chain) → store_of now ≡ Keeps other → Each at_start IsSound → KeepsStore watched other items taken status at_start at_exit meanwhile
+keeps_opened watched reads chain items at_start at_exit meanwhile taken status kept store now told other keeps sound =
     let here = if_told reads (λ image. store_of image ≡ Keeps chain) now kept told in
-    subst (λ (k : Chain). KeepsStore k items taken status at_start at_exit meanwhile) (same_chain chain other (sym here ∙ keeps)) (store now told here sound)
+    subst (λ (k : Chain). KeepsStore watched k items taken status at_start at_exit meanwhile) (same_chain chain other (sym here ∙ keeps)) (store now told here sound)
 
 module _ {D : Type 0} (images : D → Image → Type 0) (moment : D → ℕ) (left_since : D → ℕ → Image → Type 0)
     (counts_now : (disk : D) (t : ℕ) (image : Image) → t ≤ moment disk → images disk image → left_since disk t image) where
@@ -117,20 +117,20 @@ module _ {D : Type 0} (images : D → Image → Type 0) (moment : D → ℕ) (le
   pub keeps_read : (old new : D) (chain : Chain) (taken : List ℕ) (status : Status)
       → LeavesOnly moment left_since old new (λ image. images old image ⊎ StandsFor chain image)
       → Each (images new) (StandsFor chain)
-      → KeepsStore chain [] taken status (images old) (images new) (left_since new (moment old))
+      → KeepsStore None chain [] taken status (images old) (images new) (left_since new (moment old))
   keeps_read old new chain taken status opened exit = record {
-    exit = λ image left. inr (0, prefix_of_all chain [] taken (inr (taken, refl)), exit image left);
+    exit = λ image left. inr (0, prefix_of_all None chain [] taken (inr (taken, refl)), exit image left);
     moments = λ image left. elim (opened.each image left) [ inl past ↦ inl past | inr stands ↦ inr (0, omega arith, stands) ];
   }
 
   -- not opened
-  pub keeps_unopened : (old new : D) (chain : Chain) (items : List (List ℕ)) (status : Status) → IsOneOf (DiskFault ∷ NoMemory ∷ []) status
+  pub keeps_unopened : (watched : Option (List ℕ)) (old new : D) (chain : Chain) (items : List (List ℕ)) (status : Status) → IsOneOf (DiskFault ∷ NoMemory ∷ []) status
       → LeavesOnly moment left_since old new (λ image. images old image ⊎ StandsFor chain image)
-      → KeepsStore chain items [] status (images old) (images new) (left_since new (moment old))
-  keeps_unopened old new chain items status stop opened = record {
+      → KeepsStore watched chain items [] status (images old) (images new) (left_since new (moment old))
+  keeps_unopened watched old new chain items status stop opened = record {
     exit = λ image left. elim (now_too moment left_since images counts_now old new (λ image. images old image ⊎ StandsFor chain image) opened image left) [
       | inl past ↦ inl (stop, refl, past)
-      | inr stands ↦ inr (0, prefix_of_none chain items 0 (omega arith), stands)
+      | inr stands ↦ inr (0, prefix_of_none watched chain items 0 (omega arith), stands)
     ];
     moments = λ image left. elim (opened.each image left) [ inl past ↦ inl past | inr stands ↦ inr (0, omega arith, stands) ];
   }

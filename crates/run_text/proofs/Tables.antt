@@ -4,12 +4,12 @@ use Rattle.std.specs.Prelude.{Some, ◌==◌, if◌then◌else◌}
 use Rattle.std.proofs.lemmas.Bool.Decides.{eqb_tells}
 use Rattle.std.proofs.lemmas.Option.{same_Some}
 use Rattle.report_defs.specs.declared.status.Status.{Status}
-use Rattle.report_defs.specs.declared.status.Status.TheVariants.{Done, SomeRefused, BadWords, InputFault, SinkFault, DiskFault, NoMemory, NotAStore, CutInput, BadSize, StoreThere, BadGenesis, ExtraInput}
+use Rattle.report_defs.specs.declared.status.Status.TheVariants.{Done, SomeRefused, BadWords, InputFault, SinkFault, DiskFault, NoMemory, NotAStore, CutInput, BadSize, StoreThere, BadGenesis, ExtraInput, TooEarly, AlreadyMigrated}
 use Rattle.report_defs.specs.Status.{status_number, IsOneOf}
 
 -- all statuses by their numbers
 abbrev every : List Status
-every = Done ∷ SomeRefused ∷ BadWords ∷ InputFault ∷ SinkFault ∷ DiskFault ∷ NoMemory ∷ NotAStore ∷ CutInput ∷ BadSize ∷ StoreThere ∷ BadGenesis ∷ ExtraInput ∷ []
+every = Done ∷ SomeRefused ∷ BadWords ∷ InputFault ∷ SinkFault ∷ DiskFault ∷ NoMemory ∷ NotAStore ∷ CutInput ∷ BadSize ∷ StoreThere ∷ BadGenesis ∷ ExtraInput ∷ TooEarly ∷ AlreadyMigrated ∷ []
 
 numbered : (status : Status) → slice_get every (status_number status) ≡ Some status
 numbered Done = refl
@@ -25,6 +25,8 @@ numbered BadSize = refl
 numbered StoreThere = refl
 numbered BadGenesis = refl
 numbered ExtraInput = refl
+numbered TooEarly = refl
+numbered AlreadyMigrated = refl
 
 same_number : (one other : Status) → status_number one ≡ status_number other → one ≡ other
 same_number one other is = same_Some one other (sym (numbered one) ∙ ap (slice_get every) is ∙ numbered other)

@@ -2,10 +2,9 @@
 use Rattle.std.specs.Prelude.{◌≡◌, ◌⊎◌, ◌<◌, ℕ, List, [], ◌∷◌, ◌++◌, length, Option, Some, Result, Ok, Err}
 use Rattle.std.specs.List.{concat}
 use Rattle.outside.specs.Streams.{Gives, Takes}
-use Rattle.verdict_defs.specs.Chain.{Chain, verdict_over}
+use Rattle.verdict_defs.specs.Chain.{Chain}
 use Rattle.report_defs.specs.declared.status.Status.{Status}
 use Rattle.report_defs.specs.declared.status.Status.TheVariants.{InputFault, SinkFault, DiskFault, NoMemory, CutInput, BadSize, ExtraInput}
-use Rattle.report_defs.specs.Text.{line}
 use Rattle.report_defs.specs.Report.{Report, text_of, lines_over}
 use Rattle.report_defs.specs.Promise.{IsPrefix, IsReported, IsStoppedBeforeTheSink}
 
@@ -67,9 +66,6 @@ IsSaid report status taken = ((taken ≡ text_of report) × (status ≡ report.s
 abbrev pub early_ends : List Status
 early_ends = SinkFault ∷ NoMemory ∷ CutInput ∷ BadSize ∷ ExtraInput ∷ []
 
--- the line of an item over a chain, and the lines of items one after the other
-abbrev pub line_over : Chain → List ℕ → List ℕ
-line_over chain item = line (verdict_over chain item)
-
-abbrev pub text_over : Chain → List (List ℕ) → List ℕ
-text_over chain items = concat (lines_over chain items)
+-- the lines of items one after the other
+abbrev pub text_over : Option (List ℕ) → Chain → List (List ℕ) → List ℕ
+text_over watched chain items = concat (lines_over watched chain items)

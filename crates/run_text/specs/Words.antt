@@ -1,7 +1,7 @@
 -- The parts of the grammar of words.
 use Rattle.std.specs.Prelude.{ℕ, ◌^◌, ◌≤◌, ◌==◌, nat_lt, ◌&&◌, ◌||◌, Bool, List, length, slice_index}
 use Rattle.report_defs.specs.declared.command.Command.{Command}
-use Rattle.report_defs.specs.declared.command.Command.TheVariants.{Init, Import, Query, Question, Standalone, Simulation}
+use Rattle.report_defs.specs.declared.command.Command.TheVariants.{Init, Import, Migrate, Query, Question, Standalone, Simulation}
 use Rattle.report_defs.specs.declared.command.Standalone as files
 use Rattle.report_defs.specs.declared.command.Standalone.TheVariants.{Exec, Asm, Dis, Unjson}
 use Rattle.report_defs.specs.declared.command.Simulation as simulations
@@ -21,7 +21,8 @@ IsWithinCount (Soak seed count) = count ≤ 100
 
 abbrev pub IsWithinLimit : Command → Type 0
 IsWithinLimit Init = Unit {0}
-IsWithinLimit Import = Unit {0}
+IsWithinLimit (Import watched) = Unit {0}
+IsWithinLimit (Migrate epoch) = Unit {0}
 IsWithinLimit (Query query) = Unit {0}
 IsWithinLimit (Question question) = Unit {0}
 IsWithinLimit (Standalone command) = IsWithinBudget command

@@ -16,7 +16,7 @@ mod words;
 
 pub use lines::{
     closing_of_end, hash_line, number_line, numbered_line, numbers_line, push_hash, push_hex,
-    push_number,
+    push_number, push_total,
 };
 pub use next::{Next, has_more, next_item};
 pub use output::{Answer, status_of_end, write_answer, write_bytes, write_early_end, write_text};

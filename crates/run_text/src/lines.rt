@@ -33,6 +33,21 @@ pub fn push_number(alloc: Global, line: &mut String, number: u64) -> Result<(), 
     line.push_str(&digits)
 }
 
+/// Adds how many cells there are, and what they hold together, in shannons.
+pub fn push_total(
+    alloc: Global,
+    line: &mut String,
+    count: u64,
+    capacity: u128,
+) -> Result<(), AllocError>
+    ensures { OnOk result (string_bytes line.new ≡ string_bytes line.old ++ text.total_text (count, capacity)) }
+{
+    push_number(alloc, line, count)?;
+    line.push_str(" ")?;
+    let digits = capacity.to_string(alloc)?;
+    line.push_str(&digits)
+}
+
 /// A word, a number and a hash.
 pub fn numbered_line(
     alloc: Global,

@@ -57,7 +57,7 @@ fn command_alone(name: &[u8]) -> Option<Command>
         return Some(Command::Init);
     }
     if name == b"import".as_slice() {
-        return Some(Command::Import);
+        return Some(Command::Import { watched: None });
     }
     if name == b"tip".as_slice() {
         return Some(Command::Query(Query::Tip));
@@ -100,6 +100,15 @@ fn command_with(name: &[u8], argument: &str) -> Option<Command>
     if name == b"json".as_slice() {
         return json_command(argument);
     }
+    if name == b"migrate".as_slice() {
+        return migrate_command(argument);
+    }
+    if name == b"watch".as_slice() {
+        return watch_command(argument);
+    }
+    if name == b"list".as_slice() {
+        return list_command(argument);
+    }
     None
 }
 
@@ -129,6 +138,35 @@ fn json_command(argument: &str) -> Option<Command>
 {
     let height = number_of(argument)?;
     Some(Command::Query(Query::Json { height }))
+}
+
+/// `migrate` and an epoch.
+fn migrate_command(argument: &str) -> Option<Command>
+    ensures command { result ≡ option_map (λ epoch. commands.Migrate epoch) (grammar.number_up_to grammar.number_limit argument.now) }
+    ensures within { IfSome result IsWithinLimit }
+{
+    let epoch = number_of(argument)?;
+    Some(Command::Migrate { epoch })
+}
+
+/// `watch` and the hash of a lock.
+fn watch_command(argument: &str) -> Option<Command>
+    ensures command { result ≡ option_map (λ lock. commands.Import (Some lock)) (grammar.hash_of_word argument.now) }
+    ensures within { IfSome result IsWithinLimit }
+{
+    let lock = hash_of_word(argument)?;
+    Some(Command::Import {
+        watched: Some(lock),
+    })
+}
+
+/// `list` and the hash of a lock.
+fn list_command(argument: &str) -> Option<Command>
+    ensures command { result ≡ option_map (λ lock. commands.Query (queries.Cells lock)) (grammar.hash_of_word argument.now) }
+    ensures within { IfSome result IsWithinLimit }
+{
+    let lock = hash_of_word(argument)?;
+    Some(Command::Query(Query::Cells { lock }))
 }
 
 /// The command of this name that takes two arguments.

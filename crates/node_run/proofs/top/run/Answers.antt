@@ -7,13 +7,13 @@ use Rattle.run_text.specs.Items.{Gave}
 use Rattle.outside.proofs.Endings.{no_fault}
 use Rattle.outside.proofs.Streams.{gives_none, takes_none}
 use Rattle.report_defs.specs.declared.command.Command.{Command}
-use Rattle.report_defs.specs.declared.command.Command.TheVariants.{Init, Import, Query, Question, Standalone, Simulation}
+use Rattle.report_defs.specs.declared.command.Command.TheVariants.{Init, Import, Migrate, Query, Question, Standalone, Simulation}
 use Rattle.report_defs.specs.declared.status.Status.TheVariants.{BadWords}
 use Rattle.report_defs.specs.Status.{IsOneOf}
 use Rattle.report_defs.specs.Promise.{statuses_of}
-use Rattle.report_defs.specs.Survival.{IsPromised, CallsNoDisk, OpensStore, AsksStore, KeepsRecords, items_of, as_before}
-use Rattle.node_run.proofs.Asked.{IsNotInit, IsNotImport, never_bad_words, words_are_good, query_no_input_fault, standalone_no_disk_fault, simulation_no_input_fault, simulation_no_disk_fault}
-use Rattle.node_run.proofs.RunLemmas.{import_promised, query_promised, question_promised, init_promised, standalone_promised, simulation_promised, words_promised}
+use Rattle.report_defs.specs.Survival.{IsPromised, CallsNoDisk, OpensStore, AsksStore, Imports, Migrates, KeepsRecords, MayAdd, as_before}
+use Rattle.node_run.proofs.Asked.{IsNotInit, never_bad_words, words_are_good, query_no_input_fault, migrate_no_input_fault, standalone_no_disk_fault, simulation_no_input_fault, simulation_no_disk_fault}
+use Rattle.node_run.proofs.RunLemmas.{import_promised, migrate_promised, query_promised, question_promised, init_promised, standalone_promised, simulation_promised, words_promised}
 use Rattle.node_run.proofs.top.run.Goals as goal
 
 pub returns-in-Some-Init-clause-run : goal.returns-in-Some-Init-clause-run
@@ -83,7 +83,7 @@ returns-in-Some-Import-clause-run g c =
       kept.3,
       subst (λ (o : Option Command). IsPromised o (g.D.Disk.reads_as c.args.disk.now) (g.D.Disk.images c.args.disk.now) (g.D.Disk.images c.import.new.disk)
           (g.D.Disk.left_since c.import.new.disk (g.D.Disk.moment c.args.disk.now)) (g.S.Source.left c.import.new.input) kept.0 kept.1 c.import.result) is
-          (import_promised (g.D.Disk.reads_as c.args.disk.now) (g.D.Disk.images c.args.disk.now) (g.D.Disk.images c.import.new.disk)
+          (import_promised c.in-Some-Import.watched (g.D.Disk.reads_as c.args.disk.now) (g.D.Disk.images c.args.disk.now) (g.D.Disk.images c.import.new.disk)
           (g.D.Disk.left_since c.import.new.disk (g.D.Disk.moment c.args.disk.now)) (g.S.Source.left c.import.new.input) kept.0 kept.1 c.import.result
           (g.met.D.Disk.reads_image c.args.disk.now) kept.4),
     )
@@ -91,10 +91,10 @@ returns-in-Some-Import-clause-run g c =
 pub returns-in-Some-Import-clause-words : goal.returns-in-Some-Import-clause-words
 returns-in-Some-Import-clause-words g c =
     let is = ap Some (sym c.in-Some-Import.field-0-is) ∙ c.in-Some-Import.ensures.command in
-    words_are_good _ Import c.import.result is c.import.ensures.status
+    words_are_good _ (Import c.in-Some-Import.watched) c.import.result is c.import.ensures.status
 
 pub returns-in-Some-Import-clause-silent : goal.returns-in-Some-Import-clause-silent
-returns-in-Some-Import-clause-silent g c = λ bad. absurd (never_bad_words Import c.import.result c.import.ensures.status bad)
+returns-in-Some-Import-clause-silent g c = λ bad. absurd (never_bad_words (Import c.in-Some-Import.watched) c.import.result c.import.ensures.status bad)
 
 pub returns-in-Some-Import-clause-status : goal.returns-in-Some-Import-clause-status
 returns-in-Some-Import-clause-status g c =
@@ -463,28 +463,28 @@ returns-in-None-clause-query_steps g c = λ now told query. absurd (subst AsksSt
 pub returns-in-Some-Init-clause-import_steps : goal.returns-in-Some-Init-clause-import_steps
 returns-in-Some-Init-clause-import_steps g c =
     let is = ap Some (sym c.in-Some-Init.field-0-is) ∙ c.in-Some-Init.ensures.command in
-    λ asks. absurd (subst IsNotImport (is ∙ asks) tt)
+    λ asks. absurd (subst Imports (sym is) asks)
 
 pub returns-in-Some-Query-clause-import_steps : goal.returns-in-Some-Query-clause-import_steps
 returns-in-Some-Query-clause-import_steps g c =
     let is = ap Some (sym c.in-Some-Query.field-0-is) ∙ c.in-Some-Query.ensures.command in
-    λ asks. absurd (subst IsNotImport (is ∙ asks) tt)
+    λ asks. absurd (subst Imports (sym is) asks)
 
 pub returns-in-Some-Question-clause-import_steps : goal.returns-in-Some-Question-clause-import_steps
 returns-in-Some-Question-clause-import_steps g c =
     let is = ap Some (sym c.in-Some-Question.field-0-is) ∙ c.in-Some-Question.ensures.command in
-    λ asks. absurd (subst IsNotImport (is ∙ asks) tt)
+    λ asks. absurd (subst Imports (sym is) asks)
 
 pub returns-in-Some-Standalone-clause-import_steps : goal.returns-in-Some-Standalone-clause-import_steps
 returns-in-Some-Standalone-clause-import_steps g c =
     let is = ap Some (sym c.in-Some-Standalone.field-0-is) ∙ c.in-Some-Standalone.ensures.command in
-    λ asks. absurd (subst IsNotImport (is ∙ asks) tt)
+    λ asks. absurd (subst Imports (sym is) asks)
 
 pub returns-in-Some-Import-clause-import_steps : goal.returns-in-Some-Import-clause-import_steps
 returns-in-Some-Import-clause-import_steps g c = λ _. c.import.ensures.steps
 
 pub returns-in-None-clause-import_steps : goal.returns-in-None-clause-import_steps
-returns-in-None-clause-import_steps g c = λ asks. absurd (subst IsNotImport (c.in-None.ensures.command ∙ asks) tt)
+returns-in-None-clause-import_steps g c = λ asks. absurd (subst Imports (sym c.in-None.ensures.command) asks)
 
 pub returns-in-Some-Init-clause-told : goal.returns-in-Some-Init-clause-told
 returns-in-Some-Init-clause-told g c = c.init.ensures.told
@@ -507,28 +507,28 @@ returns-in-None-clause-told g c = refl
 pub returns-in-Some-Init-clause-still : goal.returns-in-Some-Init-clause-still
 returns-in-Some-Init-clause-still g c =
     let is = ap Some (sym c.in-Some-Init.field-0-is) ∙ c.in-Some-Init.ensures.command in
-    λ asks. absurd (subst IsNotImport (is ∙ asks) tt)
+    λ asks. absurd (subst Imports (sym is) asks)
 
 pub returns-in-Some-Query-clause-still : goal.returns-in-Some-Query-clause-still
 returns-in-Some-Query-clause-still g c =
     let is = ap Some (sym c.in-Some-Query.field-0-is) ∙ c.in-Some-Query.ensures.command in
-    λ asks. absurd (subst IsNotImport (is ∙ asks) tt)
+    λ asks. absurd (subst Imports (sym is) asks)
 
 pub returns-in-Some-Question-clause-still : goal.returns-in-Some-Question-clause-still
 returns-in-Some-Question-clause-still g c =
     let is = ap Some (sym c.in-Some-Question.field-0-is) ∙ c.in-Some-Question.ensures.command in
-    λ asks. absurd (subst IsNotImport (is ∙ asks) tt)
+    λ asks. absurd (subst Imports (sym is) asks)
 
 pub returns-in-Some-Standalone-clause-still : goal.returns-in-Some-Standalone-clause-still
 returns-in-Some-Standalone-clause-still g c =
     let is = ap Some (sym c.in-Some-Standalone.field-0-is) ∙ c.in-Some-Standalone.ensures.command in
-    λ asks. absurd (subst IsNotImport (is ∙ asks) tt)
+    λ asks. absurd (subst Imports (sym is) asks)
 
 pub returns-in-Some-Import-clause-still : goal.returns-in-Some-Import-clause-still
 returns-in-Some-Import-clause-still g c = λ _. c.import.ensures.still
 
 pub returns-in-None-clause-still : goal.returns-in-None-clause-still
-returns-in-None-clause-still g c = λ asks. absurd (subst IsNotImport (c.in-None.ensures.command ∙ asks) tt)
+returns-in-None-clause-still g c = λ asks. absurd (subst Imports (sym c.in-None.ensures.command) asks)
 
 pub returns-in-Some-Init-clause-records : goal.returns-in-Some-Init-clause-records
 returns-in-Some-Init-clause-records g c =
@@ -540,7 +540,7 @@ returns-in-Some-Import-clause-records g c =
     let is = ap Some (sym c.in-Some-Import.field-0-is) ∙ c.in-Some-Import.ensures.command in
     λ _. subst (λ (o : Option Command). Gave (g.S.Source.left c.args.input.now) (g.S.Source.left c.import.new.input)
     (λ given. (now : Image) (chain : Chain) → g.D.Disk.reads_as c.args.disk.now ≡ Some now → store_of now ≡ Keeps chain
-    → KeepsRecords (items_of o given) now (g.D.Disk.images c.args.disk.now) (g.D.Disk.images c.import.new.disk) (g.D.Disk.left_since c.import.new.disk (g.D.Disk.moment c.args.disk.now)))) is
+    → KeepsRecords (MayAdd o chain given) now (g.D.Disk.images c.args.disk.now) (g.D.Disk.images c.import.new.disk) (g.D.Disk.left_since c.import.new.disk (g.D.Disk.moment c.args.disk.now)))) is
     c.import.ensures.records
 
 pub returns-in-Some-Query-clause-records : goal.returns-in-Some-Query-clause-records
@@ -548,7 +548,7 @@ returns-in-Some-Query-clause-records g c =
     let is = ap Some (sym c.in-Some-Query.field-0-is) ∙ c.in-Some-Query.ensures.command in
     λ _. subst (λ (o : Option Command). Gave (g.S.Source.left c.args.input.now) (g.S.Source.left c.args.input.now)
     (λ given. (now : Image) (chain : Chain) → g.D.Disk.reads_as c.args.disk.now ≡ Some now → store_of now ≡ Keeps chain
-    → KeepsRecords (items_of o given) now (g.D.Disk.images c.args.disk.now) (g.D.Disk.images c.query.new.disk) (g.D.Disk.left_since c.query.new.disk (g.D.Disk.moment c.args.disk.now)))) is
+    → KeepsRecords (MayAdd o chain given) now (g.D.Disk.images c.args.disk.now) (g.D.Disk.images c.query.new.disk) (g.D.Disk.left_since c.query.new.disk (g.D.Disk.moment c.args.disk.now)))) is
     ([], gives_none (g.S.Source.left c.args.input.now), c.query.ensures.records)
 
 pub returns-in-Some-Question-clause-records : goal.returns-in-Some-Question-clause-records
@@ -556,7 +556,7 @@ returns-in-Some-Question-clause-records g c =
     let is = ap Some (sym c.in-Some-Question.field-0-is) ∙ c.in-Some-Question.ensures.command in
     λ _. subst (λ (o : Option Command). Gave (g.S.Source.left c.args.input.now) (g.S.Source.left c.question.new.input)
     (λ given. (now : Image) (chain : Chain) → g.D.Disk.reads_as c.args.disk.now ≡ Some now → store_of now ≡ Keeps chain
-    → KeepsRecords (items_of o given) now (g.D.Disk.images c.args.disk.now) (g.D.Disk.images c.question.new.disk) (g.D.Disk.left_since c.question.new.disk (g.D.Disk.moment c.args.disk.now)))) is
+    → KeepsRecords (MayAdd o chain given) now (g.D.Disk.images c.args.disk.now) (g.D.Disk.images c.question.new.disk) (g.D.Disk.left_since c.question.new.disk (g.D.Disk.moment c.args.disk.now)))) is
     (let answered = c.question.ensures.question in (answered.0, answered.2, c.question.ensures.records))
 
 pub returns-in-Some-Standalone-clause-records : goal.returns-in-Some-Standalone-clause-records
@@ -566,3 +566,156 @@ returns-in-Some-Standalone-clause-records g c =
 
 pub returns-in-None-clause-records : goal.returns-in-None-clause-records
 returns-in-None-clause-records g c = λ opens. absurd (subst OpensStore (sym c.in-None.ensures.command) opens)
+
+pub returns-in-Some-Migrate-clause-run : goal.returns-in-Some-Migrate-clause-run
+returns-in-Some-Migrate-clause-run g c =
+    let is = ap Some (sym c.in-Some-Migrate.field-0-is) ∙ c.in-Some-Migrate.ensures.command in
+    let told = c.migrate.ensures.migration in (
+      [],
+      told.0,
+      gives_none (g.S.Source.left c.args.input.now),
+      told.1,
+      subst (λ (o : Option Command). IsPromised o (g.D.Disk.reads_as c.args.disk.now) (g.D.Disk.images c.args.disk.now) (g.D.Disk.images c.migrate.new.disk)
+          (g.D.Disk.left_since c.migrate.new.disk (g.D.Disk.moment c.args.disk.now)) (g.S.Source.left c.args.input.now) [] told.0 c.migrate.result) is
+          (migrate_promised c.in-Some-Migrate.epoch (g.D.Disk.reads_as c.args.disk.now) (g.D.Disk.images c.args.disk.now) (g.D.Disk.images c.migrate.new.disk)
+          (g.D.Disk.left_since c.migrate.new.disk (g.D.Disk.moment c.args.disk.now)) (g.S.Source.left c.args.input.now) told.0 c.migrate.result
+          (g.met.D.Disk.reads_image c.args.disk.now) (told.2 (g.S.Source.left c.args.input.now))),
+    )
+
+pub returns-in-Some-Migrate-clause-words : goal.returns-in-Some-Migrate-clause-words
+returns-in-Some-Migrate-clause-words g c =
+    let is = ap Some (sym c.in-Some-Migrate.field-0-is) ∙ c.in-Some-Migrate.ensures.command in
+    words_are_good _ (Migrate c.in-Some-Migrate.epoch) c.migrate.result is c.migrate.ensures.status
+
+pub returns-in-Some-Migrate-clause-silent : goal.returns-in-Some-Migrate-clause-silent
+returns-in-Some-Migrate-clause-silent g c = λ bad. absurd (never_bad_words (Migrate c.in-Some-Migrate.epoch) c.migrate.result c.migrate.ensures.status bad)
+
+pub returns-in-Some-Migrate-clause-status : goal.returns-in-Some-Migrate-clause-status
+returns-in-Some-Migrate-clause-status g c =
+    let is = ap Some (sym c.in-Some-Migrate.field-0-is) ∙ c.in-Some-Migrate.ensures.command in
+    subst (λ (o : Option Command). IsOneOf (statuses_of o) c.migrate.result) is c.migrate.ensures.status
+
+pub returns-in-Some-Migrate-clause-input_faults : goal.returns-in-Some-Migrate-clause-input_faults
+returns-in-Some-Migrate-clause-input_faults g c = no_fault _ _ refl (migrate_no_input_fault c.migrate.result c.migrate.ensures.status)
+
+pub returns-in-Some-Migrate-clause-out_faults : goal.returns-in-Some-Migrate-clause-out_faults
+returns-in-Some-Migrate-clause-out_faults g c = c.migrate.ensures.out_faults
+
+pub returns-in-Some-Migrate-clause-disk_faults : goal.returns-in-Some-Migrate-clause-disk_faults
+returns-in-Some-Migrate-clause-disk_faults g c = c.migrate.ensures.disk_faults
+
+pub returns-in-Some-Migrate-clause-uncalled : goal.returns-in-Some-Migrate-clause-uncalled
+returns-in-Some-Migrate-clause-uncalled g c =
+    let is = ap Some (sym c.in-Some-Migrate.field-0-is) ∙ c.in-Some-Migrate.ensures.command in
+    λ uncalled. absurd (subst CallsNoDisk (sym is) uncalled)
+
+pub returns-in-Some-Migrate-clause-as_before : goal.returns-in-Some-Migrate-clause-as_before
+returns-in-Some-Migrate-clause-as_before g c =
+    let is = ap Some (sym c.in-Some-Migrate.field-0-is) ∙ c.in-Some-Migrate.ensures.command in
+    λ told. absurd (subst (λ (o : Option Command). IsOneOf (as_before o) c.migrate.result) (sym is) told)
+
+pub returns-in-Some-Migrate-clause-log_there : goal.returns-in-Some-Migrate-clause-log_there
+returns-in-Some-Migrate-clause-log_there g c =
+    let is = ap Some (sym c.in-Some-Migrate.field-0-is) ∙ c.in-Some-Migrate.ensures.command in
+    λ now told other init. absurd (subst IsNotInit (is ∙ init) tt)
+
+pub returns-in-Some-Migrate-clause-loses_nothing : goal.returns-in-Some-Migrate-clause-loses_nothing
+returns-in-Some-Migrate-clause-loses_nothing g c = λ now told none opens. c.migrate.ensures.no_log now told none
+
+pub returns-in-Some-Migrate-clause-steps : goal.returns-in-Some-Migrate-clause-steps
+returns-in-Some-Migrate-clause-steps g c =
+    let is = ap Some (sym c.in-Some-Migrate.field-0-is) ∙ c.in-Some-Migrate.ensures.command in
+    λ never. absurd (never (subst OpensStore is tt))
+
+pub returns-in-Some-Migrate-clause-rests : goal.returns-in-Some-Migrate-clause-rests
+returns-in-Some-Migrate-clause-rests g c =
+    let is = ap Some (sym c.in-Some-Migrate.field-0-is) ∙ c.in-Some-Migrate.ensures.command in
+    λ now told closed query. absurd (subst AsksStore (sym is) query)
+
+pub returns-in-Some-Migrate-clause-query_steps : goal.returns-in-Some-Migrate-clause-query_steps
+returns-in-Some-Migrate-clause-query_steps g c =
+    let is = ap Some (sym c.in-Some-Migrate.field-0-is) ∙ c.in-Some-Migrate.ensures.command in
+    λ now told query. absurd (subst AsksStore (sym is) query)
+
+pub returns-in-Some-Migrate-clause-import_steps : goal.returns-in-Some-Migrate-clause-import_steps
+returns-in-Some-Migrate-clause-import_steps g c =
+    let is = ap Some (sym c.in-Some-Migrate.field-0-is) ∙ c.in-Some-Migrate.ensures.command in
+    λ asks. absurd (subst Imports (sym is) asks)
+
+pub returns-in-Some-Migrate-clause-told : goal.returns-in-Some-Migrate-clause-told
+returns-in-Some-Migrate-clause-told g c = c.migrate.ensures.told
+
+pub returns-in-Some-Migrate-clause-still : goal.returns-in-Some-Migrate-clause-still
+returns-in-Some-Migrate-clause-still g c =
+    let is = ap Some (sym c.in-Some-Migrate.field-0-is) ∙ c.in-Some-Migrate.ensures.command in
+    λ asks. absurd (subst Imports (sym is) asks)
+
+pub returns-in-Some-Migrate-clause-records : goal.returns-in-Some-Migrate-clause-records
+returns-in-Some-Migrate-clause-records g c =
+    let is = ap Some (sym c.in-Some-Migrate.field-0-is) ∙ c.in-Some-Migrate.ensures.command in
+    λ _. subst (λ (o : Option Command). Gave (g.S.Source.left c.args.input.now) (g.S.Source.left c.args.input.now)
+    (λ given. (now : Image) (chain : Chain) → g.D.Disk.reads_as c.args.disk.now ≡ Some now → store_of now ≡ Keeps chain
+    → KeepsRecords (MayAdd o chain given) now (g.D.Disk.images c.args.disk.now) (g.D.Disk.images c.migrate.new.disk) (g.D.Disk.left_since c.migrate.new.disk (g.D.Disk.moment c.args.disk.now)))) is
+    ([], gives_none (g.S.Source.left c.args.input.now), c.migrate.ensures.records)
+
+pub returns-in-Some-Init-clause-migrate_steps : goal.returns-in-Some-Init-clause-migrate_steps
+returns-in-Some-Init-clause-migrate_steps g c =
+    let is = ap Some (sym c.in-Some-Init.field-0-is) ∙ c.in-Some-Init.ensures.command in
+    λ now told migrates. absurd (subst Migrates (sym is) migrates)
+
+pub returns-in-Some-Import-clause-migrate_steps : goal.returns-in-Some-Import-clause-migrate_steps
+returns-in-Some-Import-clause-migrate_steps g c =
+    let is = ap Some (sym c.in-Some-Import.field-0-is) ∙ c.in-Some-Import.ensures.command in
+    λ now told migrates. absurd (subst Migrates (sym is) migrates)
+
+pub returns-in-Some-Query-clause-migrate_steps : goal.returns-in-Some-Query-clause-migrate_steps
+returns-in-Some-Query-clause-migrate_steps g c =
+    let is = ap Some (sym c.in-Some-Query.field-0-is) ∙ c.in-Some-Query.ensures.command in
+    λ now told migrates. absurd (subst Migrates (sym is) migrates)
+
+pub returns-in-Some-Question-clause-migrate_steps : goal.returns-in-Some-Question-clause-migrate_steps
+returns-in-Some-Question-clause-migrate_steps g c =
+    let is = ap Some (sym c.in-Some-Question.field-0-is) ∙ c.in-Some-Question.ensures.command in
+    λ now told migrates. absurd (subst Migrates (sym is) migrates)
+
+pub returns-in-Some-Standalone-clause-migrate_steps : goal.returns-in-Some-Standalone-clause-migrate_steps
+returns-in-Some-Standalone-clause-migrate_steps g c =
+    let is = ap Some (sym c.in-Some-Standalone.field-0-is) ∙ c.in-Some-Standalone.ensures.command in
+    λ now told migrates. absurd (subst Migrates (sym is) migrates)
+
+pub returns-in-Some-Migrate-clause-migrate_steps : goal.returns-in-Some-Migrate-clause-migrate_steps
+returns-in-Some-Migrate-clause-migrate_steps g c = λ now told _. c.migrate.ensures.most now told
+
+pub returns-in-None-clause-migrate_steps : goal.returns-in-None-clause-migrate_steps
+returns-in-None-clause-migrate_steps g c = λ now told migrates. absurd (subst Migrates (sym c.in-None.ensures.command) migrates)
+
+pub returns-in-Some-Init-clause-refused_rests : goal.returns-in-Some-Init-clause-refused_rests
+returns-in-Some-Init-clause-refused_rests g c =
+    let is = ap Some (sym c.in-Some-Init.field-0-is) ∙ c.in-Some-Init.ensures.command in
+    λ now told closed migrates. absurd (subst Migrates (sym is) migrates)
+
+pub returns-in-Some-Import-clause-refused_rests : goal.returns-in-Some-Import-clause-refused_rests
+returns-in-Some-Import-clause-refused_rests g c =
+    let is = ap Some (sym c.in-Some-Import.field-0-is) ∙ c.in-Some-Import.ensures.command in
+    λ now told closed migrates. absurd (subst Migrates (sym is) migrates)
+
+pub returns-in-Some-Query-clause-refused_rests : goal.returns-in-Some-Query-clause-refused_rests
+returns-in-Some-Query-clause-refused_rests g c =
+    let is = ap Some (sym c.in-Some-Query.field-0-is) ∙ c.in-Some-Query.ensures.command in
+    λ now told closed migrates. absurd (subst Migrates (sym is) migrates)
+
+pub returns-in-Some-Question-clause-refused_rests : goal.returns-in-Some-Question-clause-refused_rests
+returns-in-Some-Question-clause-refused_rests g c =
+    let is = ap Some (sym c.in-Some-Question.field-0-is) ∙ c.in-Some-Question.ensures.command in
+    λ now told closed migrates. absurd (subst Migrates (sym is) migrates)
+
+pub returns-in-Some-Standalone-clause-refused_rests : goal.returns-in-Some-Standalone-clause-refused_rests
+returns-in-Some-Standalone-clause-refused_rests g c =
+    let is = ap Some (sym c.in-Some-Standalone.field-0-is) ∙ c.in-Some-Standalone.ensures.command in
+    λ now told closed migrates. absurd (subst Migrates (sym is) migrates)
+
+pub returns-in-Some-Migrate-clause-refused_rests : goal.returns-in-Some-Migrate-clause-refused_rests
+returns-in-Some-Migrate-clause-refused_rests g c = λ now told closed _ refused. c.migrate.ensures.rests now told closed refused
+
+pub returns-in-None-clause-refused_rests : goal.returns-in-None-clause-refused_rests
+returns-in-None-clause-refused_rests g c = λ now told closed migrates. absurd (subst Migrates (sym c.in-None.ensures.command) migrates)

@@ -4,6 +4,7 @@ use Rattle.std.specs.Prelude.{Err, string_bytes, if◌then◌else◌}
 use Rattle.outside.proofs.Endings.{counts-as, no_fault, no_answer}
 use Rattle.outside.proofs.Streams.{gives_none, takes_none, takes_more}
 use Rattle.report_defs.specs.declared.command.Command.TheVariants.{Import}
+use Rattle.report_defs.specs.Survival.{AreOfSome}
 use Rattle.report_defs.specs.declared.status.Status.{Status}
 use Rattle.report_defs.specs.declared.status.Status.TheVariants.{Done, SomeRefused, NoMemory}
 use Rattle.report_defs.specs.Items.{split_of}
@@ -21,7 +22,7 @@ use Rattle.run_text.proofs.Statuses.{opening_no_input, opening_no_sink}
 use Rattle.run_text.proofs.Exits.{same_stop}
 use Rattle.disk_defs.specs.Log.{records_of}
 use Rattle.disk_defs.specs.Rest.{IsSettled}
-use Rattle.run_store.proofs.RecordLemmas.{opening_keeps}
+use Rattle.run_store.proofs.RecordLemmas.{none_of, opening_keeps}
 use Rattle.run_import.proofs.RecordLemmas.{imported_keeps}
 use Rattle.run_import.proofs.CountLemmas.{counted_over, opened_over, none_over}
 use Rattle.run_import.proofs.importing.import.Goals as goal
@@ -35,10 +36,10 @@ returns-in-Err-clause-import g c = (
   let left = g.S.Source.left c.args.input.now in
       let status = c.in-Err.status in
       let one = c.in-Err.ensures.one_of status refl in
-      unopened Import (g.D.Disk.reads_as c.args.disk.now) (g.D.Disk.images c.args.disk.now) (g.D.Disk.images c.open.new.disk)
+      unopened (Import c.args.watched) (g.D.Disk.reads_as c.args.disk.now) (g.D.Disk.images c.args.disk.now) (g.D.Disk.images c.open.new.disk)
       (g.D.Disk.left_since c.open.new.disk (g.D.Disk.moment c.args.disk.now)) left status (λ store found. found) one (λ e. c.in-Err.ensures.not_a_store (ap Err e)) (λ input. refl) (λ input. refl)
-      (λ none. none) (λ none. none) (λ chain stop. stopped_at_once chain left status stop)
-      (λ now told chain keeps sound. keeps_unopened g.D.Disk.images g.D.Disk.moment g.D.Disk.left_since g.met.D.Disk.counts_now c.args.disk.now c.open.new.disk chain
+      (λ none. none) (λ none. none) (λ chain stop. stopped_at_once c.args.watched chain left status stop)
+      (λ now told chain keeps sound. keeps_unopened g.D.Disk.images g.D.Disk.moment g.D.Disk.left_since g.met.D.Disk.counts_now c.args.watched c.args.disk.now c.open.new.disk chain
       (split_of import_limits []).items status
       (by_disk_or_memory status one (sound_opening (g.D.Disk.reads_as c.args.disk.now) status now (λ e. c.in-Err.ensures.not_a_store (ap Err e)) told
       (sound_here (g.D.Disk.reads_as c.args.disk.now) (g.D.Disk.images c.args.disk.now) now (g.met.D.Disk.reads_image c.args.disk.now) told sound)))
@@ -55,19 +56,19 @@ returns-in-Err-import_items-clause-import g c =
       came.1,
       came.2,
       came.3,
-      delivers_over (IsSoundOn c.in-Ok.node (g.D.Disk.reads_as c.open.new.disk)) Import reads chain (g.D.Disk.images c.args.disk.now) (g.D.Disk.images c.import_items.new.disk)
+      delivers_over (IsSoundOn c.in-Ok.node (g.D.Disk.reads_as c.open.new.disk)) (Import c.args.watched) reads chain (g.D.Disk.images c.args.disk.now) (g.D.Disk.images c.import_items.new.disk)
           (g.D.Disk.left_since c.import_items.new.disk (g.D.Disk.moment c.args.disk.now)) (g.S.Source.left c.import_items.new.input) came.0 came.1 status (λ store found. found) c.in-Ok.ensures.kept
           (λ store found. found_sound c.in-Ok.node reads (g.D.Disk.reads_as c.open.new.disk) store c.in-Ok.ensures.kept c.in-Ok.ensures.told c.in-Ok.ensures.sound found)
-          (report_on chain) (λ whole. refl)
-          (λ sound. let are = came.4 sound in stopped_import chain are.items are.before are.rest came.0 came.1 (g.S.Source.left c.import_items.new.input) status are.are_given are.came)
-          (keeps_opened reads chain (split_of import_limits came.0).items (g.D.Disk.images c.args.disk.now) (g.D.Disk.images c.import_items.new.disk)
+          (report_on c.args.watched chain) (λ whole. refl)
+          (λ sound. let are = came.4 sound in stopped_import c.args.watched chain are.items are.before are.rest came.0 came.1 (g.S.Source.left c.import_items.new.input) status are.are_given are.came)
+          (keeps_opened c.args.watched reads chain (split_of import_limits came.0).items (g.D.Disk.images c.args.disk.now) (g.D.Disk.images c.import_items.new.disk)
           (g.D.Disk.left_since c.import_items.new.disk (g.D.Disk.moment c.args.disk.now)) came.1 status c.in-Ok.ensures.kept
           (λ now told keeps sound.
           let on = if_told reads (λ _. IsOn c.in-Ok.node (g.D.Disk.reads_as c.open.new.disk) (g.D.Disk.images c.open.new.disk)) now (c.in-Ok.ensures.on sound) told in
           let are = came.4 (sound_on c.in-Ok.node (g.D.Disk.reads_as c.open.new.disk) (g.D.Disk.images c.open.new.disk) on) in
-          keeps_given g.D.Disk.images g.D.Disk.moment g.D.Disk.left_since g.met.D.Disk.counts_now c.args.disk.now c.open.new.disk c.import_items.new.disk chain
+          keeps_given g.D.Disk.images g.D.Disk.moment g.D.Disk.left_since g.met.D.Disk.counts_now c.args.watched c.args.disk.now c.open.new.disk c.import_items.new.disk chain
           are.items are.before are.rest came.0 came.1 status are.are_given
-          (stopped_acknowledges chain status are.items are.before are.rest came.1 are.came) (stopped_take chain status are.items are.before are.rest came.1 are.came)
+          (stopped_acknowledges c.args.watched chain status are.items are.before are.rest came.1 are.came) (stopped_take c.args.watched chain status are.items are.before are.rest came.1 are.came)
           (c.in-Ok.ensures.moments now chain told keeps sound) (are.exit on) (are.moments on))),
     )
 
@@ -81,19 +82,19 @@ returns-in-Err-answer_to_end-clause-import g c =
       came.1,
       came.2,
       came.3,
-      delivers_over (IsSoundOn c.in-Ok.node (g.D.Disk.reads_as c.open.new.disk)) Import reads chain (g.D.Disk.images c.args.disk.now) (g.D.Disk.images c.import_items.new.disk)
+      delivers_over (IsSoundOn c.in-Ok.node (g.D.Disk.reads_as c.open.new.disk)) (Import c.args.watched) reads chain (g.D.Disk.images c.args.disk.now) (g.D.Disk.images c.import_items.new.disk)
           (g.D.Disk.left_since c.import_items.new.disk (g.D.Disk.moment c.args.disk.now)) left came.0 came.1 NoMemory (λ store found. found) c.in-Ok.ensures.kept
           (λ store found. found_sound c.in-Ok.node reads (g.D.Disk.reads_as c.open.new.disk) store c.in-Ok.ensures.kept c.in-Ok.ensures.told c.in-Ok.ensures.sound found)
-          (report_on chain) (λ whole. refl)
-          (λ sound. let are = came.4 sound in stopped_import chain are.items are.items are.rest came.0 came.1 left NoMemory are.are_given
-          (stopped_behind chain left c.in-Ok-import_items.ended are.items are.rest came.0 came.1 are.are_given are.came.1 NoMemory tt))
-          (keeps_opened reads chain (split_of import_limits came.0).items (g.D.Disk.images c.args.disk.now) (g.D.Disk.images c.import_items.new.disk)
+          (report_on c.args.watched chain) (λ whole. refl)
+          (λ sound. let are = came.4 sound in stopped_import c.args.watched chain are.items are.items are.rest came.0 came.1 left NoMemory are.are_given
+          (stopped_behind c.args.watched chain left c.in-Ok-import_items.ended are.items are.rest came.0 came.1 are.are_given are.came.1 NoMemory tt))
+          (keeps_opened c.args.watched reads chain (split_of import_limits came.0).items (g.D.Disk.images c.args.disk.now) (g.D.Disk.images c.import_items.new.disk)
           (g.D.Disk.left_since c.import_items.new.disk (g.D.Disk.moment c.args.disk.now)) came.1 NoMemory c.in-Ok.ensures.kept
           (λ now told keeps sound.
           let on = if_told reads (λ _. IsOn c.in-Ok.node (g.D.Disk.reads_as c.open.new.disk) (g.D.Disk.images c.open.new.disk)) now (c.in-Ok.ensures.on sound) told in
           let are = came.4 (sound_on c.in-Ok.node (g.D.Disk.reads_as c.open.new.disk) (g.D.Disk.images c.open.new.disk) on) in
-          keeps_all_given g.D.Disk.images g.D.Disk.moment g.D.Disk.left_since g.met.D.Disk.counts_now c.args.disk.now c.open.new.disk c.import_items.new.disk chain
-          are.items are.before are.rest came.0 came.1 NoMemory are.are_given are.came.0 [] (are.came.1.lines ∙ sym (append-nil (text_over chain are.items)))
+          keeps_all_given g.D.Disk.images g.D.Disk.moment g.D.Disk.left_since g.met.D.Disk.counts_now c.args.watched c.args.disk.now c.open.new.disk c.import_items.new.disk chain
+          are.items are.before are.rest came.0 came.1 NoMemory are.are_given are.came.0 [] (are.came.1.lines ∙ sym (append-nil (text_over c.args.watched chain are.items)))
           (c.in-Ok.ensures.moments now chain told keeps sound) (are.exit on) (are.moments on))),
     )
 
@@ -113,17 +114,17 @@ returns-clause-import g c =
       came.1 ++ told.0,
       came.2,
       takes_more (g.K.Sink.taken c.args.out.now) (g.K.Sink.taken c.import_items.new.out) (g.K.Sink.taken c.write_answer.new.out) came.1 told.0 came.3 told.1,
-      delivers_over (IsSoundOn c.in-Ok.node (g.D.Disk.reads_as c.open.new.disk)) Import reads chain (g.D.Disk.images c.args.disk.now) (g.D.Disk.images c.import_items.new.disk)
+      delivers_over (IsSoundOn c.in-Ok.node (g.D.Disk.reads_as c.open.new.disk)) (Import c.args.watched) reads chain (g.D.Disk.images c.args.disk.now) (g.D.Disk.images c.import_items.new.disk)
           (g.D.Disk.left_since c.import_items.new.disk (g.D.Disk.moment c.args.disk.now)) left came.0 (came.1 ++ told.0) c.write_answer.result (λ store found. found) c.in-Ok.ensures.kept
           (λ store found. found_sound c.in-Ok.node reads (g.D.Disk.reads_as c.open.new.disk) store c.in-Ok.ensures.kept c.in-Ok.ensures.told c.in-Ok.ensures.sound found)
-          (report_on chain) (λ whole. refl)
-          (λ sound. let are = came.4 sound in ended_import chain left ended are.items are.rest came.0 came.1 are.are_given are.came.1 told.0 c.write_answer.result last)
-          (keeps_opened reads chain (split_of import_limits came.0).items (g.D.Disk.images c.args.disk.now) (g.D.Disk.images c.import_items.new.disk)
+          (report_on c.args.watched chain) (λ whole. refl)
+          (λ sound. let are = came.4 sound in ended_import c.args.watched chain left ended are.items are.rest came.0 came.1 are.are_given are.came.1 told.0 c.write_answer.result last)
+          (keeps_opened c.args.watched reads chain (split_of import_limits came.0).items (g.D.Disk.images c.args.disk.now) (g.D.Disk.images c.import_items.new.disk)
           (g.D.Disk.left_since c.import_items.new.disk (g.D.Disk.moment c.args.disk.now)) (came.1 ++ told.0) c.write_answer.result c.in-Ok.ensures.kept
           (λ now known keeps sound.
           let on = if_told reads (λ _. IsOn c.in-Ok.node (g.D.Disk.reads_as c.open.new.disk) (g.D.Disk.images c.open.new.disk)) now (c.in-Ok.ensures.on sound) known in
           let are = came.4 (sound_on c.in-Ok.node (g.D.Disk.reads_as c.open.new.disk) (g.D.Disk.images c.open.new.disk) on) in
-          keeps_all_given g.D.Disk.images g.D.Disk.moment g.D.Disk.left_since g.met.D.Disk.counts_now c.args.disk.now c.open.new.disk c.import_items.new.disk chain
+          keeps_all_given g.D.Disk.images g.D.Disk.moment g.D.Disk.left_since g.met.D.Disk.counts_now c.args.watched c.args.disk.now c.open.new.disk c.import_items.new.disk chain
           are.items are.before are.rest came.0 (came.1 ++ told.0) c.write_answer.result are.are_given are.came.0 told.0 (ap (λ bs. bs ++ told.0) are.came.1.lines)
           (c.in-Ok.ensures.moments now chain known keeps sound) (are.exit on) (are.moments on))),
     )
@@ -298,7 +299,7 @@ returns-in-Err-clause-records g c = (
   [],
   gives_none (g.S.Source.left c.args.input.now),
   λ now chain told keeps.
-      opening_keeps g.D.Disk.images g.D.Disk.moment g.D.Disk.left_since g.met.D.Disk.counts_now c.args.disk.now c.open.new.disk (split_of import_limits []).items now chain keeps
+      opening_keeps g.D.Disk.images g.D.Disk.moment g.D.Disk.left_since g.met.D.Disk.counts_now c.args.disk.now c.open.new.disk (AreOfSome (split_of import_limits []).items) now chain (none_of (split_of import_limits []).items) keeps
       (c.in-Err.ensures.left.keeps now told),
 )
 

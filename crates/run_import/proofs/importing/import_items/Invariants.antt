@@ -5,14 +5,15 @@ use Rattle.disk_defs.specs.Rest.{IsSettled}
 use Rattle.report_defs.specs.Report.{input_limit}
 use Rattle.report_defs.specs.Survival.{NoneJoins}
 use Rattle.node_store.specs.Node.{IsItsOwn, IsSoundOn, IsOn}
+use Rattle.run_import.specs.Watching.{IsSoundWatching}
 use Rattle.run_import.proofs.ImportLemmas.{Whole}
 use Rattle.run_import.proofs.RecordLemmas.{HasGrown}
 use Rattle.run_import.proofs.importing.import_items.Given as goal
 
 abbrev pub invariant-items : goal.invariant-items
 invariant-items g l = record {
-  whole : (w : Whole l.fn.opened.chain l.offset (g.S.Source.left l.fn.input) (g.S.Source.left l.input) (g.K.Sink.taken l.fn.out) (g.K.Sink.taken l.out) l.node.chain l.refused
-      (IsSoundOn l.fn.opened (g.D.Disk.reads_as l.fn.disk)) (IsSoundOn l.node (g.D.Disk.reads_as l.disk))
+  whole : (w : Whole l.fn.watched l.fn.opened.chain l.offset (g.S.Source.left l.fn.input) (g.S.Source.left l.input) (g.K.Sink.taken l.fn.out) (g.K.Sink.taken l.out) l.node.chain l.refused
+      (IsSoundOn l.fn.opened (g.D.Disk.reads_as l.fn.disk)) (IsSoundWatching l.fn.watched l.node l.watch (g.D.Disk.reads_as l.disk))
       (IsOn l.fn.opened (g.D.Disk.reads_as l.fn.disk) (g.D.Disk.images l.fn.disk)) (IsOn l.node (g.D.Disk.reads_as l.disk) (g.D.Disk.images l.disk))
       (LeavesOnly g.D.Disk.moment g.D.Disk.left_since l.fn.disk l.disk) l.fn.steps l.steps)
       × (IsSoundOn l.fn.opened (g.D.Disk.reads_as l.fn.disk) → NoneJoins l.fn.opened.chain w.items → g.D.Disk.content_of l.disk ≡ g.D.Disk.content_of l.fn.disk)

@@ -1,5 +1,5 @@
-use Rattle.std.proofs.Common.{[], refl, ap}
-use Rattle.std.specs.Prelude.{Err}
+use Rattle.std.proofs.Common.{◌≡◌, [], refl, ap}
+use Rattle.std.specs.Prelude.{None, Err}
 use Rattle.outside.proofs.Endings.{no_fault, counts-as, no_answer, after_still}
 use Rattle.outside.proofs.Streams.{takes_none}
 use Rattle.report_defs.specs.declared.command.Command.TheVariants.{Query}
@@ -25,7 +25,7 @@ returns-in-Err-clause-query g c = (
       unopened (Query c.args.asked) (g.D.Disk.reads_as c.args.disk.now) (g.D.Disk.images c.args.disk.now) (g.D.Disk.images c.open.new.disk)
       (g.D.Disk.left_since c.open.new.disk (g.D.Disk.moment c.args.disk.now)) left c.in-Err.status (λ store found. found) one (λ e. c.in-Err.ensures.not_a_store (ap Err e)) (λ input. refl) (λ input. refl)
       (λ none. none) (λ none. none) (λ chain stop. record { unread = refl; silent = λ early. refl })
-      (λ now told chain keeps sound. keeps_unopened g.D.Disk.images g.D.Disk.moment g.D.Disk.left_since g.met.D.Disk.counts_now c.args.disk.now c.open.new.disk chain [] c.in-Err.status
+      (λ now told chain keeps sound. keeps_unopened g.D.Disk.images g.D.Disk.moment g.D.Disk.left_since g.met.D.Disk.counts_now None c.args.disk.now c.open.new.disk chain [] c.in-Err.status
       (by_disk_or_memory c.in-Err.status one (sound_opening (g.D.Disk.reads_as c.args.disk.now) c.in-Err.status now (λ e. c.in-Err.ensures.not_a_store (ap Err e)) told
       (sound_here (g.D.Disk.reads_as c.args.disk.now) (g.D.Disk.images c.args.disk.now) now (g.met.D.Disk.reads_image c.args.disk.now) told sound)))
       (c.in-Err.ensures.moments now chain told keeps sound)),
@@ -36,7 +36,7 @@ returns-in-Err-clause-status g c = query_opening c.in-Err.status (c.in-Err.ensur
 
 pub returns-in-Err-clause-records : goal.returns-in-Err-clause-records
 returns-in-Err-clause-records g c = λ now chain told keeps.
-    opening_keeps g.D.Disk.images g.D.Disk.moment g.D.Disk.left_since g.met.D.Disk.counts_now c.args.disk.now c.open.new.disk [] now chain keeps (c.in-Err.ensures.left.keeps now told)
+    opening_keeps g.D.Disk.images g.D.Disk.moment g.D.Disk.left_since g.met.D.Disk.counts_now c.args.disk.now c.open.new.disk (λ records. records ≡ []) now chain refl keeps (c.in-Err.ensures.left.keeps now told)
 
 pub returns-in-Err-clause-told : goal.returns-in-Err-clause-told
 returns-in-Err-clause-told g c = c.in-Err.ensures.told
@@ -80,7 +80,7 @@ returns-clause-status g c = c.find_and_answer-status.ensures.status
 
 pub returns-clause-records : goal.returns-clause-records
 returns-clause-records g c = λ now chain told keeps.
-    opening_keeps g.D.Disk.images g.D.Disk.moment g.D.Disk.left_since g.met.D.Disk.counts_now c.args.disk.now c.find_and_answer-status.new.disk [] now chain keeps
+    opening_keeps g.D.Disk.images g.D.Disk.moment g.D.Disk.left_since g.met.D.Disk.counts_now c.args.disk.now c.find_and_answer-status.new.disk (λ records. records ≡ []) now chain refl keeps
     (leaves_looked g.D.Disk.content_of g.D.Disk.reads_as g.D.Disk.images g.D.Disk.moment g.D.Disk.left_since g.met.D.Disk.content_rests g.met.D.Disk.counts_now
     c.args.disk.now c.open.new.disk c.find_and_answer-status.new.disk _ (c.in-Ok.ensures.left.keeps now told) c.find_and_answer-status.ensures.disk.content)
 

@@ -1,6 +1,7 @@
 use Rattle.std.proofs.Common.{ap, sym, ◌∙◌}
 use Rattle.std.specs.Prelude.{Some, None, Err}
 use Rattle.outside.proofs.Endings.{no_answer}
+use Rattle.block_judge.specs.Stops.{stop_in}
 use Rattle.block_judge.specs.declared.stop.JudgeStop.TheVariants.{Read}
 use Rattle.verdict_defs.specs.declared.trial.Trial.TheVariants.{Refused}
 use Rattle.run_text.proofs.Exits.{same_stop}
@@ -28,7 +29,7 @@ returns-in-Ok-clause-trial g c = λ sound.
 -- ---- It is refused
 
 pub returns-in-Err-Broken-clause-disk : goal.returns-in-Err-Broken-clause-disk
-returns-in-Err-Broken-clause-disk g c = looks_judged c.in-Err-Broken.ensures.left c.in-Err-Broken.field-0-is (no_answer _ _)
+returns-in-Err-Broken-clause-disk g c = looks_judged c.in-Err-Broken.ensures.left (ap stop_in c.in-Err-Broken.field-0-is) (no_answer _ _)
 
 pub returns-in-Err-Broken-clause-trial : goal.returns-in-Err-Broken-clause-trial
 returns-in-Err-Broken-clause-trial g c = λ sound.
@@ -39,7 +40,8 @@ returns-in-Err-Broken-clause-trial g c = λ sound.
 
 pub returns-in-Err-Read-clause-disk : goal.returns-in-Err-Read-clause-disk
 returns-in-Err-Read-clause-disk g c =
-    looks_stopped_judging c.in-Err-Read.stop c.status_of_reading.result c.in-Err-Read.ensures.left c.in-Err-Read.field-0-is c.status_of_reading.ensures.fault
+    looks_stopped_judging c.in-Err-Read.stop c.status_of_reading.result c.in-Err-Read.ensures.left (ap stop_in c.in-Err-Read.field-0-is)
+    c.status_of_reading.ensures.fault
 
 pub returns-in-Err-Read-clause-sound : goal.returns-in-Err-Read-clause-sound
 returns-in-Err-Read-clause-sound g c = λ sound is.

@@ -1,4 +1,4 @@
-use Rattle.std.proofs.Common.{[], ap, refl}
+use Rattle.std.proofs.Common.{◌≡◌, [], ap, refl}
 use Rattle.std.specs.Prelude.{Err}
 use Rattle.outside.proofs.Endings.{no_answer, after_still}
 use Rattle.outside.proofs.Streams.{gives_none, takes_none}
@@ -62,10 +62,10 @@ returns-clause-told g c =
 
 pub returns-in-Err-clause-records : goal.returns-in-Err-clause-records
 returns-in-Err-clause-records g c = λ now chain told keeps.
-    opening_keeps g.D.Disk.images g.D.Disk.moment g.D.Disk.left_since g.met.D.Disk.counts_now c.args.disk.now c.open.new.disk [] now chain keeps (c.in-Err.ensures.left.keeps now told)
+    opening_keeps g.D.Disk.images g.D.Disk.moment g.D.Disk.left_since g.met.D.Disk.counts_now c.args.disk.now c.open.new.disk (λ records. records ≡ []) now chain refl keeps (c.in-Err.ensures.left.keeps now told)
 
 pub returns-clause-records : goal.returns-clause-records
 returns-clause-records g c = λ now chain told keeps.
-    opening_keeps g.D.Disk.images g.D.Disk.moment g.D.Disk.left_since g.met.D.Disk.counts_now c.args.disk.now c.read_and_answer-status.new.disk [] now chain keeps
+    opening_keeps g.D.Disk.images g.D.Disk.moment g.D.Disk.left_since g.met.D.Disk.counts_now c.args.disk.now c.read_and_answer-status.new.disk (λ records. records ≡ []) now chain refl keeps
     (leaves_looked g.D.Disk.content_of g.D.Disk.reads_as g.D.Disk.images g.D.Disk.moment g.D.Disk.left_since g.met.D.Disk.content_rests g.met.D.Disk.counts_now
     c.args.disk.now c.open.new.disk c.read_and_answer-status.new.disk _ (c.in-Ok.ensures.left.keeps now told) c.read_and_answer-status.ensures.disk.content)

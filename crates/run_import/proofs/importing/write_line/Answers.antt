@@ -7,7 +7,7 @@ use Rattle.run_text.specs.Output.{IsWritten}
 use Rattle.run_text.proofs.Exits.{same_stop}
 use Rattle.run_text.proofs.Faults.{IsMemory}
 use Rattle.run_import.proofs.ImportLemmas.{cut_before_line, line_written}
-use Rattle.run_import.proofs.importing.write_verdict.Goals as goal
+use Rattle.run_import.proofs.importing.write_line.Goals as goal
 
 pub returns-in-Ok-clause-written : goal.returns-in-Ok-clause-written
 returns-in-Ok-clause-written g c =
@@ -15,12 +15,12 @@ returns-in-Ok-clause-written g c =
     let text = c.as_bytes.ensures.value ∙ c.in-Ok.ensures in (
       written.0,
       written.1,
-      line_written (line c.args.verdict.now) c.write_text.result written.0 c.write_text.ensures.stop
+      line_written (line c.args.verdict.now c.args.balance) c.write_text.result written.0 c.write_text.ensures.stop
           (subst (λ bytes. IsWritten bytes c.write_text.result written.0) text written.2),
     )
 
 pub returns-in-Err-clause-written : goal.returns-in-Err-clause-written
-returns-in-Err-clause-written g c = ([], takes_none (g.K.Sink.taken c.args.out.now), cut_before_line c.args.verdict.now NoMemory (inr (inl refl)))
+returns-in-Err-clause-written g c = ([], takes_none (g.K.Sink.taken c.args.out.now), cut_before_line c.args.verdict.now c.args.balance NoMemory (inr (inl refl)))
 
 pub returns-in-Ok-clause-status : goal.returns-in-Ok-clause-status
 returns-in-Ok-clause-status g c = λ status e. inl (c.write_text.ensures.stop status e)

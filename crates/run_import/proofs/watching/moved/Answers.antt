@@ -1,0 +1,43 @@
+use Rattle.std.proofs.Common.{List, ap, sym, subst}
+use Rattle.std.proofs.lemmas.Result.{IfOk-weaker}
+use Rattle.chain_defs.specs.Schema.{Block}
+use Rattle.chain_tree.specs.Told.{blocks_of}
+use Rattle.cell_index.specs.Index.{StandsFor}
+use Rattle.rewards.specs.Reading.{ComesTo}
+use Rattle.node_store.specs.Kept.{KeptValue}
+use Rattle.node_store.proofs.EntryLemmas.{within-entries}
+use Rattle.node_store.proofs.KeptSources.{told-stored, counts-entries}
+use Rattle.run_import.specs.Watching.{StandsForTip}
+use Rattle.run_import.proofs.WatchLemmas.{way-there, comes-to}
+use Rattle.run_import.proofs.watching.moved.Goals as goal
+
+pub follow-requires-clause-from : goal.follow-requires-clause-from
+follow-requires-clause-from g c =
+    within-entries (blocks_of c.kept.inside.blocks.stored) c.args.kept.now.chain.blocks c.kept.inside.tree.entries c.args.from
+    (ap (λ (v : KeptValue). v.chain.blocks) c.kept.view_is) c.kept.invariant.indexed c.requires.from
+
+pub follow-requires-clause-to : goal.follow-requires-clause-to
+follow-requires-clause-to g c = c.tip.ensures.within
+
+pub follow-requires-clause-counts : goal.follow-requires-clause-counts
+follow-requires-clause-counts g c =
+    counts-entries (blocks_of c.kept.inside.blocks.stored) c.args.kept.now.chain.blocks c.kept.inside.tree.entries _
+    (ap (λ (v : KeptValue). v.chain.blocks) c.kept.view_is) c.kept.invariant.indexed c.requires.counts
+
+pub returns-clause-read : goal.returns-clause-read
+returns-clause-read g c = c.follow.ensures.read
+
+pub returns-clause-followed : goal.returns-clause-followed
+returns-clause-followed g c tells stands =
+    let stored = c.kept.inside.blocks.stored in
+    let seen = ap (λ (v : KeptValue). v.chain.blocks) c.kept.view_is in
+    let told = told-stored c.kept.inside.spec stored c.kept.inside.tree.entries c.args.kept.now _ c.kept.view_is tells in
+    let way = way-there c.kept.inside.spec stored c.kept.inside.tree.entries c.kept.inside.uncles c.args.kept.now c.kept.view_is
+    c.kept.invariant c.args.from c.tip.result tells.joined in
+    let here = subst (λ (blocks : List Block). StandsFor blocks c.args.from c.args.index) (sym seen) stands in
+    subst (λ (blocks : List Block). ComesTo (StandsForTip blocks) c.follow.result) seen
+    (comes-to (StandsForTip (blocks_of stored)) c.follow.result
+    (IfOk-weaker c.follow.result (StandsFor (blocks_of stored) c.tip.result) (StandsForTip (blocks_of stored))
+    (λ index has. record { tip = c.tip.result; is_tip = c.tip.ensures.of_blocks (blocks_of stored) c.kept.invariant.indexed; stands = has })
+    (c.follow.ensures.stands stored told c.kept.invariant.indexed way here))
+    (c.follow.ensures.undamaged stored told c.kept.invariant.indexed way here))
