@@ -15,8 +15,8 @@ use Rattle.json_defs.specs.Form.{Form, Row, row, members_read, without, is_objec
 use Rattle.json_defs.specs.Blocks as form
 use Rattle.json_defs.specs.Blocks.{free_key, usual_header_rows, other_header_rows, header_read}
 use Rattle.json_defs.specs.Laws.{IsReadOnce}
-use Rattle.json_blocks.specs.Reading.{◌>>=◌, left, members_at, take_at, end_at, table_from, array_at, content_at, number_at, named_at, fixvec_at, dynvec_at, hash_at, or_else, script_at, type_script_at, out_point_at, cell_input_at, cell_dep_at, cell_output_at, transaction_at, header_with, header_at, uncle_at, block_at}
-use Rattle.json_blocks.proofs.ReadOnce.{is_false, or_cases, bytes-once, array-once, u32-once, u64-once, u128-once, hash_type-once, dep_type-once, no_script, script-once, out_point-once, cell_input-once, cell_dep-once, cell_output-once, transaction-once, header-once, uncle-once, block-once}
+use Rattle.json_blocks.specs.Reading.{◌>>=◌, left, members_at, take_at, end_at, table_from, array_at, content_at, number_at, named_at, fixvec_at, dynvec_at, hash_at, or_else, script_at, cellbase_witness_at, type_script_at, out_point_at, cell_input_at, cell_dep_at, cell_output_at, transaction_at, header_with, header_at, uncle_at, block_at}
+use Rattle.json_blocks.proofs.ReadOnce.{is_false, or_cases, bytes-once, array-once, u32-once, u64-once, u128-once, hash_type-once, dep_type-once, no_script, script-once, cellbase_witness-once, out_point-once, cell_input-once, cell_dep-once, cell_output-once, transaction-once, header-once, uncle-once, block-once}
 use Rattle.json_blocks.proofs.KeyLemmas.{hash-bound}
 use Rattle.json_blocks.proofs.Exact.{Found, Exact, array-exact, content-exact, number-exact, named-exact, fixvec-exact, dynvec-exact}
 
@@ -184,6 +184,21 @@ script-rest t = object-rest false schema.script (λ v ms. members_read (form.scr
 pub script-exact : (t : Data) → Exact form.script schema.script t (script_at t)
 unfolding form.script
 script-exact t = exact-from form.script schema.script script-once t (script_at t) (script-rest t)
+
+abbrev cellbase_witness-fields : schema.CellbaseWitness → List shape.Encoding
+cellbase_witness-fields v = shape.encode_field schema.script v.lock ∷ shape.encode_field shape.bytes v.message ∷ []
+
+cellbase_witness-rest : (t : Data) → Rest schema.cellbase_witness (λ v. Unit {0}) (λ v. is_object (λ ms. members_read (form.cellbase_witness_rows v) ms) t) (cellbase_witness_at t)
+unfolding cellbase_witness_at schema.cellbase_witness
+cellbase_witness-rest t = object-rest false schema.cellbase_witness (λ v ms. members_read (form.cellbase_witness_rows v) ms) _ (λ ms.
+    (row-rest schema.cellbase_witness (λ v. Unit {0}) (codes "lock") form.script schema.script (λ v. v.lock) (λ v. row (codes "message") byte_string v.message ∷ []) (λ v f. (AllFit-from (cellbase_witness-fields v) (and_parts _ _ f).1).0) script_at script-exact ms _ (λ x_lock d_0 ms_0 f_lock.
+    (row-rest schema.cellbase_witness (λ v. Unit {0} × (v.lock ≡ x_lock)) (codes "message") byte_string shape.bytes (λ v. v.message) (λ v. []) (λ v f. (AllFit-from (cellbase_witness-fields v) (and_parts _ _ f).1).1.0) content_at content-exact ms_0 _ (λ x_message d_1 ms_1 f_message.
+    end-rest schema.cellbase_witness (λ v. (Unit {0} × (v.lock ≡ x_lock)) × (v.message ≡ x_message)) ms_1 _
+    (table-rest schema.cellbase_witness (λ v. (Unit {0} × (v.lock ≡ x_lock)) × (v.message ≡ x_message)) cellbase_witness-fields (λ v. refl) (record { lock = x_lock; message = x_message }) ((tt, refl), refl) (f_lock, (f_message, tt)) _ (λ w q i. shape.encoded schema.script (sym q.0.1 i) ∷ shape.encoded shape.bytes (sym q.1 i) ∷ []))))))) t
+
+pub cellbase_witness-exact : (t : Data) → Exact form.cellbase_witness schema.cellbase_witness t (cellbase_witness_at t)
+unfolding form.cellbase_witness
+cellbase_witness-exact t = exact-from form.cellbase_witness schema.cellbase_witness cellbase_witness-once t (cellbase_witness_at t) (cellbase_witness-rest t)
 
 -- a tree that is no null is no absent script
 some-script : (t : Data) → ((s : Option schema.Script) → (option form.script).reads s t ≡ true → (u : schema.Script) × (s ≡ Some u)) → (o : Option (List ℕ))

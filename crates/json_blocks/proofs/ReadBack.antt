@@ -97,9 +97,13 @@ option-back of back (Some v) = back v
 
 -- ---- objects, row by row
 
-script-back : IsReadBack form.script
+pub script-back : IsReadBack form.script
 unfolding form.script
 script-back s = both _ _ (byte_string-back s.args) (both _ _ (byte_string-back s.code_hash) (both _ _ (named-back _ _ s.hash_type) refl))
+
+pub cellbase_witness-back : IsReadBack form.cellbase_witness
+unfolding form.cellbase_witness
+cellbase_witness-back w = both _ _ (script-back w.lock) (both _ _ (byte_string-back w.message) refl)
 
 out_point-back : IsReadBack form.out_point
 unfolding form.out_point
@@ -118,7 +122,7 @@ unfolding form.cell_output
 cell_output-back o =
     both _ _ (number-back o.capacity) (both _ _ (script-back o.lock) (both _ _ (option-back form.script script-back o.type_script) refl))
 
-transaction-back : IsReadBack form.transaction
+pub transaction-back : IsReadBack form.transaction
 unfolding form.transaction
 transaction-back t =
     both _ _ (list-back form.cell_dep cell_dep-back t.raw.cell_deps)

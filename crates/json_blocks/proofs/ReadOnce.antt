@@ -288,6 +288,17 @@ script-once v w t fits fits' read read' =
     let e_hash_type = hash_type-once v.hash_type w.hash_type a.1.1.0.tree f.1.0 f'.1.0 a.1.1.0.first a.1.1.0.second in
     λ i. record { code_hash = e_code_hash i; hash_type = e_hash_type i; args = e_args i }
 
+pub cellbase_witness-once : IsReadOnce form.cellbase_witness schema.cellbase_witness
+unfolding form.cellbase_witness schema.cellbase_witness
+cellbase_witness-once v w t fits fits' read read' =
+    let o = opened (members_read (form.cellbase_witness_rows v)) (members_read (form.cellbase_witness_rows w)) t read read' in
+    let a = agree (form.cellbase_witness_rows v) (form.cellbase_witness_rows w) o.ms o.first o.second in
+    let f = AllFit-from (shape.encode_field schema.script v.lock ∷ shape.encode_field shape.bytes v.message ∷ []) (and_parts _ _ fits).1 in
+    let f' = AllFit-from (shape.encode_field schema.script w.lock ∷ shape.encode_field shape.bytes w.message ∷ []) (and_parts _ _ fits').1 in
+    let e_lock = script-once v.lock w.lock a.0.tree f.0 f'.0 a.0.first a.0.second in
+    let e_message = bytes-once v.message w.message a.1.0.tree f.1.0 f'.1.0 a.1.0.first a.1.0.second in
+    λ i. record { lock = e_lock i; message = e_message i }
+
 pub out_point-once : IsReadOnce form.out_point schema.out_point
 unfolding form.out_point schema.out_point
 out_point-once v w t fits fits' read read' =

@@ -1,4 +1,4 @@
--- The text of a block reads as its tree.
+-- The text of a block, of a transaction, of a script and of what a witness holds reads as its tree.
 use Rattle.std.proofs.Common.{◌≡◌, ℕ, suc, ◌≤◌, ◌==◌, Bool, true, false, List, [], ◌∷◌, refl, sym, ap, ◌∙◌, arith, append-nil}
 use Rattle.std.specs.Prelude.{if◌then◌else◌, Option, Some, None, option_and_then, option_map, max, codes}
 use Rattle.json.specs.Json as json
@@ -105,6 +105,14 @@ script-sound s =
     (member-sound _ (codes "hash_type") _ (named-sound 0 _ _ s.hash_type)
     (no_member-sound 0 _))))
 
+cellbase_witness-sound : (w : schema.CellbaseWitness) → Sound 2 (form.cellbase_witness.tree w)
+unfolding form.cellbase_witness
+cellbase_witness-sound w =
+    object-sound _
+    (member-sound _ (codes "lock") _ (script-sound w.lock)
+    (member-sound _ (codes "message") _ (bytes-sound 1 w.message)
+    (no_member-sound 1 _)))
+
 out_point-sound : (o : schema.OutPoint) → Sound 1 (form.out_point.tree o)
 unfolding form.out_point
 out_point-sound o =
@@ -201,3 +209,12 @@ text-back d sound =
 
 pub block-text-back : (b : schema.Block) → read (compact_text (form.block.tree b)) ≡ Some (form.block.tree b)
 block-text-back b = text-back (form.block.tree b) (deeper 6 127 (omega arith) (block-sound b))
+
+pub transaction-text-back : (t : schema.Transaction) → read (compact_text (form.transaction.tree t)) ≡ Some (form.transaction.tree t)
+transaction-text-back t = text-back (form.transaction.tree t) (deeper 4 127 (omega arith) (transaction-sound t))
+
+pub script-text-back : (s : schema.Script) → read (compact_text (form.script.tree s)) ≡ Some (form.script.tree s)
+script-text-back s = text-back (form.script.tree s) (deeper 1 127 (omega arith) (script-sound s))
+
+pub cellbase_witness-text-back : (w : schema.CellbaseWitness) → read (compact_text (form.cellbase_witness.tree w)) ≡ Some (form.cellbase_witness.tree w)
+cellbase_witness-text-back w = text-back (form.cellbase_witness.tree w) (deeper 2 127 (omega arith) (cellbase_witness-sound w))

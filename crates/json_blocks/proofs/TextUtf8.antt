@@ -1,4 +1,4 @@
--- The text of a block is UTF-8: all of it is ASCII.
+-- The text of a block and of its parts is UTF-8: all of it is ASCII.
 use Rattle.std.proofs.Common.{◌≡◌, ℕ, zero, suc, ◌/◌, ◌%◌, ◌<◌, ◌==◌, Bool, true, false, List, [], ◌∷◌, ◌++◌, slice_index, IsUtf8, refl, arith}
 use Rattle.std.specs.Prelude.{if◌then◌else◌, Option, Some, None, nat_lt, codes}
 use Rattle.std.specs.Fmt.{digits, digits_onto, digit_glyph}
@@ -122,6 +122,14 @@ script-utf8 v =
     (member-utf8 (codes "hash_type") _ refl (named-utf8 (codes "data") (codes "type") refl refl v.hash_type)
     no_member-utf8)))
 
+cellbase_witness-utf8 : (v : schema.CellbaseWitness) → IsText (form.cellbase_witness.tree v)
+unfolding form.cellbase_witness
+cellbase_witness-utf8 v =
+    object-utf8
+    (member-utf8 (codes "lock") _ refl (script-utf8 v.lock)
+    (member-utf8 (codes "message") _ refl (bytes-utf8 v.message)
+    no_member-utf8))
+
 out_point-utf8 : (v : schema.OutPoint) → IsText (form.out_point.tree v)
 unfolding form.out_point
 out_point-utf8 v =
@@ -197,9 +205,9 @@ uncle-utf8 v =
     (member-utf8 (codes "proposals") _ refl (list-utf8 byte_string bytes-utf8 v.proposals)
     no_member-utf8))
 
-block-text : (v : schema.Block) → IsText (form.block.tree v)
+block-utf8 : (v : schema.Block) → IsText (form.block.tree v)
 unfolding form.block
-block-text v =
+block-utf8 v =
     object-utf8
     (member-utf8 (codes "header") _ refl (header-utf8 v.header)
     (member-utf8 (codes "proposals") _ refl (list-utf8 byte_string bytes-utf8 v.proposals)
@@ -207,6 +215,18 @@ block-text v =
     (member-utf8 (codes "uncles") _ refl (list-utf8 form.uncle uncle-utf8 v.uncles)
     no_member-utf8))))
 
-pub block-utf8 : (v : schema.Block) → IsUtf8 (compact_text (form.block.tree v))
+pub block-is_utf8 : (v : schema.Block) → IsUtf8 (compact_text (form.block.tree v))
 unfolding IsText
-block-utf8 v = block-text v
+block-is_utf8 v = block-utf8 v
+
+pub transaction-is_utf8 : (v : schema.Transaction) → IsUtf8 (compact_text (form.transaction.tree v))
+unfolding IsText
+transaction-is_utf8 v = transaction-utf8 v
+
+pub script-is_utf8 : (v : schema.Script) → IsUtf8 (compact_text (form.script.tree v))
+unfolding IsText
+script-is_utf8 v = script-utf8 v
+
+pub cellbase_witness-is_utf8 : (v : schema.CellbaseWitness) → IsUtf8 (compact_text (form.cellbase_witness.tree v))
+unfolding IsText
+cellbase_witness-is_utf8 v = cellbase_witness-utf8 v

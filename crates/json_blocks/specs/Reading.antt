@@ -1,6 +1,7 @@
 -- How a tree is read, from left to right: the encoding that it gives, or none. The contracts of private functions speak by
 -- it. What it means is said by `Form` and `Blocks` alone, and proofs/Exact.antt ties the two.
-use Rattle.std.specs.Prelude.{◌≡◌, ℕ, zero, suc, ◌+◌, ◌^◌, List, [], ◌∷◌, ◌++◌, length, map, codes, Bool, true, false, not, ◌&&◌, ◌==◌, nat_lt, nat_le, if◌then◌else◌, Option, Some, None, Result, Ok, Err}
+use Rattle.std.specs.Prelude.{◌≡◌, ℕ, zero, suc, ◌+◌, ◌^◌, List, [], ◌∷◌, ◌++◌, length, map, codes, Bool, true, false, not, ◌&&◌, ◌==◌, nat_lt, nat_le, if◌then◌else◌, Option, Some, None, Result, Ok, Err, Vec, IsUtf8}
+use Rattle.std.specs.Global.{Global}
 use Rattle.std.specs.Int.{Width, w32, w64, w128, byte_len, to_le_bytes}
 use Rattle.std.specs.Fmt.{digits}
 use Rattle.std.specs.List.{concat}
@@ -8,6 +9,7 @@ use Rattle.std.specs.Str.{bytes_eq}
 use Rattle.hex.specs.Hex.{encode_lower}
 use Rattle.chain_defs.specs.Molecule as molecule
 use Rattle.serde_json.specs.Data.{Data, null, boolean, number, string, array, object, Items, no_items, item, Members, no_members, member}
+use Rattle.serde_json.specs.Read.{read as tree_of}
 use Rattle.json_blocks.specs.declared.stop.JsonStop.{JsonStop}
 use Rattle.json_blocks.specs.declared.stop.JsonStop.TheVariants as stops
 use Rattle.json_defs.specs.Form.{lower_digit, is_text, without}
@@ -27,6 +29,12 @@ Fails stops.NoMemory read = Unit {0}
 abbrev pub Gives : {X Y : Type 0} → (X → Y) → Result X JsonStop → Option Y → Type 0
 Gives view (Ok x) read = read ≡ Some (view x)
 Gives view (Err e) read = Fails e read
+
+-- What a function returned is what reading gives for the tree of a text, unless memory ran out.
+abbrev pub GivesOfText : (Data → Option (List ℕ)) → List ℕ → Result (Vec ℕ Global) JsonStop → Type 0
+GivesOfText reads text (Ok bytes) = (t : Data) × IsUtf8 text × (tree_of text ≡ Some t) × (reads t ≡ Some bytes.items)
+GivesOfText reads text (Err stops.Bad) = (t : Data) → IsUtf8 text → tree_of text ≡ Some t → reads t ≡ None
+GivesOfText reads text (Err stops.NoMemory) = Unit {0}
 
 -- ---- texts
 
@@ -206,6 +214,15 @@ type_script_at (number n) = script_at (number n)
 type_script_at (string s) = script_at (string s)
 type_script_at (array ds) = script_at (array ds)
 type_script_at (object ms) = script_at (object ms)
+
+abbrev pub cellbase_witness_fields : List Field
+cellbase_witness_fields =
+    value_at (codes "lock") script_at
+    ∷ value_at (codes "message") content_at
+    ∷ []
+
+unfoldable pub cellbase_witness_at : Data → Option (List ℕ)
+cellbase_witness_at t = object_at false cellbase_witness_fields (table_of (0 ∷ 1 ∷ [])) t
 
 abbrev pub out_point_fields : List Field
 out_point_fields =

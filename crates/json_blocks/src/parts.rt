@@ -1,6 +1,8 @@
-// The parts of a transaction, and headers.
+// The parts of a transaction, headers, and what the first witness of a cellbase holds.
 use crate::text::{Text, Written};
-use mol_schema::{DepView, HeaderView, InputView, OutPointView, OutputView, ScriptView};
+use mol_schema::{
+    CellbaseWitnessView, DepView, HeaderView, InputView, OutPointView, OutputView, ScriptView,
+};
 
 impl Written for ScriptView<'_> {
     ghost use Rattle.json_defs.specs.Blocks as form;
@@ -96,6 +98,18 @@ impl Written for HeaderView<'_> {
         out.bytes_row(b',', "transactions_root", self.transactions_root());
         out.bytes_row(b',', "uncles_hash", self.uncles_hash());
         out.number_row(b',', "version", self.version() as u128);
+        out.put(b"}")
+    }
+}
+
+impl Written for CellbaseWitnessView<'_> {
+    ghost use Rattle.json_defs.specs.Blocks as form;
+
+    ghost tree = { form.cellbase_witness.tree };
+
+    fn write(&self, out: &mut Text) {
+        out.row(b'{', "lock", &self.lock());
+        out.bytes_row(b',', "message", self.message());
         out.put(b"}")
     }
 }

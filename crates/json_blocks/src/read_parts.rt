@@ -1,4 +1,4 @@
-// The parts of a transaction, read from their trees.
+// The parts of a transaction, and what the first witness of a cellbase holds, read from their trees.
 use crate::by_keys::Rows;
 use crate::items::{ByteString, DepType, Hash, HashType, U32, U64};
 use crate::lists::Item;
@@ -107,5 +107,22 @@ impl Item for Output {
         rows.read::<Script>("lock");
         rows.read::<OptionalScript>("type");
         rows.table(&[0, 1, 2])
+    }
+}
+
+/// What the first witness of a cellbase holds.
+pub(crate) struct CellbaseWitness;
+
+impl Item for CellbaseWitness {
+    ghost use Rattle.json_blocks.specs.Reading.{cellbase_witness_at};
+
+    ghost reads_as = { cellbase_witness_at };
+
+    #[tactic(auto, unfolding(crate::specs::Reading::cellbase_witness_at))]
+    fn read(alloc: Global, value: &Value) -> Result<Vec<u8>, JsonStop> {
+        let mut rows = Rows::of(alloc, value, false)?;
+        rows.read::<Script>("lock");
+        rows.read::<ByteString>("message");
+        rows.table(&[0, 1])
     }
 }

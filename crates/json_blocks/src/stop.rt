@@ -1,4 +1,4 @@
-// Why a text is not read as a block.
+// Why a text is not read.
 ghost use Rattle.std.specs.Prelude.{◌≡◌};
 ghost use Rattle.json_blocks.specs.declared.stop.JsonStop.TheVariants.{NoMemory as no_memory};
 
@@ -7,10 +7,10 @@ use std::alloc::{AllocError, AllocFailed};
 use std::error::Error;
 use std::fmt;
 
-/// Why a text is not read as a block.
+/// Why a text is not read.
 #[derive(Clone, Copy, PartialEq, Eq, Debug, Drop)]
 pub enum JsonStop {
-    /// It is no JSON, or no block is read from it.
+    /// It is no JSON, or it is read as no value.
     Bad,
     NoMemory,
 }
@@ -42,7 +42,7 @@ impl<T: Drop> From<AllocFailed<T>> for JsonStop {
 impl fmt::Display for JsonStop {
     fn fmt<W: fmt::Write>(&self, f: &mut fmt::Formatter<W>) -> fmt::Result {
         match self {
-            JsonStop::Bad => write!(f, "the text is no block"),
+            JsonStop::Bad => write!(f, "the text is read as no value"),
             JsonStop::NoMemory => write!(f, "out of memory"),
         }
     }

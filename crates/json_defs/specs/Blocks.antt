@@ -133,6 +133,16 @@ block_rows b =
 unfoldable pub block : Form schema.Block
 block = object block_rows
 
+-- what the first witness of a cellbase holds
+abbrev pub cellbase_witness_rows : schema.CellbaseWitness → List Row
+cellbase_witness_rows w =
+    row (codes "lock") script w.lock
+    ∷ row (codes "message") byte_string w.message
+    ∷ []
+
+unfoldable pub cellbase_witness : Form schema.CellbaseWitness
+cellbase_witness = object cellbase_witness_rows
+
 -- the compact text of a value
 abbrev pub text_of : {V : Type 0} → Form V → V → List ℕ
 text_of form v = compact_text (form.tree v)

@@ -1,6 +1,6 @@
 -- What is true of the tables, so that a tree tells its block.
 use Rattle.std.specs.Prelude.{◌≡◌, ℕ, List, IsTrue, Some, IsUtf8}
-use Rattle.chain_defs.specs.Shape.{Shape}
+use Rattle.chain_defs.specs.Shape.{Shape, IsA}
 use Rattle.serde_json.specs.Data.{Data}
 use Rattle.serde_json.specs.Read.{read}
 use Rattle.serde_json.specs.Written.{compact_text}
@@ -35,3 +35,19 @@ IsTextBack {V} form = (v : V) → IsReadAs form (text_of form v) v
 abbrev pub IsOneOfText : {V : Type 0} → Form V → Shape V → Type 0
 IsOneOfText {V} form shape = (v w : V) (text : List ℕ) → IsTrue (shape.encoding v).fits → IsTrue (shape.encoding w).fits
     → IsReadAs form text v → IsReadAs form text w → v ≡ w
+
+-- A form by which each value of a shape has a text that is read as it, and each text at most one value.
+pub record HasTexts {V : Type 0} (form : Form V) (shape : Shape V) : Type 0 where
+  pub text_of_tree : IsTextOfTree form
+  pub read_back : IsReadBack form
+  pub read_once : IsReadOnce form shape
+  pub text_back : IsTextBack form
+  pub one_of_text : IsOneOfText form shape
+
+-- the bytes encode a value that the text is read as
+abbrev pub IsEncodingOf : {V : Type 0} → Form V → Shape V → List ℕ → List ℕ → Type 0
+IsEncodingOf {V} form shape text bytes = (v : V) × IsA shape bytes v × IsReadAs form text v
+
+-- the text is read as no value of the shape
+abbrev pub IsNoText : {V : Type 0} → Form V → Shape V → List ℕ → Type 0
+IsNoText {V} form shape text = (v : V) → IsTrue (shape.encoding v).fits → IsReadAs form text v → ⊥

@@ -1,7 +1,12 @@
-use Rattle.serde_json.specs.View.{view}
-use Rattle.json_blocks.proofs.FromText.{found}
+use Rattle.chain_defs.specs.Schema as schema
+use Rattle.json_defs.specs.Blocks as form
+use Rattle.json_blocks.specs.Reading.{block_at}
+use Rattle.json_blocks.proofs.ExactObjects.{block-exact}
+use Rattle.json_blocks.proofs.FromText.{found, only}
 use Rattle.json_blocks.proofs.read.from_json.Goals as goal
 
-pub returns-in-Ok-clause-found : goal.returns-in-Ok-clause-found
-returns-in-Ok-clause-found c =
-    found c.args.text.now (view c.in-Ok.value) c.in-Ok.ensures.found.0 c.in-Ok.ensures.found.1 c.read.result c.read.ensures
+pub returns : goal.returns
+returns c = record {
+  found = found form.block schema.block block_at block-exact c.args.text.now c.read_text.result c.read_text.ensures;
+  only = only form.block schema.block block_at block-exact c.args.text.now c.read_text.result c.read_text.ensures;
+}

@@ -1,0 +1,12 @@
+use Rattle.chain_defs.specs.Schema as schema
+use Rattle.json_defs.specs.Blocks as form
+use Rattle.json_blocks.specs.Reading.{script_at}
+use Rattle.json_blocks.proofs.ExactObjects.{script-exact}
+use Rattle.json_blocks.proofs.FromText.{found, only}
+use Rattle.json_blocks.proofs.read.script_from_json.Goals as goal
+
+pub returns : goal.returns
+returns c = record {
+  found = found form.script schema.script script_at script-exact c.args.text.now c.read_text.result c.read_text.ensures;
+  only = only form.script schema.script script_at script-exact c.args.text.now c.read_text.result c.read_text.ensures;
+}
