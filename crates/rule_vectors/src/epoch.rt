@@ -72,3 +72,20 @@ pub(crate) fn agrees_on_primary(alloc: Global, row: &mut Row) -> Option<bool> {
     let spec = spec_of(alloc, row)?;
     Some(primary(&spec, row.number()?) == row.number()?)
 }
+
+/// The epoch of an edition; it is `-` where there is none.
+fn edition_of(row: &mut Row) -> Option<Option<u64>> {
+    let word = row.word();
+    if word == "-" {
+        Some(None)
+    } else {
+        Some(Some(word.parse().ok()?))
+    }
+}
+
+/// The bytes of a specification, its edition, and the height of a block.
+pub(crate) fn agrees_on_edition(alloc: Global, row: &mut Row) -> Option<bool> {
+    let spec = spec_of(alloc, row)?;
+    let spec = spec.with_edition(edition_of(row)?);
+    Some(spec.is_second_at(row.number()?) == row.is("yes", "no")?)
+}

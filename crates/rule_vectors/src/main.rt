@@ -1,11 +1,12 @@
-//! Time, money, and the rules on a block apart from its transactions: tries each row of its standard input, and prints the
-//! rows that differ.
+//! Formats, time, money, and the rules on a block apart from its transactions: tries each row of its standard input, and
+//! prints the rows that differ.
 //!
 //! A row is a word and its columns, with a tab between two, bytes in hex. After `time` stands what is called of epochs, sinces
 //! and the DAO's numbers, then its arguments and its answer; numbers are in decimal, or in hex after `0x`. These answers come
 //! from the rules and were worked by hand.
 //!
-//! After `rule` stands a rule as it is printed, and its line in docs/RULES.md.
+//! After `rule` stands a rule as it is printed, and its line in docs/RULES.md. After `format` stands a row on encodings,
+//! hashes, roots and blocks as JSON: formats.rt says what it is.
 //!
 //! The other rows are about a chain. `spec` and `genesis` begin a chain, and a `block`
 //! joins it whatever rules it breaks; a `kept` block has its ext beside it. `earliest` asks for the earliest proposer of an
@@ -19,14 +20,20 @@
 
 mod chain;
 mod dao;
+mod digests;
 mod epoch;
+mod fields;
+mod formats;
 mod given;
 mod items;
+mod json;
 mod names;
+mod parts;
 mod since;
 mod time;
 mod totals;
 mod uncles;
+mod views;
 mod window;
 
 use chain::{Chain, chain_of, ext_of, join, take};
@@ -132,6 +139,7 @@ fn agrees_on_chain(alloc: Global, chain: &mut Chain, word: &str, row: &mut Row) 
 impl Subject for Table {
     fn agrees(&mut self, alloc: Global, row: &mut Row<'_>) -> Option<bool> {
         match row.word() {
+            "format" => formats::agrees(alloc, row),
             "time" => time::agrees(alloc, row),
             "rule" => names::agrees(alloc, row),
             "spec" => self.begin_spec(alloc, row),

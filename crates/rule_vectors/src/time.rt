@@ -13,6 +13,7 @@ pub(crate) fn agrees(alloc: Global, row: &mut Row) -> Option<bool> {
         "span_over" => epoch::agrees_on_span(row),
         "share" => epoch::agrees_on_share(row),
         "primary" => epoch::agrees_on_primary(alloc, row),
+        "is_second_at" => epoch::agrees_on_edition(alloc, row),
         "meets" => since::agrees_on_since(row),
         call => dao::agrees(alloc, call, row),
     }

@@ -59,7 +59,7 @@ fn import<D: Disk, L: Ledger>(
         drop(node);
         return None;
     }
-    match node.import(alloc, disk, &Rules, item, steps) {
+    match node.import(alloc, disk, &Rules { alloc }, item, steps) {
         Ok(answer) => Some(answer),
         Err(_) => None,
     }

@@ -12,7 +12,8 @@
 //!
 //! What is wanted was made by programs that were written from the rules of docs/ alone, or by hand from the same rules;
 //! tests/README.md says which rows scripts of tests/rows/ make. Runs in which nothing fails are made by the built program
-//! (tests/runs.py). The blocks of a generated chain are also imported by a node that holds one block in memory.
+//! (tests/runs.py). The blocks of a generated chain are also imported by a node that holds one block in memory; a row `chain` is about
+//! a piece of one (made.rt).
 //!
 //! The program prints each row that differs, and how many agree; its status is 1 where one differs, or a list has no end.
 #![tactic(auto)]
@@ -21,6 +22,7 @@ mod caches;
 mod calls;
 mod faulty;
 mod list;
+mod made;
 mod row;
 mod trickle;
 
@@ -75,6 +77,7 @@ impl<'s, L: Ledger> Runs<'s, L> {
 impl<'s, L: Ledger> Subject for Runs<'s, L> {
     fn agrees(&mut self, alloc: Global, row: &mut Row<'_>) -> Option<bool> {
         match row.word() {
+            "chain" => made::agrees(alloc, row),
             "list" => self.agree_in_a_list(alloc, row),
             "faults" => self.agree_with_faults(alloc, row),
             "more" => self.agree_with_more(alloc, row),

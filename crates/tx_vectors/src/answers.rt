@@ -8,7 +8,7 @@ use outside::Steps;
 use std::alloc::Global;
 use std::string::String;
 use std::sync::ledger::Ledger;
-use tx_rules::{Own, TxAt, TxOk, TxStop, resolve};
+use tx_rules::{JudgedTx, Own, TxAt, TxOk, TxStop, resolve};
 
 /// Adds a word, after a comma but for the first.
 fn add_word(text: &mut String, word: &str) -> Option<()> {
@@ -73,7 +73,12 @@ fn answer(
     if !is_placed(at) || blocks.len() != at.tree.len() {
         return None;
     }
-    let resolved = resolve(alloc, tx, tx_hash(tx), at, true, state, blocks);
+    let judged = JudgedTx {
+        tx,
+        hash: tx_hash(tx),
+        proposed: true,
+    };
+    let resolved = resolve(alloc, &judged, at, state, blocks);
     text_of(alloc, &resolved)
 }
 
@@ -132,7 +137,8 @@ fn answer_at(
     }
     let tx = block.transactions_item(place);
     let first = so_far(alloc, &block, place)?;
-    let apart = answer_in(alloc, chain, state, Own::so_far(&first), &tx)?;
+    let timestamp = block.header().timestamp();
+    let apart = answer_in(alloc, chain, state, Own::so_far(timestamp, &first), &tx)?;
     let whole = answer_in(alloc, chain, state, Own::of_block(block), &tx)?;
     if apart.as_str() != whole.as_str() {
         return None;

@@ -112,6 +112,7 @@ fn outcome(
         &chain.tree,
         &mut chain.blocks,
         budget,
+        chain.spec.is_second_at(0),
     ))
 }
 

@@ -5,11 +5,12 @@
 //! After `moves` stand kept blocks, and which rows are live at each as the cells are gone to over their tree:
 //! tests/rows/moves.py says what those columns are.
 //!
-//! The other rows are about a chain. `spec` and `genesis` begin a chain, and `block` puts
-//! a block with its ext on it. `shadow`, `transaction` and `within` stand after the last block, where all blocks stand in a
-//! row: tests/rows/transactions.py makes them, and says what their columns are. `groups` and `rounds` are about a transaction's
-//! script groups, and call bytes by the names that rows `blob` give them: tests/rows/script_groups.py makes them, and says
-//! what theirs are. bench/scripts.py makes rows `rounds` too, to measure how long they take.
+//! The other rows are about a chain. `spec` and `genesis` begin a chain, which stands under an edition of the rules where
+//! `edition` comes between them, and `block` puts a block with its ext on it. `shadow`, `transaction` and `within` stand after
+//! the last block, where all blocks stand in a row: tests/rows/transactions.py makes them, and says what their columns are.
+//! `groups` and `rounds` are about a transaction's script groups, and call bytes by the names that rows `blob` give them:
+//! tests/rows/script_groups.py makes them, and says what theirs are. bench/scripts.py makes rows `rounds` too, to measure how
+//! long they take.
 #![tactic(auto)]
 
 mod answers;
@@ -126,6 +127,12 @@ impl<'s, L: Ledger> Table<'s, L> {
         Some(self.spec.is_some())
     }
 
+    fn take_edition(&mut self, row: &mut Row) -> Option<bool> {
+        let spec = self.spec?.with_edition(Some(row.number()?));
+        self.spec = Some(spec);
+        Some(true)
+    }
+
     fn begin_chain(&mut self, alloc: Global, row: &mut Row) -> Option<bool> {
         let genesis = row.bytes(alloc)?;
         let chain = of_genesis(alloc, self.spec?, &genesis);
@@ -157,6 +164,7 @@ impl<'s, L: Ledger> Subject for Table<'s, L> {
             "state" => live::agrees(alloc, &mut self.state, self.steps, row),
             "moves" => moves::agrees(alloc, &mut self.moves, self.steps, row),
             "spec" => self.begin_spec(alloc, row),
+            "edition" => self.take_edition(row),
             "genesis" => self.begin_chain(alloc, row),
             "blob" => self.take_blob(alloc, row),
             word => self.agrees_on_chain(alloc, word, row),

@@ -1,6 +1,6 @@
 // Tables, dynvecs and fixvecs of whatever parts.
 
-use crate::Answer;
+use crate::formats::Answer;
 use mol_schema::{check_dynvec, check_fixvec, check_table};
 
 /// Whether the bytes are such a table or vector.

@@ -1,6 +1,7 @@
 // Views by their names.
 
-use crate::{Answer, fields, parts};
+use crate::formats::Answer;
+use crate::{fields, parts};
 use mol_schema::{
     BlockView, Bytes, CellbaseWitnessView, DepView, HeaderView, InputView, OutPointView,
     OutPointsView, OutputView, ScriptView, TxView, UncleView, WitnessArgsView,

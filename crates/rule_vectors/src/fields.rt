@@ -1,6 +1,6 @@
 // The accessors of the views that no block is made of, by their names.
 
-use crate::Answer;
+use crate::formats::Answer;
 use mol_schema::{CellbaseWitnessView, OutPointsView, WitnessArgsView};
 
 fn option(bytes: Option<&[u8]>) -> Answer<'_> {

@@ -1,5 +1,5 @@
 // The hash of a message, and the Merkle root of items.
-use crate::bytes_of;
+use crate::formats::bytes_of;
 use blake2b_ckb::ckbhash;
 use cbmt::root;
 use hex::FromHex;
