@@ -73,11 +73,13 @@ class Group:
 class Scene:
     """A transaction over kept blocks. `chain` has `length`, that of an epoch, and `headers`, one a block.
 
-    `contents` are the `outputs_data`, where they are not the data of each output.
+    `contents` are the `outputs_data`, where they are not the data of each output. `second` says that code is found by the
+    second edition of the rules.
     """
 
-    def __init__(self, chain, inputs, outputs=(), deps=(), headers=(), witnesses=(), sinces=(), grouped=0, contents=None):
-        self.chain, self.inputs, self.outputs, self.deps = chain, list(inputs), list(outputs), list(deps)
+    def __init__(self, chain, inputs, outputs=(), deps=(), headers=(), witnesses=(), sinces=(), grouped=0, contents=None,
+                 second=False):
+        self.second, self.chain, self.inputs, self.outputs, self.deps = second, chain, list(inputs), list(outputs), list(deps)
         if contents is None:
             contents = [it.content for it in self.outputs]
         for place, cell in enumerate(self.outputs):
@@ -124,7 +126,8 @@ class Scene:
         if script.hash_type == BY_DATA:
             return [it.content for it in self.deps if data_hash(it.content) == script.code_hash][:1]
         if script.hash_type == BY_TYPE:
-            return [it.content for it in self.deps if it.type_script and it.type_script.hash() == script.code_hash]
+            codes = [it.content for it in self.deps if it.type_script and it.type_script.hash() == script.code_hash]
+            return list(dict.fromkeys(codes)) if self.second else codes
         return []
 
     # ----------------------------------------------------- what is shown
