@@ -151,7 +151,7 @@ BENCHES = {
     'cells': Bench(['cells.py'], 'tx_vectors', False, [], True),
     'queries': Bench(['queries.py'], 'ckbdev', True, []),
     'snapshots': Bench(['snapshots.py'], 'ckbdev', True, []),
-    'json_text': Bench(['json_text.py'], 'format_vectors', False, [], True),
+    'json_text': Bench(['json_text.py'], 'rule_vectors', False, [], True),
     'start': Bench(['start.py'], 'machine_vectors', True, []),
     'hostile': Bench(['hostile.py'], 'ckbdev', True, []),
 }

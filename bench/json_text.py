@@ -1,10 +1,10 @@
 #!/usr/bin/env python3
 """A block as JSON, beside Python.
 
-    (cd crates/format_vectors && rt run)   # builds it
+    (cd crates/rule_vectors && rt run)   # builds it
     python3 bench/json_text.py [--most 2]
 
-The program format_vectors makes the text of one block of 597,000 bytes again
+The program rule_vectors makes the text of one block of 597,000 bytes again
 and again. Python decodes the same block and calls json.dumps. A line has the
 processor time of each for one text, and the ratio: for a block of many small
 transactions, and for one whose bytes are nearly all in one witness. Where the
@@ -30,7 +30,7 @@ import encoding  # noqa: E402 (beside the path above)
 from block_json import of_block  # noqa: E402
 from encoding import cell_input, cell_output, out_point, raw_transaction, script  # noqa: E402
 
-PROGRAM = os.path.join(TOP, 'crates', 'format_vectors', 'out', 'format_vectors')
+PROGRAM = os.path.join(TOP, 'crates', 'rule_vectors', 'out', 'rule_vectors')
 SIZE, OFTEN = 597000, 40
 RUNNER = ('import resource, subprocess, sys\n'
           'p = subprocess.run(sys.argv[1:])\n'
@@ -80,13 +80,13 @@ def text_ratio(name, b):
     """The program's time for one text over that of Python."""
     ours, theirs = [], []
     for _ in range(5):
-        least = run(['again\t1\t%s\n' % b.hex()])[0]
-        ours.append((run(['again\t%d\t%s\n' % (OFTEN + 1, b.hex())])[0] - least) / OFTEN)
+        least = run(['format\tagain\t1\t%s\n' % b.hex()])[0]
+        ours.append((run(['format\tagain\t%d\t%s\n' % (OFTEN + 1, b.hex())])[0] - least) / OFTEN)
         begin = time.process_time()
         for _ in range(5):
             made = of_block(b)
         theirs.append((time.process_time() - begin) / 5)
-    run(['json\t%s\t%s\n' % (b.hex(), made)])
+    run(['format\tjson\t%s\t%s\n' % (b.hex(), made)])
     print('%-17s %d bytes: %.2f ms, Python %.2f ms, ratio %.2f' % (name, len(b), min(ours) * 1e3, min(theirs) * 1e3, min(ours) / min(theirs)))
     return min(ours) / min(theirs)
 
@@ -94,12 +94,12 @@ def text_ratio(name, b):
 def witness_row(mib):
     """A text of so many MiB of which nearly all is one witness, and its block."""
     b = plain((mib << 19) - 1200)
-    return 'unjson\t%s\t%s\n' % (of_block(b).encode().hex(), b.hex())
+    return 'format\tunjson\t%s\t%s\n' % (of_block(b).encode().hex(), b.hex())
 
 
 def token_row(mib):
     """A text of so many MiB that is one list of the number 0, which is no block."""
-    return 'unjson\t%s\tbad\n' % (b'[' + b'0,' * ((mib << 19) - 1) + b'0]').hex()
+    return 'format\tunjson\t%s\tbad\n' % (b'[' + b'0,' * ((mib << 19) - 1) + b'0]').hex()
 
 
 def reading(name, row_of, mib):

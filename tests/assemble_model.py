@@ -158,7 +158,7 @@ class Assembly:
             return 'refused J16'
         if not is_proposed(self.spec, self.branch, item):
             return self.proposed(item)
-        broken, cycles = broken_of(item, self.live, self.branch, self.left)
+        broken, cycles = self.broken(item)
         if broken:
             return 'refused J%d' % broken
         if not self.fits(self.commits + [item], self.proposes):
@@ -167,6 +167,9 @@ class Assembly:
         self.left -= cycles
         spend(self.live, item)
         return 'commit %d %d' % (fee_of(item), cycles)
+
+    def broken(self, item):
+        return broken_of(item, self.live, self.branch, self.left)
 
     def line_of_bytes(self, item):
         """Of bytes nothing is known but whether they are a transaction; one must be a cellbase."""
@@ -212,9 +215,9 @@ class Assembly:
         return block, next((rule for rule, holds in rules.items() if not holds), None)
 
 
-def assembled(chain, witness, items):
+def assembled(chain, witness, items, kind):
     """The lines of the items, and the block, of which there is none where it breaks a rule: that is the second line then."""
-    assembly = Assembly(chain, witness)
+    assembly = kind(chain, witness)
     for item in items:
         assembly.take(item)
     block, broken = assembly.sealed()
@@ -229,12 +232,12 @@ def bytes_of(item):
     return item if isinstance(item, bytes) else item.item
 
 
-def answer(chain, witness, items):
-    """The status, the input and the text of `assemble`, and the block, where there is one."""
+def answer(chain, witness, items, kind=Assembly):
+    """The status, the input and the text of `assemble`, and the block, where there is one. `kind` judges the items."""
     given = witness + b''.join(map(bytes_of, items))
     if not import_lines.lock_named(witness):
         lines, block = ['no block J17'], None
     else:
-        lines, block = assembled(chain, witness, items)
+        lines, block = assembled(chain, witness, items, kind)
     refused = any(it.startswith(('refused', 'no block')) for it in lines)
     return int(refused), given, ''.join(it + '\n' for it in lines).encode(), block

@@ -1,12 +1,15 @@
 #!/usr/bin/env python3
-"""What the documents say to a contract author: how a program is built, what it prints, and what usually goes wrong.
+"""What the documents say to an author: how a program is built, what it prints, and what usually goes wrong; a chain with
+accounts, and a page of it.
 
-    sh tests/author.sh
+    sh tests/author.sh [WORD ..]
 
-runs the commands of the pages as they stand there, and compares what comes with what the pages show. Then it builds
+runs each check, or those whose names have one of the words. The commands of the pages are run as they stand there, and
+what comes is compared with what the pages show. Then it builds
 what docs/MACHINE.md, "Building a program", says of programs that go wrong, and the stored samples. How each ends is
-written down here, and the cycles are those of bench/rvref.c. It needs the packages gcc-riscv64-unknown-elf and
-picolibc-riscv64-unknown-elf of Debian, and says so and ends with status 0 where they are not there.
+written down here, and the cycles are those of bench/rvref.c. author_rust.py has programs in Rust, and author_chain.py
+chains, locks that are wrong, and pages in a browser. What needs a package of Debian that is not there is not tried, and a
+line says so: gcc-riscv64-unknown-elf and picolibc-riscv64-unknown-elf; rustc, rust-src and lld; chromium.
 """
 
 import os
@@ -18,6 +21,8 @@ from unittest import mock
 
 sys.dont_write_bytecode = True
 from harness import SCRIPT, SCRIPTS, TOP, Wrong, must, must_be, new_folder  # noqa: E402
+import author_chain  # noqa: E402
+import author_rust  # noqa: E402
 import script_machine  # noqa: E402
 
 COMPILER = 'riscv64-unknown-elf-gcc'
@@ -114,14 +119,12 @@ def without_cycles(text):
 
 
 def check_pages(machine, folder):
-    for name in ('ckbdev', 'ckbtrace', 'examples', 'bench'):
-        os.symlink(os.path.join(TOP, name), os.path.join(folder, name))
     version = printed([COMPILER, '-dumpversion'], None).strip()
     kept = (lambda text: text) if version == VERSION else without_cycles
     count = 0
     for page in PAGES:
         for command, wanted in commands_of(page):
-            if 'signature' in command:
+            if 'signature' in command or '/rust/' in command:
                 continue
             got = printed(['sh', '-c', command], folder)
             must_be(kept(got), kept(wanted), '%s: %s' % (page, command))
@@ -358,17 +361,43 @@ def check_samples(machine, folder):
     say('the samples are built and run')
 
 
+# ---------------------------------------------------------------------- more
+
+def check_rust(machine, folder):
+    say(author_rust.check_rust(machine, folder, texts_of))
+
+
+def check_accounts(_, folder):
+    say(author_chain.check_accounts(folder))
+
+
+def check_wrong_locks(_, folder):
+    say(author_chain.check_wrong_locks(folder))
+
+
+def check_pages_in_a_browser(_, folder):
+    say(author_chain.check_pages_in_a_browser(folder))
+
+
+OF_C = check_pages, check_claims, check_samples, check_signature, check_accounts, check_wrong_locks
+OTHERS = check_rust, check_pages_in_a_browser
+
+
 def main():
-    if not is_there():
-        say('not tried: gcc-riscv64-unknown-elf and picolibc-riscv64-unknown-elf are not there')
-        return 0
+    checks = OTHERS
+    if is_there():
+        checks = OF_C + OTHERS
+    else:
+        say('no program in C was tried: gcc-riscv64-unknown-elf and picolibc-riscv64-unknown-elf are not there')
     # said aloud, since it may take a while
     for name in ('ckbdev', 'ckbtrace'):
         subprocess.run([sys.executable, os.path.join(TOP, 'tools', 'build.py'), name], stdin=subprocess.DEVNULL, check=True)
     failed = 0
     with new_folder() as folder:
         machine = Machine(folder)
-        for check in (check_pages, check_claims, check_samples, check_signature):
+        for name in ('ckbdev', 'ckbtrace', 'examples', 'bench'):
+            os.symlink(os.path.join(TOP, name), os.path.join(folder, name))
+        for check in (it for it in checks if not sys.argv[1:] or any(word in it.__name__ for word in sys.argv[1:])):
             try:
                 check(machine, folder)
             except (Wrong, OSError, subprocess.CalledProcessError) as error:

@@ -25,9 +25,11 @@ import assembling  # noqa: E402
 import chain_snapshots  # noqa: E402
 import documents  # noqa: E402
 import folders  # noqa: E402
+import json_program  # noqa: E402
 import json_texts  # noqa: E402
 import layers  # noqa: E402
 import making  # noqa: E402
+import pages  # noqa: E402
 import runs  # noqa: E402
 import script  # noqa: E402
 import stored  # noqa: E402
@@ -46,8 +48,8 @@ def main():
     a.add_argument('--program')
     a.add_argument('words', nargs='*')
     a = a.parse_args()
-    modules = (runs, streams, assembling, making, json_texts, folders, allocations, chain_snapshots, script, unproved, layers,
-               documents, tracing, stored)
+    modules = (runs, streams, assembling, making, pages, json_texts, folders, allocations, chain_snapshots, script, unproved, layers,
+               documents, tracing, json_program, stored)
     checks = [it for module in modules for it in checks_of(module)]
     checks = [it for it in checks if not a.words or any(word in it[0] for word in a.words)]
     program = a.program and os.path.abspath(a.program)

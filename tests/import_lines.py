@@ -442,7 +442,14 @@ def kept_in(log):
     if not Spec(spec).is_good() or not is_good_genesis(block_of(genesis)):
         return None
     store = Store(spec, genesis)
+    edition = None
     for kind, body in records[2:]:
+        if kind == 4:
+            if edition is not None or len(body) != 8:
+                return None
+            edition = number(body)
+            store.log += record(kind, body)
+            continue
         end = 4 + number(body[:4])
         block = block_of(body[4:end])
         if kind != 3 or not block or not is_ext(body[end:]) or len(store.blocks) >= BLOCK_LIMIT:
@@ -520,7 +527,7 @@ class Trial:
         self.counts = {name: collections.Counter() for name in RUNS}
 
     def row(self, name, columns):
-        if name in ('folder', 'list', 'faults'):
+        if name in ('folder', 'list', 'faults', 'more'):
             # (a run of `faults` has the row's text where its disk does not fail)
             self.store, self.put, self.disk_fails = None, b'', name == 'list' and columns != ['-']
         elif name == 'put':
@@ -596,8 +603,11 @@ def main():
         trial.row(name, columns)
     rows = []
     for name, columns in rows_of(LISTS):
+        if name == 'chain':
+            # a piece of a generated chain, and no run
+            continue
         rows.append((name, columns))
-        if name in ('list', 'faults'):
+        if name in ('list', 'faults', 'more'):
             trial.list(rows)
             rows = []
     for command, counts in trial.counts.items():

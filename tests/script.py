@@ -260,7 +260,7 @@ def check_script_answers_words_without_a_build(_):
         usages = [it.run(words=[word]) for word in ('--help', '-h')]
         must_be(usages[0], usages[1], '--help and -h')
         must_be((usages[0][0], usages[0][2]), (0, b''), '--help')
-        for command in ('init', 'import', 'check', 'assemble', 'tip', 'header N', 'json N', 'epoch', 'audit', 'cell HASH N', 'dao HASH N',
+        for command in ('init', 'import', 'watch HASH', 'migrate N', 'check', 'assemble', 'tip', 'header N', 'json N', 'epoch', 'audit', 'cell HASH N', 'list HASH', 'dao HASH N',
                         'exec N', 'asm', 'dis', 'unjson', 'make N M', 'soak N M'):
             lines = [line for line in usages[0][1].splitlines() if b'ckbdev FOLDER %s ' % command.encode() in line]
             must_be(len(lines), 1, 'lines of --help on ' + command)
@@ -428,14 +428,15 @@ def check_script_explains_lines_of_exec(_):
 def check_script_names_json(_):
     """Where a size word is none, the script says of an input in JSON what makes bytes of it."""
     of_block = "ckbdev 'any' unjson writes the bytes of a block\n"
-    of_other = 'it has to be in bytes (docs/FORMATS.md), which unjson writes of a block alone\n'
+    of_one = 'ckbjson transaction writes the bytes of a transaction\n'
+    of_items = 'ckbjson writes the bytes of a transaction and of a witness\n'
     begins, may_be = 'the input begins as JSON does, and ', 'the input is something else. If it is JSON: '
     with new_folder() as top:
         it = Answering(top)
         for given, piped, command, said in (
                 (b'{}', False, 'import', begins + of_block), (b' \r\n\t[1]', False, 'init', begins + of_block),
-                (b'{', False, 'check', begins + of_other), (b'{', False, 'assemble', begins + of_other),
-                (b'{}', True, 'import', may_be + of_block), (b'{}', True, 'check', may_be + of_other),
+                (b'{', False, 'check', begins + of_one), (b'{', False, 'assemble', begins + of_items),
+                (b'{}', True, 'import', may_be + of_block), (b'{}', True, 'check', may_be + of_one),
                 (b'\3\0\0\0', False, 'import', 'the input is something else\n'), (b'0x{}', False, 'init', 'the input is something else\n')):
             ran = it.ran([command], given, piped)
             must_be((ran.status, ran.out), (9, b''), command)

@@ -22,12 +22,11 @@ OTHERS = None
 # the parts of each file, in order: the scripts of rows/ that make them
 PARTS = {
     'crates/tx_vectors/stdin': ('live_cells', 'moves', 'transactions', 'script_groups'),
-    'crates/rule_vectors/stdin': (OTHERS, 'rule_blocks', 'windows', 'uncles', 'rewards', 'totals'),
+    'crates/rule_vectors/stdin': (OTHERS, 'sample_blocks', OTHERS, 'rule_blocks', 'windows', 'uncles', 'rewards', 'totals', 'json_items'),
     'crates/store_vectors/stdin': (OTHERS, 'kept_bodies', 'snapshots'),
-    'crates/format_vectors/stdin': (OTHERS, 'sample_blocks', OTHERS),
-    'crates/run_vectors/stdin': (OTHERS, 'branch_runs', 'snapshot_stops', 'stream_faults', 'audit_runs'),
+    'crates/run_vectors/stdin': (OTHERS, 'branch_runs', 'snapshot_stops', 'stream_faults', 'audit_runs', 'edition_runs'),
     'tests/rows/runs.txt': (OTHERS, 'stopped_logs', 'rule_runs', OTHERS, 'reward_runs', OTHERS, 'dao_amounts', 'branch_runs',
-                            'snapshot_runs', 'stream_faults', 'assembled_runs', 'audit_runs'),
+                            'snapshot_runs', 'stream_faults', 'assembled_runs', 'audit_runs', 'index_runs', 'edition_runs'),
 }
 # of a script that makes both: the rows of lists of runs, and those of runs by themselves
 ROWS_OF = {'crates/run_vectors/stdin': lambda row: is_of_list(row), 'tests/rows/runs.txt': lambda row: not is_of_list(row)}

@@ -39,6 +39,10 @@ BAD_WORDS = [
     ['any', 'json', '0', '0'], ['any', 'Json', '0'], ['json', '0'], ['', 'json', '0'],
     ['any', 'make'], ['any', 'make', '0'], ['any', 'make', '0', '20001'], ['any', 'make', '00', '1'],
     ['any', 'make', '18446744073709551616', '1'], ['any', 'make', '0', '1', '2'],
+    ['any', 'migrate'], ['any', 'migrate', '01'], ['any', 'migrate', '-1'], ['any', 'migrate', '18446744073709551616'],
+    ['any', 'migrate', '1', '2'], ['', 'migrate', '1'], ['any', 'Migrate', '1'],
+    ['any', 'list'], ['any', 'list', '5'], ['any', 'list', '0x' + 'A' * 64], ['any', 'list', '0x' + '0' * 63],
+    ['any', 'watch'], ['any', 'watch', '0x' + '0' * 65], ['any', 'watch', '0' * 64], ['', 'watch', '0x' + '0' * 64],
     [b'\xff', 'import'], ['any', b'\xff'],
 ]
 

@@ -8,6 +8,7 @@ bytes in hex:
 
     blob    a name, and bytes, which later rows call by that name
     spec    a specification: a new chain begins
+    edition the epoch from which on the second edition of the rules holds there
     genesis its first block
     block   a block on one before it, with its ext
     groups  what comes of a transaction, a budget, the transaction, the cells of
@@ -110,9 +111,11 @@ def exact(scene):
 class Chain:
     """A genesis and blocks on it, each with its parent's place. A block holds no more than its header."""
 
-    def __init__(self, length, parents):
+    def __init__(self, length, parents, edition=None):
         self.length, self.headers, heights = length, [], []
         LINES.append(row_of('spec', Spec(epoch_length=length).item()))
+        if edition is not None:
+            LINES.append(row_of('edition', edition))
         for place, parent in enumerate([None, *parents]):
             height = 0 if parent is None else heights[parent] + 1
             # an epoch field that is not the one of the height: it is not looked at
@@ -576,6 +579,41 @@ def on_codes(chain):
         tries('no_code 0', Script(T.hash(), hash_type), [holds])
 
 
+def on_editions(chain):
+    """Several deps with one type script, where the second edition holds: they are one code where their data is equal."""
+    holds = Cell(ANYONE, T, PROGRAM, block=1)
+    same = Cell(OK, T, PROGRAM, 5, block=2, tx=3)
+    other = Cell(ANYONE, U, EXIT)
+    by_type = Script(T.hash(), BY_TYPE)
+
+    def tries(wanted, script, deps, grouped=0):
+        row(Scene(chain, [Cell(script)], [Cell(ANYONE)], deps, grouped=grouped, second=True), wanted)
+
+    tries('ok 505', by_type, [holds])
+    tries('ok 505', by_type, [holds, same])
+    tries('ok 505', by_type, [holds, holds])
+    tries('ok 505', by_type, [other, same, other, holds, same])
+    tries('ok 505', by_type, [holds, other, holds], grouped=2)
+    for differs in (EXIT, b'', PROGRAM[:-1], PROGRAM + b'\0', PROGRAM[:-1] + b'\x01'):
+        assert differs != PROGRAM
+        tries('many_codes 0', by_type, [holds, Cell(ANYONE, T, differs)])
+        tries('many_codes 0', by_type, [Cell(ANYONE, T, differs), holds])
+        tries('many_codes 0', by_type, [holds, same, Cell(ANYONE, T, differs), same])
+    # one that is no program is refused as such
+    tries('bad_elf 0 1', by_type, [Cell(ANYONE, T, b''), Cell(ANYONE, T, b'', block=1)])
+    # other scripts find their code as before
+    tries('no_code 0', by_type, [])
+    tries('no_code 0', by_type, [other, other])
+    tries('ok 505', OK, [other, holds, holds])
+    tries('no_code 0', Script(T.hash()), [holds, same])
+    tries('no_code 0', Script(T.hash(), 2), [holds, same])
+    # J28 looks at all groups before one runs
+    two = [holds, same, Cell(ANYONE, None, EXIT), Cell(ANYONE, U, EXIT), Cell(ANYONE, U, CODE)]
+    many = Script(U.hash(), BY_TYPE)
+    row(Scene(chain, [Cell(exits(3))], [Cell(ANYONE, by_type)], two, second=True), 'exit 0 3')
+    row(Scene(chain, [Cell(by_type)], [Cell(ANYONE, many)], two, second=True), 'many_codes 1')
+
+
 def on_files(chain):
     """Data that is no program, and the cycles of loading and of each step."""
     holds = Cell(ANYONE, T, PROGRAM, block=1)
@@ -806,6 +844,7 @@ def main():
         cases(chain)
     for length in (1, 2, 3, 4, 65535):
         on_epochs(Chain(length, parents))
+    on_editions(Chain(10, parents, edition=0))
     alone = Scene(Chain(10, []), [Cell(OK, capacity=10 ** 12)], [Cell(OK)], [Cell(OK, content=PROGRAM)])
     row(alone, 'ok 505', 1 << 40, rounds=3)
     print('\n'.join(LINES))

@@ -7,7 +7,8 @@ They stand there after rows that no script here makes. A log of a genesis and th
 blocks is stopped at each record: before its first write, in it, between the two, and in
 the second, with what a crash may have left of what was not synced. Each is opened, asked
 for its tip, and given all three blocks again. The rows say by docs/STORE.md which blocks
-each log has. They owe nothing to the program: the bytes of a log are put together here.
+each log has. So do logs with the record of an edition in every place, and with one that
+may not stand where it does. They owe nothing to the program: the bytes of a log are put together here.
 """
 
 import hashlib
@@ -74,6 +75,66 @@ def tails(n):
     yield 'an open gate before other bytes', b'\1' + b'\xff' * 40, False
 
 
+def edition_record(epoch):
+    return record(4, epoch.to_bytes(8, 'little'))
+
+
+def is_kept(what, tail, n, kept):
+    """A log with this after the n-th block is a store of so many blocks, and stays one when all are imported again."""
+    name = '%s, %d' % (what, n)
+    emit('folder', name)
+    emit('put', 'log', LOG[n] + tail + b'\0')
+    lines = b''.join(item_line(i, kept) for i in (1, 2, 3))
+    rest = tail + b''.join(map(block_record, BLOCKS[kept + 1:4]))
+    call(name, 'tip', DONE, b'', tip_line(kept), LOG[n] + tail)
+    call(name, 'import', DONE, ITEMS, lines, LOG[n] + rest)
+    call(name, 'tip', DONE, b'', tip_line(3), LOG[n] + rest)
+
+
+def editions():
+    """A record of an edition stands among those of blocks, once and with eight bytes; where it does not, the log is no store."""
+    for n in range(4):
+        for epoch in (0, 1, 2 ** 64 - 1):
+            is_kept('an edition from %d' % epoch, edition_record(epoch), n, n)
+    for n in range(3):
+        after = b''.join(map(block_record, BLOCKS[n + 1:]))
+        is_kept('an edition before the others', edition_record(1) + after, n, 3)
+        wrong = (
+            ('a second edition', edition_record(1) + edition_record(1)),
+            ('a second edition after the others', edition_record(1) + after + edition_record(2)),
+            ('an edition of seven bytes', record(4, bytes(7))),
+            ('an edition of nine bytes', record(4, bytes(9))),
+            ('an edition of no byte', record(4, b'')),
+            ('an edition of another kind', record(5, bytes(8))),
+        )
+        for what, tail in wrong:
+            name = '%s, %d' % (what, n)
+            emit('folder', name)
+            emit('put', 'log', LOG[n] + tail + b'\0')
+            call(name, 'tip', NOT_A_STORE, b'', b'', LOG[n] + tail + b'\0')
+            call(name, 'import', NOT_A_STORE, ITEMS, b'', LOG[n] + tail + b'\0')
+    fronts = (
+        ('an edition before the specification', edition_record(1) + record(1, SPEC.item()) + record(2, BLOCKS[0].item())),
+        ('an edition before the genesis', record(1, SPEC.item()) + edition_record(1) + record(2, BLOCKS[0].item())),
+    )
+    for what, records in fronts:
+        log = b'CKBDEV01' + records + b'\0'
+        emit('folder', what)
+        emit('put', 'log', log)
+        call(what, 'tip', NOT_A_STORE, b'', b'', log)
+
+
+def stopped_editions():
+    """An edition is written in two steps: before the gate is open it is none, and a part of it never is."""
+    whole = edition_record(1)
+    for cut in range(len(whole)):
+        name = 'an edition up to %d' % cut
+        emit('folder', name)
+        emit('put', 'log', LOG[1] + b'\0' + whole[1:cut] + b'\xff' * 8)
+        call(name, 'tip', DONE, b'', tip_line(1), LOG[1])
+        call(name, 'import', DONE, ITEMS, item_line(1, 1) + item_line(2, 1) + item_line(3, 1), LOG[3])
+
+
 def stopped_imports():
     for n in range(3):
         for what, tail, whole in tails(n):
@@ -109,3 +170,5 @@ def stopped_inits():
 if __name__ == '__main__':
     stopped_imports()
     stopped_inits()
+    editions()
+    stopped_editions()

@@ -12,6 +12,7 @@ and owe nothing to the program: only hashes and encodings are computed.
 A row is a word and its columns, with a tab between two, bytes in hex:
 
     spec         the specification of a new chain
+    edition      the epoch from which on the second edition of the rules holds there
     genesis      its genesis
     block        the next block, and its ext
     shadow       an out-point that gets the row of another
@@ -85,12 +86,14 @@ def witness_args(input_type):
 class Chain:
     """A chain whose blocks keep what is needed to resolve transactions on them. Its rows are the cases."""
 
-    def __init__(self, rows, genesis_outputs, genesis_data, timestamp=1000, **fields):
+    def __init__(self, rows, genesis_outputs, genesis_data, timestamp=1000, edition=None, **fields):
         self.rows = rows
         self.spec = Spec(**fields)
         self.blocks = []
         self.heads = []
         self.row('spec', self.spec.item())
+        if edition is not None:
+            self.row('edition', edition)
         self.first = Tx([(0, NULL_OUT_POINT)], genesis_outputs, genesis_data)
         self.put('genesis', [self.first], timestamp, 10 ** 16)
 
@@ -129,11 +132,11 @@ class Chain:
     def broken(self, rule, tx):
         self.row('transaction', 'broken %d' % rule, tx.item)
 
-    def within(self, answer, txs, place):
+    def within(self, answer, txs, place, timestamp=None):
         """The transaction at a place of the next block."""
-        number = len(self.blocks)
-        before = self.block(txs[:place], 1000 + 1000 * number)[1]
-        whole = self.block(txs, 1000 + 1000 * number)[1]
+        timestamp = 1000 + 1000 * len(self.blocks) if timestamp is None else timestamp
+        before = self.block(txs[:place], timestamp)[1]
+        whole = self.block(txs, timestamp)[1]
         self.row('within', answer, before, whole)
 
 
@@ -547,9 +550,94 @@ def rounding(rows):
     chain.broken(26, Tx(spend, [output(c + 1)]))
 
 
+SECOND, RELATIVE = 2, 1
+THREE_SECONDS = 0xc000000000000003
+
+
+def slow_times(time):
+    """Block 5 has a timestamp of 10,000, and its parent a median time of 5,000. The median time at block 11 is this one."""
+    times = [4998, 4999, 5000, 5001, 5002, 10_000, *[time] * 4, time + 1, time + 2]
+    medians = [sorted(times[:count])[count // 2] for count in range(1, len(times) + 1)]
+    # J8 is kept
+    assert all(median < later for median, later in zip(medians, times[1:]))
+    assert medians[4] == 5000 and medians[11] == time
+    return times
+
+
+def editions_of_sinces(rows):
+    """J24 by the edition: a cell counts from the median time at the parent of its block, or from the timestamp of its block."""
+    fee = 39 * SHANNONS
+
+    def tries(met, time, edition):
+        times = slow_times(time)
+        chain = Chain(rows, [output(100 * SHANNONS)] * 2, [b''] * 2, timestamp=times[0], edition=edition, epoch_length=4)
+        made = Tx([(0, chain.first.point(0))], [output(100 * SHANNONS)])
+        for number, its_time in enumerate(times[1:], 1):
+            chain.next([made] if number == 5 else [], timestamp=its_time)
+        spends = Tx([(THREE_SECONDS, made.point(0))])
+        chain.ok(spends, fee) if met else chain.broken(24, spends)
+        return chain
+
+    # spent at height 12, in epoch 3
+    for edition in (None, 4, GREATEST):
+        tries(True, 8_000, edition)
+        tries(False, 7_999, edition)
+    for edition in (0, 1, 3):
+        tries(True, 13_000, edition)
+        tries(False, 12_999, edition)
+        tries(False, 8_000, edition)
+    # the genesis' own timestamp is that of its block
+    chain = tries(True, 13_000, 3)
+    old = chain.first.point(1)
+    chain.ok(Tx([(since_of(RELATIVE, SECOND, 8), old)]), fee)
+    chain.broken(24, Tx([(since_of(RELATIVE, SECOND, 9), old)]))
+    # the other sinces count as before
+    chain.ok(Tx([(since_of(0, SECOND, 13), old)]), fee)
+    chain.broken(24, Tx([(since_of(0, SECOND, 14), old)]))
+    chain.ok(Tx([(since_of(RELATIVE, 0, 12), old)]), fee)
+    chain.broken(24, Tx([(since_of(RELATIVE, 0, 13), old)]))
+    # A cell of the same block counts from the block's own timestamp, which is above the median time where J8 is kept.
+    for edition in (None, 3):
+        chain = tries(True, 13_000, edition)
+        one = Tx([(0, chain.first.point(1))], [output(100 * SHANNONS)])
+        txs = [cellbase(12), one, Tx([(since_of(RELATIVE, SECOND, 0), one.point(0))])]
+        met, late = ('ok %d 0 - -' % fee, 'broken 24') if edition else ('ok %d 0 - -' % fee,) * 2
+        chain.within(met, txs, 2, timestamp=13_000)
+        chain.within(late, txs, 2, timestamp=13_001)
+        chain.within(late, txs, 2, timestamp=GREATEST)
+
+
+def editions_of_headers(rows):
+    """J22 by the edition, with a maturity of four epochs."""
+    fee = 39 * SHANNONS
+    chain = Chain(rows, [output(100 * SHANNONS)] * 2, [b''] * 2, edition=2, epoch_length=3, maturity=epochs(4))
+    spend = [(0, chain.first.point(0))]
+    for _ in range(3):
+        chain.next()
+    paid = chain.next(outputs=[output(200 * SHANNONS)])
+    # at height 5, in epoch 1
+    chain.broken(22, Tx(spend, headers=[chain.hash_at(4)]))
+    chain.broken(22, Tx(spend, headers=[chain.hash_at(0)]))
+    chain.next()
+    # at height 6, in epoch 2
+    chain.ok(Tx(spend, headers=[chain.hash_at(5)]), fee, headers='5')
+    chain.ok(Tx(spend, headers=[chain.hash_at(0), chain.hash_at(4)]), fee, headers='0,4')
+    chain.broken(22, Tx(spend, headers=[chain.hash_at(5), b'\x44' * 32]))
+    # a cellbase output waits as before
+    chain.broken(23, Tx([(0, paid.point(0))], headers=[chain.hash_at(5)]))
+    chain.broken(23, Tx(spend, deps=[(paid.point(0), 0)]))
+    chain.within('ok %d 0 - 5' % fee, [cellbase(6), Tx(spend, headers=[chain.hash_at(5)])], 1)
+    # from the first epoch on, and never
+    for edition, wanted in ((0, 'ok %d 0 - 1' % fee), (None, 'broken 22'), (GREATEST, 'broken 22')):
+        chain = Chain(rows, [output(100 * SHANNONS)], [b''], edition=edition, epoch_length=3, maturity=epochs(4))
+        chain.next()
+        chain.row('transaction', wanted, Tx([(0, chain.first.point(0))], headers=[chain.hash_at(1)]).item)
+
+
 def main():
     rows = []
-    for cases in (form, deps, headers_and_maturity, young, sinces, starts, outputs, withdrawals, rounding, in_a_block):
+    for cases in (form, deps, headers_and_maturity, young, sinces, starts, outputs, withdrawals, rounding, in_a_block,
+                  editions_of_sinces, editions_of_headers):
         cases(rows)
     print('\n'.join(rows))
 

@@ -1,0 +1,141 @@
+"""`ckbjson` over the items of examples/: their texts beside a writer in plain Python, their hashes, words and streams."""
+
+import functools
+import json
+import os
+import subprocess
+import sys
+
+import block_json
+from harness import TOP, Ran, contract, first, must, must_answer, must_be, new_folder
+from encoding import ckbhash, fields_of
+
+INPUT_LIMIT = 1 << 24
+
+
+@functools.lru_cache(None)
+def converter():
+    """The program, which is built where there is none."""
+    subprocess.run([sys.executable, os.path.join(TOP, 'tools', 'build.py'), 'ckbjson'], stdin=subprocess.DEVNULL)
+    program = os.path.join(TOP, 'build', 'ckbjson')
+    must(os.access(program, os.X_OK), 'there is no program %s' % program)
+    return program
+
+
+def blocks():
+    """Every block of examples/ that is one."""
+    items = first.first_blocks()[0] + contract.contract_chain()[0]
+    return [first.GENESIS.item(), *(item for item, line in items if line != 'refused J1')]
+
+
+def compact(tree):
+    return json.dumps(tree, separators=(',', ':')).encode()
+
+
+def witness_tree(b):
+    lock, message = fields_of(b)
+    return {'lock': block_json.script(lock), 'message': block_json.text(message[4:])}
+
+
+@functools.lru_cache(None)
+def items():
+    """(the kind, the bytes, the tree) of each block and of its parts, each once."""
+    found = {}
+    for block in blocks():
+        found['block', block] = block_json.tree_of(block)
+        for place, transaction in enumerate(fields_of(fields_of(block)[2])):
+            found['transaction', transaction] = block_json.of_transaction(transaction)
+            raw, witnesses = fields_of(transaction)
+            for output in fields_of(fields_of(raw)[4]):
+                for script in filter(None, fields_of(output)[1:]):
+                    found['script', script] = block_json.script(script)
+            held = fields_of(witnesses)[:1]
+            if place == 0 and held and len(held[0]) > 16:
+                found['witness', held[0][4:]] = witness_tree(held[0][4:])
+    return [(kind, item, tree) for (kind, item), tree in found.items()]
+
+
+def lines_of_hashes(kind, item):
+    if kind == 'block':
+        hashes = [ckbhash(fields_of(it)[0]) for it in fields_of(fields_of(item)[2])]
+        lines = ['hash 0x%s' % ckbhash(fields_of(item)[0]).hex(), *('transaction 0x%s' % it.hex() for it in hashes)]
+    else:
+        own = ckbhash(fields_of(item)[0]).hex()
+        lines = ['hash 0x' + own, 'witness hash 0x' + ckbhash(item).hex(), 'proposal id 0x' + own[:20], 'size %d' % len(item)]
+    return ''.join(line + '\n' for line in lines).encode()
+
+
+def must_refuse(words, given, line):
+    ran = Ran([converter(), *words], given)
+    must_be((ran.status, ran.out, ran.err), (1, b'', line), '%s of %r' % (words, given[:60]))
+
+
+# ---------------------------------------------------------------------- checks
+
+def check_json_items(_):
+    """Each item is shown as its text, and read from it, also with spaces and line feeds."""
+    kinds = {kind for kind, _, _ in items()}
+    must_be(kinds, {'block', 'transaction', 'script', 'witness'}, 'what the samples hold')
+    for kind, item, tree in items():
+        must_answer(Ran([converter(), kind, '--show'], item), 0, compact(tree) + b'\n', kind)
+        for given in (compact(tree), json.dumps(tree, indent=1).encode()):
+            must_answer(Ran([converter(), kind], given), 0, item, kind)
+
+
+def check_json_ids(_):
+    """The hashes of each transaction and block; nothing else has any."""
+    for kind, item, _ in items():
+        if kind in ('transaction', 'block'):
+            must_answer(Ran([converter(), 'id'], item), 0, lines_of_hashes(kind, item), 'the hashes of a ' + kind)
+        else:
+            must_refuse(['id'], item, b'ckbjson: no bytes of a transaction or of a block\n')
+
+
+def check_json_refused(_):
+    """An item of one kind is none of another, and a refusal is said on standard error alone."""
+    samples = {kind: (item, tree) for kind, item, tree in items()}
+    for kind, (item, tree) in samples.items():
+        for other in samples:
+            if other != kind:
+                must_refuse([other, '--show'], item, b'ckbjson: no bytes of a %s\n' % other.encode())
+                must_refuse([other], compact(tree), b'ckbjson: no text of a %s\n' % other.encode())
+        must_refuse([kind, '--show'], item[:-1], b'ckbjson: no bytes of a %s\n' % kind.encode())
+        must_refuse([kind, '--show'], b'', b'ckbjson: no bytes of a %s\n' % kind.encode())
+
+
+def check_json_words_and_streams(_):
+    """Words outside the grammar read and write nothing; a stream that fails has its status."""
+    kind, item, tree = next(it for it in items() if it[0] == 'transaction')
+    for words in ([], [''], ['Block'], ['transactions'], ['--show'], ['--show', 'block'], ['block', 'show'], ['block', '--show', ''],
+                  ['id', '--show'], ['id', 'block'], ['block', 'block']):
+        ran = Ran([converter(), *words], item)
+        must_be((ran.status, ran.out, ran.read), (2, b'', 0), repr(words))
+    must_be(Ran([converter(), 'id'], bytes(INPUT_LIMIT + 1)).status, 12, 'an input that is too long')
+    must_be(Ran([converter(), 'id'], bytes(INPUT_LIMIT)).status, 1, 'the longest input')
+    must_answer(Ran([converter(), kind], compact(tree), piped=True), 0, item, 'by pipes')
+    with open('/dev/full', 'wb') as full:
+        ran = subprocess.run([converter(), kind], input=compact(tree), stdout=full, stderr=subprocess.DEVNULL, check=False)
+    must_be(ran.returncode, 4, 'a full standard output')
+    must_be(Ran(['sh', '-c', 'exec "$@" <&-', '', converter(), kind]).status, 3, 'a closed standard input')
+
+
+def check_json_document(_):
+    """What docs/COMMANDS.md shows of hashes is what comes, by the script."""
+    with open(os.path.join(TOP, 'docs', 'COMMANDS.md'), encoding='utf-8') as f:
+        part = f.read().split('\n## JSON and bytes\n')[1].split('\n## ')[0]
+    command, *wanted = [line[4:] for line in part.splitlines() if line.startswith('    ')][3:]
+    # the script has a build to run
+    converter()
+    with new_folder() as away:
+        for name in ('ckbjson', 'examples'):
+            os.symlink(os.path.join(TOP, name), os.path.join(away, name))
+        must_answer(Ran(['sh', '-c', './' + command], cwd=away), 0, ''.join(line + '\n' for line in wanted).encode(), command)
+    with open(os.path.join(TOP, 'examples', 'transfer.bin'), 'rb') as f:
+        must_be(lines_of_hashes('transaction', f.read()).decode().splitlines(), wanted, 'the hashes in docs/COMMANDS.md')
+
+
+def check_json_stored(_):
+    """The stored run of the crate has the text of a writer in plain Python."""
+    crate = os.path.join(TOP, 'crates', 'ckbjson')
+    with open(os.path.join(crate, 'stdin'), 'rb') as given, open(os.path.join(crate, 'stdout'), 'rb') as text:
+        must_be(text.read(), compact(block_json.of_transaction(given.read())) + b'\n', 'crates/ckbjson/stdout')
