@@ -99,7 +99,7 @@ def balances_of(model):
 
 def listing(program, cells, rounds, work):
     """`list` beside `tip`, on a store with a snapshot whose cells all have the lock."""
-    made = Made(work, EVERY, plain=True, row=True, far=EVERY, cells=cells)
+    made = Made(work, EVERY, plain=True, row=True, far=100, cells=cells)
     rows = made.model.live_cells(EVERY)
     lines = ['cell 0x%s %d %d\n' % (point[:32].hex(), chaingen.encoding.number_of(point[32:]), amount_of(rows[point]))
              for point in sorted(rows, key=store_model.in_order)]
@@ -143,7 +143,7 @@ def following(program, cells, rounds, work):
     """What empty blocks cost `watch` over many live cells and over few, the opening and the index left out."""
     good = True
     for count in (FEW, cells):
-        made = Made(work, EMPTY, plain=True, row=True, far=EVERY, cells=count)
+        made = Made(work, EMPTY, plain=True, row=True, far=100, cells=count)
         balances = balances_of(made.model)
         first = turns(program, made, rounds, balances, made.none, 0)
         all_of = turns(program, made, rounds, balances, made.input, EMPTY)
