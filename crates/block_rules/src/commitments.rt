@@ -1,45 +1,12 @@
 //! What a header commits to its block by.
 ghost use Rattle.std.specs.Prelude.{◌≡◌, ◌<◌, ◌^◌, length, map, IfOk};
-ghost use Rattle.chain_defs.specs.Kept.{header_hash};
 ghost use Rattle.chain_defs.specs.Hashes as hashes;
 
-use blake2b_ckb::{Hasher, ckbhash};
-use mol_schema::{BlockView, HeaderView, TxView};
+use blake2b_ckb::Hasher;
+use mol_schema::BlockView;
 use outside::NoMemory;
 use std::alloc::Global;
-
-#[tactic(auto, unfolding(chain_defs::specs::Hashes::transaction_hash))]
-fn transaction_hash(transaction: &TxView<'_>) -> [u8; 32]
-    ensures { result ≡ hashes.transaction_hash transaction.now }
-{
-    ckbhash(transaction.raw().bytes())
-}
-
-#[tactic(auto, unfolding(chain_defs::specs::Hashes::witness_hash))]
-fn witness_hash(transaction: &TxView<'_>) -> [u8; 32]
-    ensures { result ≡ hashes.witness_hash transaction.now }
-{
-    ckbhash(transaction.bytes())
-}
-
-#[tactic(auto, unfolding(chain_defs::specs::Kept::header_hash))]
-fn hash_of_header(header: &HeaderView<'_>) -> [u8; 32]
-    ensures { result ≡ header_hash header.now }
-{
-    ckbhash(header.bytes())
-}
-
-/// The hashes of a block's transactions, in their order.
-pub fn transaction_hashes(alloc: Global, block: &BlockView<'_>) -> Result<Vec<[u8; 32]>, NoMemory>
-    ensures hashes { IfOk result (λ list. list.items ≡ map hashes.transaction_hash block.now.transactions) }
-    ensures fits { IfOk result (λ list. length list.items < 2 ^ 30) }
-{
-    let mut list = Vec::new(alloc);
-    'transactions: for i in 0..block.transactions_count() {
-        list.push(transaction_hash(&block.transactions_item(i)))?;
-    }
-    Ok(list)
-}
+use view_hashes::{header_hash, transaction_hashes, witness_hash};
 
 /// Their hashes with witnesses.
 fn witness_hashes(alloc: Global, block: &BlockView<'_>) -> Result<Vec<[u8; 32]>, NoMemory>
@@ -98,7 +65,7 @@ pub fn uncles_hash(block: &BlockView<'_>) -> [u8; 32]
     }
     let mut hasher = Hasher::new();
     'uncles: for i in 0..block.uncles_count() {
-        hasher.update(&hash_of_header(&block.uncles_item(i).header()));
+        hasher.update(&header_hash(&block.uncles_item(i).header()));
     }
     hasher.finalize()
 }

@@ -21,6 +21,6 @@ IsUndamaged DiskFault = ⊤
 IsUndamaged NoMemory = ⊤
 
 -- It comes to a value as is expected, or is stopped, and not by damage.
-abbrev pub ComesTo : {T : Type 0} → (T → Type 0) → Result T ReadStop → Type 0
-ComesTo expected (Ok value) = expected value
-ComesTo expected (Err stop) = IsUndamaged stop
+abbrev pub YieldsUndamaged : {T : Type 0} → (T → Type 0) → Result T ReadStop → Type 0
+YieldsUndamaged expected (Ok value) = expected value
+YieldsUndamaged expected (Err stop) = IsUndamaged stop

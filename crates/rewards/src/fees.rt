@@ -17,7 +17,7 @@ ghost use Rattle.rule_defs.specs.Fees as fees;
 ghost use Rattle.rule_defs.specs.Fees.{Paid, paid_at};
 ghost use Rattle.rewards.specs.Paid.{ArePaid};
 ghost use Rattle.rewards.specs.Starts.{is_started};
-ghost use Rattle.rewards.specs.Reading.{AreKnownBlocks, ComesTo};
+ghost use Rattle.rewards.specs.Reading.{AreKnownBlocks, YieldsUndamaged};
 
 use crate::amounts::{committer_share, plus, proposer_share};
 use crate::places::place_at;
@@ -93,7 +93,7 @@ pub(crate) fn committed_at<B: Blocks>(
     ensures read { HasRead B.told B.count B.loans_of B.faults B.damages blocks.old blocks.new (stop_of result) }
     ensures of_block { (stored : List Stored) → B.told blocks.old ≡ Some stored → (damage : Damage) → result ≡ Err (Damaged damage) → IsOfBlock tree.now.entries damage }
     ensures sum { (spec : Specification) (stored : List Stored) → AreKnownBlocks spec (B.told blocks.old) tree.now.entries stored
-        → ComesTo (λ found. found ≡ as_u64 (pos (sum_by (λ paid. fees.committer_share paid.fee) (paid_at spec (branch (blocks_of stored) parent) height)))) result }
+        → YieldsUndamaged (λ found. found ≡ as_u64 (pos (sum_by (λ paid. fees.committer_share paid.fee) (paid_at spec (branch (blocks_of stored) parent) height)))) result }
 {
     let place = place_at(tree, parent, height);
     match blocks.bring(place) {
@@ -122,7 +122,7 @@ pub(crate) fn proposed_at<B: Blocks>(
     ensures read { HasRead B.told B.count B.loans_of B.faults B.damages blocks.old blocks.new (stop_of result) }
     ensures of_block { (stored : List Stored) → B.told blocks.old ≡ Some stored → (damage : Damage) → result ≡ Err (Damaged damage) → IsOfBlock tree.now.entries damage }
     ensures sum { (spec : Specification) (stored : List Stored) → AreKnownBlocks spec (B.told blocks.old) tree.now.entries stored
-        → ComesTo (λ found. found ≡ as_u64 (pos (sum_by (λ paid. fees.proposer_share paid.fee)
+        → YieldsUndamaged (λ found. found ≡ as_u64 (pos (sum_by (λ paid. fees.proposer_share paid.fee)
         (filter (λ paid. is_started (hashed.get bytes_eq starts.now paid.id) height) (paid_at spec (branch (blocks_of stored) parent) height))))) result }
 {
     let place = place_at(tree, parent, height);

@@ -4,7 +4,7 @@ ghost use Rattle.std.specs.Prelude.{◌≡◌, ◌*◌, ◌^◌, ◌<◌, ◌≤
 ghost use Rattle.chain_defs.specs.Since as rules;
 ghost use Rattle.chain_defs.specs.Since.{Spending, IsLater};
 ghost use Rattle.chain_defs.specs.Specification.{keeps_s2};
-ghost use Rattle.since_rules.specs.Fields.{meaning};
+ghost use Rattle.since_rules.specs.Fields.{meaning, is_timestamp};
 ghost use Rattle.since_rules.specs.Rules.{IsMature, HasFault};
 
 use crate::fields::{Metric, is_relative, metric_of, reserved_of, since_value};
@@ -22,7 +22,8 @@ pub struct SinceAt {
     pub median: u64,
     /// The height of the block that made the cell.
     pub made: u64,
-    /// The median time at the parent of the block that made the cell.
+    /// From when a relative timestamp counts: the median time at the parent of the block that made the cell, or by the
+    /// second edition of the rules that block's own timestamp.
     pub start: u64,
     /// Blocks in an epoch.
     pub length: u32,
@@ -57,6 +58,18 @@ impl fmt::Display for SinceFault {
 }
 
 impl Error for SinceFault {}
+
+/// Whether the value of a since counts seconds. Where it does not, what `meets` answers hangs on no median time.
+pub fn counts_seconds(since: u64) -> bool
+    ensures { result ≡ is_timestamp (rules.metric_of since) }
+{
+    match metric_of(since) {
+        Some(Metric::Timestamp) => true,
+        Some(Metric::BlockNumber) => false,
+        Some(Metric::Epoch) => false,
+        None => false,
+    }
+}
 
 /// Whether a since is met.
 pub fn meets(since: u64, at: &SinceAt) -> Result<(), SinceFault>

@@ -1,5 +1,5 @@
 -- The block that made a cell which a transaction sees: its height, and the time from which the cell counts.
-use Rattle.std.proofs.Common.{◌≡◌, ℕ, zero, suc, ◌+◌, ◌-◌, ◌<◌, Bool, true, false, ◌&&◌, ◌||◌, ◌==◌, not, nat_lt, get_or, map, List, [], ◌∷◌, length, take, Option, Some, Result, Ok, Err, refl, sym, ap, ◌∙◌, subst, inl, inr, ◌⊎◌, arith, add-one}
+use Rattle.std.proofs.Common.{◌≡◌, ℕ, zero, suc, ◌+◌, ◌-◌, ◌<◌, Bool, true, false, true≢false, ◌&&◌, ◌||◌, ◌==◌, not, nat_lt, nat_le, get_or, map, List, [], ◌∷◌, length, take, Option, Some, Result, Ok, Err, refl, sym, ap, ◌∙◌, subst, inl, inr, ◌⊎◌, arith, add-one}
 use Rattle.std.specs.Prelude.{slice_get, if◌then◌else◌, IfSome, IfOk, OnOk, IfErr, is_ok}
 use Rattle.std.specs.Option.{option_map, option_and_then}
 use Rattle.std.proofs.lemmas.List.{take_all, length-take-le, length-map}
@@ -20,11 +20,13 @@ use Rattle.chain_tree.proofs.BlockLemmas.{DescribedAt, described, len-same}
 use Rattle.cell_defs.specs.Row.{Row}
 use Rattle.rule_defs.specs.Site.{Site, Found, height_at}
 use Rattle.rule_defs.specs.Age.{timestamp_of, median_start, block_start, start_at, spending}
-use Rattle.chain_defs.specs.Since.{Spending, is_valid, is_met}
+use Rattle.chain_defs.specs.Since.{Spending, Metric, block_number, epoch, timestamp, no_metric, metric_of, is_relative, since_value, is_passed, is_reached, is_valid, is_met}
+use Rattle.chain_defs.specs.Epochs.{is_span_over}
+use Rattle.since_rules.specs.Fields.{is_timestamp}
 use Rattle.since_rules.specs.declared.rules.SinceFault.{SinceFault}
 use Rattle.since_rules.specs.declared.rules.SinceFault.TheVariants.{Invalid, Immature}
 use Rattle.since_rules.specs.Rules.{IsMature, HasFault}
-use Rattle.tx_rules.specs.At.{AtValue, IsPlaced, IsSiteOf, AreSeen, found_row}
+use Rattle.tx_rules.specs.At.{AtValue, IsAtParent, IsSiteOf, AreSeen, found_row}
 use Rattle.tx_rules.specs.Seen.{IsRowOf}
 use Rattle.tx_rules.proofs.BranchLemmas.{branch-long, branch-block, number-on-branch}
 use Rattle.tx_rules.proofs.SiteLemmas.{IsKeptRow, IsOwnRow, row-made}
@@ -33,12 +35,12 @@ use Rattle.tx_rules.proofs.SiteLemmas.{IsKeptRow, IsOwnRow, row-made}
 
 -- what made the cell of a row
 pub row-of : (stored : List Stored) (at : AtValue) (rows : OutPoint → Option Row) (site : Site) (found : Found) (row : Row)
-    → IsPlaced at → IsSiteOf stored at rows site → IsRowOf (blocks_of stored) at.parent site found row
+    → IsAtParent at → IsSiteOf stored at rows site → IsRowOf (blocks_of stored) at.parent site found row
     → IsKeptRow stored at found.out_point found.cell row ⊎ IsOwnRow stored at found.out_point found.cell row
 row-of stored at rows site found row placed is its = row-made stored at rows site found.out_point found.cell row placed.parent is its.seen its.is
 
 pub made-own : (stored : List Stored) (at : AtValue) (rows : OutPoint → Option Row) (site : Site) (found : Found) (row : Row)
-    → IsPlaced at → IsSiteOf stored at rows site → IsRowOf (blocks_of stored) at.parent site found row
+    → IsAtParent at → IsSiteOf stored at rows site → IsRowOf (blocks_of stored) at.parent site found row
     → row.block ≡ length at.entries → height_at site ≡ found.cell.height
 made-own stored at rows site found row placed is its last = by_made (row-of stored at rows site found row placed is its)
   where
@@ -47,7 +49,7 @@ made-own stored at rows site found row placed is its last = by_made (row-of stor
     by_made (inr own) = ap length is.on_branch ∙ sym own.height
 
 pub made-past : (stored : List Stored) (at : AtValue) (rows : OutPoint → Option Row) (site : Site) (found : Found) (row : Row)
-    → IsPlaced at → IsSiteOf stored at rows site → IsRowOf (blocks_of stored) at.parent site found row
+    → IsAtParent at → IsSiteOf stored at rows site → IsRowOf (blocks_of stored) at.parent site found row
     → length at.entries < row.block → ⊥
 made-past stored at rows site found row placed is its past = by_made (row-of stored at rows site found row placed is its)
   where
@@ -57,7 +59,7 @@ made-past stored at rows site found row placed is its past = by_made (row-of sto
 
 -- the row of a cell that a kept block made
 pub kept-row : (stored : List Stored) (at : AtValue) (rows : OutPoint → Option Row) (site : Site) (found : Found) (row : Row)
-    → IsPlaced at → IsSiteOf stored at rows site → IsRowOf (blocks_of stored) at.parent site found row
+    → IsAtParent at → IsSiteOf stored at rows site → IsRowOf (blocks_of stored) at.parent site found row
     → row.block < length at.entries → IsKeptRow stored at found.out_point found.cell row
 kept-row stored at rows site found row placed is its below = by_made (row-of stored at rows site found row placed is its)
   where
@@ -67,7 +69,7 @@ kept-row stored at rows site found row placed is its below = by_made (row-of sto
     by_made (inr own) = absurd (omega (arith, own.last, below))
 
 pub made-kept : (stored : List Stored) (at : AtValue) (rows : OutPoint → Option Row) (site : Site) (found : Found) (row : Row) (entry : Entry)
-    → IsPlaced at → IsSiteOf stored at rows site → IsRowOf (blocks_of stored) at.parent site found row
+    → IsAtParent at → IsSiteOf stored at rows site → IsRowOf (blocks_of stored) at.parent site found row
     → entry_at at.entries row.block ≡ Some entry → (entry.number ≡ found.cell.height) × (entry.number < height_at site)
 made-kept stored at rows site found row entry placed is its there =
     let below : row.block < length at.entries = slice_get_within at.entries row.block entry there in
@@ -82,7 +84,7 @@ made-kept stored at rows site found row entry placed is its there =
 
 -- the block that its entry describes is that of its height
 pub block-made : (stored : List Stored) (at : AtValue) (rows : OutPoint → Option Row) (site : Site) (found : Found) (row : Row) (entry : Entry)
-    → (placed : IsPlaced at) (is : IsSiteOf stored at rows site) → IsRowOf (blocks_of stored) at.parent site found row
+    → (placed : IsAtParent at) (is : IsSiteOf stored at rows site) → IsRowOf (blocks_of stored) at.parent site found row
     → (there : entry_at at.entries row.block ≡ Some entry)
     → block_at (branch (blocks_of stored) at.parent) found.cell.height ≡ Some (described (blocks_of stored) at.entries row.block entry is.indexed.each there).block
 block-made stored at rows site found row entry placed is its there =
@@ -210,7 +212,7 @@ branch-of-parent kept entries parent height place entry indexes below on_branch 
 
 -- one of the genesis
 pub start-first : (stored : List Stored) (at : AtValue) (rows : OutPoint → Option Row) (site : Site) (found : Found) (row : Row) (entry : Entry)
-    → IsPlaced at → IsSiteOf stored at rows site → IsRowOf (blocks_of stored) at.parent site found row
+    → IsAtParent at → IsSiteOf stored at rows site → IsRowOf (blocks_of stored) at.parent site found row
     → entry_at at.entries row.block ≡ Some entry → row.block ≡ 0 → entry.timestamp ≡ median_start site.branch found.cell.height
 unfolding median_start
 start-first stored at rows site found row entry placed is its there first =
@@ -231,7 +233,7 @@ start-first stored at rows site found row entry placed is its there first =
 
 -- one of a later kept block
 pub start-later : (stored : List Stored) (at : AtValue) (rows : OutPoint → Option Row) (site : Site) (found : Found) (row : Row) (entry : Entry)
-    → IsPlaced at → IsSiteOf stored at rows site → IsRowOf (blocks_of stored) at.parent site found row
+    → IsAtParent at → IsSiteOf stored at rows site → IsRowOf (blocks_of stored) at.parent site found row
     → entry_at at.entries row.block ≡ Some entry → 0 < row.block
     → median_time (branch (blocks_of stored) entry.parent) ≡ median_start site.branch found.cell.height
 unfolding median_start
@@ -264,7 +266,7 @@ start-later stored at rows site found row entry placed is its there later = by_h
 
 -- one of the block that is judged
 pub start-own : (stored : List Stored) (at : AtValue) (rows : OutPoint → Option Row) (site : Site) (found : Found) (row : Row)
-    → IsPlaced at → IsSiteOf stored at rows site → IsRowOf (blocks_of stored) at.parent site found row
+    → IsAtParent at → IsSiteOf stored at rows site → IsRowOf (blocks_of stored) at.parent site found row
     → row.block ≡ length at.entries → median_time site.branch ≡ median_start site.branch found.cell.height
 unfolding median_start
 start-own stored at rows site found row placed is its last = by_height found.cell.height refl
@@ -289,7 +291,7 @@ start-own stored at rows site found row placed is its last = by_height found.cel
 
 -- of a kept block
 pub block-start-kept : (stored : List Stored) (at : AtValue) (rows : OutPoint → Option Row) (site : Site) (found : Found) (row : Row) (entry : Entry)
-    → IsPlaced at → IsSiteOf stored at rows site → IsRowOf (blocks_of stored) at.parent site found row
+    → IsAtParent at → IsSiteOf stored at rows site → IsRowOf (blocks_of stored) at.parent site found row
     → entry_at at.entries row.block ≡ Some entry → entry.timestamp ≡ block_start site found.cell.height
 unfolding block_start
 block-start-kept stored at rows site found row entry placed is its there =
@@ -307,7 +309,7 @@ block-start-kept stored at rows site found row entry placed is its there =
 
 -- of the block that is judged
 pub block-start-own : (stored : List Stored) (at : AtValue) (rows : OutPoint → Option Row) (site : Site) (found : Found) (row : Row)
-    → IsPlaced at → IsSiteOf stored at rows site → IsRowOf (blocks_of stored) at.parent site found row
+    → IsAtParent at → IsSiteOf stored at rows site → IsRowOf (blocks_of stored) at.parent site found row
     → row.block ≡ length at.entries → timestamp_of at.block ≡ block_start site found.cell.height
 unfolding block_start
 block-start-own stored at rows site found row placed is its last =
@@ -326,10 +328,40 @@ start-by site height (Err damage) second is same = tt
 
 -- ---- Since
 
-pub spending-same : (site : Site) (found : Found) (number median made start blocks : ℕ) → number ≡ height_at site → median ≡ median_time site.branch
+-- a value that counts no seconds looks at no times
+timeless : (metric : Metric) (relative : Bool) (value : ℕ) (at other : Spending) → is_timestamp metric ≡ false → at.number ≡ other.number → at.made ≡ other.made
+    → at.length ≡ other.length
+    → (if relative then is_passed metric value at else is_reached metric value at) ≡ (if relative then is_passed metric value other else is_reached metric value other)
+timeless block_number true value at other none number made long =
+    ap (λ (n : ℕ). nat_le (at.made + value) n) number ∙ ap (λ (n : ℕ). nat_le (n + value) other.number) made
+timeless block_number false value at other none number made long = ap (λ (n : ℕ). nat_le value n) number
+timeless epoch true value at other none number made long =
+    ap (λ (n : ℕ). is_span_over value at.length at.made n) number ∙ ap (λ (n : ℕ). is_span_over value at.length n other.number) made
+    ∙ ap (λ (n : ℕ). is_span_over value n other.made other.number) long
+timeless epoch false value at other none number made long =
+    ap (λ (n : ℕ). is_span_over value at.length 0 n) number ∙ ap (λ (n : ℕ). is_span_over value n 0 other.number) long
+timeless timestamp relative value at other none number made long = absurd (true≢false none)
+timeless no_metric true value at other none number made long = refl
+timeless no_metric false value at other none number made long = refl
+
+spending-same : (site : Site) (found : Found) (number median made start blocks : ℕ) → number ≡ height_at site → median ≡ median_time site.branch
     → made ≡ found.cell.height → start ≡ start_at site found.cell.height → blocks ≡ site.spec.epoch_length
     → ◌≡◌ {A = Spending} (record { number = number; median = median; made = made; start = start; length = blocks }) (spending site found)
 spending-same site found number median made start blocks one two three four five = cc
+
+-- so it is met with any as with those of the site
+pub met-here : (since : ℕ) (site : Site) (found : Found) (number median made start blocks : ℕ) → number ≡ height_at site → made ≡ found.cell.height
+    → blocks ≡ site.spec.epoch_length
+    → (is_timestamp (metric_of since) ≡ true → (median ≡ median_time site.branch) × (start ≡ start_at site found.cell.height))
+    → is_met since (record { number = number; median = median; made = made; start = start; length = blocks }) ≡ is_met since (spending site found)
+met-here since site found number median made start blocks one two three times = by_metric (is_timestamp (metric_of since)) refl
+  where
+    here : Spending
+    here = record { number = number; median = median; made = made; start = start; length = blocks }
+
+    by_metric : (b : Bool) → is_timestamp (metric_of since) ≡ b → is_met since here ≡ is_met since (spending site found)
+    by_metric false none = timeless (metric_of since) (is_relative since) (since_value since) here (spending site found) none one two three
+    by_metric true some = ap (is_met since) (spending-same site found number median made start blocks one (times some).0 two (times some).1 three)
 
 pub met-same : {V : Type 0} (since : ℕ) (at : Spending) (answer : Result V SinceFault) → OnOk answer (IsMature since at) → IfErr answer (HasFault since at)
     → is_ok answer ≡ (is_valid since && is_met since at)

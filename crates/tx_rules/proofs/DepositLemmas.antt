@@ -20,7 +20,7 @@ use Rattle.cell_defs.specs.Row.{Row}
 use Rattle.rule_defs.specs.Site.{Site, Found}
 use Rattle.rule_defs.specs.Resolving.{inputs, may_be_named, named_ancestor, header_heights, heights}
 use Rattle.rule_defs.specs.Withdrawals.{deposit_index, deposit_height}
-use Rattle.tx_rules.specs.At.{AtValue, IsPlaced, IsSiteOf}
+use Rattle.tx_rules.specs.At.{AtValue, IsAtParent, IsSiteOf}
 use Rattle.cell_model.specs.Copies.{ResolvedValue, IsCopyOf}
 use Rattle.tx_rules.specs.Outcome.{Copies}
 use Rattle.tx_rules.specs.Seen.{IsRowOf}
@@ -79,7 +79,7 @@ entry-of-height kept entries parent height indexes below low =
 -- ---- The block of a row among them
 
 same-place : (stored : List Stored) (at : AtValue) (rows : OutPoint → Option Row) (site : Site) (found : Found) (row : Row) (height : ℕ)
-    → IsPlaced at → IsSiteOf stored at rows site → IsRowOf (blocks_of stored) at.parent site found row → height < length site.branch
+    → IsAtParent at → IsSiteOf stored at rows site → IsRowOf (blocks_of stored) at.parent site found row → height < length site.branch
     → eqb (slice_index (branch_places (blocks_of stored) at.parent) height) row.block ≡ eqb height found.cell.height
 same-place stored at rows site found row height placed is its low = by_made (row-of stored at rows site found row placed is its)
   where
@@ -114,7 +114,7 @@ same-place stored at rows site found row height placed is its low = by_made (row
         ∙ sym (ne_eqb height found.cell.height (λ same. omega (arith, same, low, own.height)))
 
 pub named-same : (stored : List Stored) (at : AtValue) (rows : OutPoint → Option Row) (site : Site) (found : Found) (row : Row) (hs : List ℕ)
-    → IsPlaced at → IsSiteOf stored at rows site → IsRowOf (blocks_of stored) at.parent site found row → All (λ h. h < length site.branch) hs
+    → IsAtParent at → IsSiteOf stored at rows site → IsRowOf (blocks_of stored) at.parent site found row → All (λ h. h < length site.branch) hs
     → list_any (λ place. place == row.block) (map (slice_index (branch_places (blocks_of stored) at.parent)) hs) ≡ list_any (λ h. h == found.cell.height) hs
 named-same stored at rows site found row [] placed is its low = refl
 named-same stored at rows site found row (h ∷ hs) placed is its low =
@@ -178,7 +178,7 @@ deposit-of hs t i cell height is = ap (option_and_then (λ (h : ℕ). if nat_lt 
 
 -- The block at a place that is named: kept, and the deposit block where its number is below the height.
 pub deposit-entry : (stored : List Stored) (at : AtValue) (rows : OutPoint → Option Row) (site : Site) (headers : List ℕ) (t : Transaction) (i place : ℕ)
-    → IsPlaced at → IsSiteOf stored at rows site → headers ≡ map (slice_index (branch_places (blocks_of stored) at.parent)) (heights site t)
+    → IsAtParent at → IsSiteOf stored at rows site → headers ≡ map (slice_index (branch_places (blocks_of stored) at.parent)) (heights site t)
     → Some place ≡ option_and_then (slice_get headers) (deposit_index t i)
     → (named : Named (slice_index (branch_places (blocks_of stored) at.parent)) (heights site t) (deposit_index t i) place)
     × EntryOfHeight (blocks_of stored) at.entries at.parent named.height

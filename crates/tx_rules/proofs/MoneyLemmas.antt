@@ -23,7 +23,7 @@ use Rattle.rule_defs.specs.Site.{Site, Found, height_at}
 use Rattle.rule_defs.specs.Resolving.{inputs, heights}
 use Rattle.rule_defs.specs.Withdrawals.{is_dao_script, is_withdrawing, deposit_height, deposit_index, withdraws_well, names_deposits}
 use Rattle.rule_defs.specs.Capacity.{rate_of, rate_at, withdrawn, counted, counted_in}
-use Rattle.tx_rules.specs.At.{AtValue, IsPlaced, IsSiteOf}
+use Rattle.tx_rules.specs.At.{AtValue, IsAtParent, IsSiteOf}
 use Rattle.cell_model.specs.Copies.{ResolvedValue}
 use Rattle.tx_rules.specs.Outcome.{Copies}
 use Rattle.tx_rules.specs.Seen.{IsRowOf}
@@ -80,7 +80,7 @@ sum-end f rest sum whole none so_far =
 
 -- that of the block at a height, by its place
 pub rate-same : (stored : List Stored) (at : AtValue) (rows : OutPoint → Option Row) (site : Site) (height place rate : ℕ)
-    → IsPlaced at → IsSiteOf stored at rows site → height < height_at site → place ≡ slice_index (branch_places (blocks_of stored) at.parent) height
+    → IsAtParent at → IsSiteOf stored at rows site → height < height_at site → place ≡ slice_index (branch_places (blocks_of stored) at.parent) height
     → ((entry : Entry) → entry_at at.entries place ≡ Some entry → rate ≡ (field_of_bytes entry.dao).rate) → rate ≡ rate_at site height
 rate-same stored at rows site height place rate placed is low same of_entry =
     of_entry entry.entry there ∙ ap (λ (dao : List ℕ). (field_of_bytes dao).rate) here.is.dao
@@ -110,7 +110,7 @@ rate-same stored at rows site height place rate placed is low same of_entry =
 -- ---- A withdrawing cell of a kept block
 
 pub made-below : (stored : List Stored) (at : AtValue) (rows : OutPoint → Option Row) (site : Site) (found : Found) (row : Row)
-    → IsPlaced at → IsSiteOf stored at rows site → IsRowOf (blocks_of stored) at.parent site found row → found.cell.height < height_at site
+    → IsAtParent at → IsSiteOf stored at rows site → IsRowOf (blocks_of stored) at.parent site found row → found.cell.height < height_at site
     → IsKeptRow stored at found.out_point found.cell row
 made-below stored at rows site found row placed is its low = by_made (row-of stored at rows site found row placed is its)
   where
@@ -122,7 +122,7 @@ made-below stored at rows site found row placed is its low = by_made (row-of sto
         absurd (omega (arith, own.height, low, long))
 
 pub made-place : (stored : List Stored) (at : AtValue) (rows : OutPoint → Option Row) (site : Site) (found : Found) (row : Row)
-    → IsPlaced at → IsSiteOf stored at rows site → IsRowOf (blocks_of stored) at.parent site found row → found.cell.height < height_at site
+    → IsAtParent at → IsSiteOf stored at rows site → IsRowOf (blocks_of stored) at.parent site found row → found.cell.height < height_at site
     → row.block ≡ slice_index (branch_places (blocks_of stored) at.parent) found.cell.height
 made-place stored at rows site found row placed is its low =
     sym (get_or_from_slice_get (branch_places (blocks_of stored) at.parent) found.cell.height row.block 0

@@ -12,7 +12,7 @@ use Rattle.cell_model.specs.Copies.{ResolvedValue, IsCopyOf, CopiesOutput, Names
 use Rattle.cell_model.proofs.CopyLemmas.{named_output}
 use Rattle.rule_defs.specs.Site.{Site, Found}
 use Rattle.tx_rules.specs.At.{AtValue, IsSiteOf, AreSeen, found_row}
-use Rattle.tx_rules.specs.Copying.{IsFoundAt, IsBlockAt, IsCopyOfRow, CopiesItsRow, AreTaken, HoldsOutput, row_in}
+use Rattle.tx_rules.specs.Copying.{IsFoundAt, IsBlockAt, IsCopyOfRow, CopiesItsRow, AreRowsCopied, HoldsOutput, row_in}
 use Rattle.tx_rules.specs.Outcome.{Copies}
 use Rattle.tx_rules.proofs.SiteLemmas.{copied-of-kept}
 
@@ -96,8 +96,8 @@ set-one (z ∷ zs) (suc i) (suc k) x y there = on (set-one zs i k x y there)
 
 -- one more is taken
 pub taken-one : (told : Option (List Stored)) (at : AtValue) (rows : List (OutPoint × Row)) (slots : List (Option ResolvedValue)) (i : ℕ) (named : OutPoint × Row)
-    (copy : ResolvedValue) → slice_get rows i ≡ Some named → IsCopyOfRow told at named copy → AreTaken told at rows slots
-    → AreTaken told at rows (slice_set slots i (Some copy))
+    (copy : ResolvedValue) → slice_get rows i ≡ Some named → IsCopyOfRow told at named copy → AreRowsCopied told at rows slots
+    → AreRowsCopied told at rows (slice_set slots i (Some copy))
 taken-one told at rows slots i named copy its is taken k row other here there = on (set-one slots i k (Some copy) (Some other) there)
   where
     on : ((k ≡ i) × (Some copy ≡ Some other)) ⊎ (slice_get slots k ≡ Some (Some other)) → IsCopyOfRow told at row other
@@ -108,7 +108,7 @@ taken-one told at rows slots i named copy its is taken k row other here there = 
 
 -- one is given away
 pub taken-less : (told : Option (List Stored)) (at : AtValue) (rows : List (OutPoint × Row)) (slots : List (Option ResolvedValue)) (i : ℕ)
-    → AreTaken told at rows slots → AreTaken told at rows (slice_set slots i None)
+    → AreRowsCopied told at rows slots → AreRowsCopied told at rows (slice_set slots i None)
 taken-less told at rows slots i taken k row other here there = on (set-one slots i k None (Some other) there)
   where
     on : ((k ≡ i) × (None ≡ Some other)) ⊎ (slice_get slots k ≡ Some (Some other)) → IsCopyOfRow told at row other
@@ -116,7 +116,7 @@ taken-less told at rows slots i taken k row other here there = on (set-one slots
     on (inr later) = taken k row other here later
 
 -- none is taken at first
-pub taken-none : (told : Option (List Stored)) (at : AtValue) (rows : List (OutPoint × Row)) (n : ℕ) → AreTaken told at rows (replicate n None)
+pub taken-none : (told : Option (List Stored)) (at : AtValue) (rows : List (OutPoint × Row)) (n : ℕ) → AreRowsCopied told at rows (replicate n None)
 taken-none told at rows n i row copy here there = absurd (none n i there)
   where
     none : (n i : ℕ) → slice_get (replicate n None) i ≡ Some (Some copy) → ⊥
@@ -218,7 +218,7 @@ hand-block told now hand place view same in_hand of_hand =
 
 -- the copy that is taken at a place is its row's
 pub taken-here : (told : Option (List Stored)) (at : AtValue) (rows : List (OutPoint × Row)) (slots : List (Option ResolvedValue)) (i : ℕ) (named : OutPoint × Row)
-    (slot : Option ResolvedValue) → AreTaken told at rows slots → slice_get rows i ≡ Some named → slice_get slots i ≡ Some slot
+    (slot : Option ResolvedValue) → AreRowsCopied told at rows slots → slice_get rows i ≡ Some named → slice_get slots i ≡ Some slot
     → IfSome slot (IsCopyOfRow told at named)
 taken-here told at rows slots i named None taken here there = tt
 taken-here told at rows slots i named (Some copy) taken here there = taken i named copy here there

@@ -23,8 +23,8 @@ pub record AtValue : Type 0 where
   pub block : Option Block
 
 -- What a caller sees to of the parent.
-abbrev pub IsPlaced : AtValue → Type 0
-IsPlaced at = IsParent at.entries at.parent
+abbrev pub IsAtParent : AtValue → Type 0
+IsAtParent at = IsParent at.entries at.parent
 
 -- ---- What it stands for
 

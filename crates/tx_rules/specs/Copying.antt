@@ -42,6 +42,6 @@ pub record IsCopyOfRow (told : Option (List Stored)) (at : AtValue) (named : Out
       → IsFoundAt stored at.parent site found named → IsCopyOf found.cell copy
 
 -- each copy that is taken is that of the row at its place
-abbrev pub AreTaken : Option (List Stored) → AtValue → List (OutPoint × Row) → List (Option ResolvedValue) → Type 0
-AreTaken told at rows taken = (i : ℕ) (row : OutPoint × Row) (copy : ResolvedValue) → slice_get rows i ≡ Some row → slice_get taken i ≡ Some (Some copy)
+abbrev pub AreRowsCopied : Option (List Stored) → AtValue → List (OutPoint × Row) → List (Option ResolvedValue) → Type 0
+AreRowsCopied told at rows taken = (i : ℕ) (row : OutPoint × Row) (copy : ResolvedValue) → slice_get rows i ≡ Some row → slice_get taken i ≡ Some (Some copy)
     → IsCopyOfRow told at row copy

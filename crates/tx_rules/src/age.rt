@@ -1,16 +1,17 @@
 // J23 and J24: how old the cells of a transaction are.
-ghost use Rattle.std.specs.Prelude.{◌≡◌, ◌^◌, ◌<◌, ◌≤◌, ◌&&◌, List, length, map, Err, IfOk, Option};
+ghost use Rattle.std.specs.Prelude.{◌≡◌, ◌^◌, ◌<◌, ◌≤◌, ◌&&◌, true, List, length, map, Err, IfOk, Option};
 ghost use Rattle.std.specs.List.{list_all, zip};
 ghost use Rattle.chain_defs.specs.Schema.{OutPoint};
 ghost use Rattle.cell_defs.specs.Row.{Row};
-ghost use Rattle.chain_defs.specs.Since.{is_valid, is_met};
+ghost use Rattle.chain_defs.specs.Since.{is_valid, is_met, metric_of};
 ghost use Rattle.chain_defs.specs.Median.{median_time};
 ghost use Rattle.outside.specs.declared.disk.Area.TheVariants.{Log};
 ghost use Rattle.outside.specs.declared.disk.Damage.{Damage};
 ghost use Rattle.chain_tree.specs.Told.{Stored, blocks_of};
 ghost use Rattle.rule_defs.specs.Site.{Site, Found, height_at};
 ghost use Rattle.rule_defs.specs.Age as rules;
-ghost use Rattle.tx_rules.specs.At.{IsPlaced, IsSiteOf, AreSeen, found_row};
+ghost use Rattle.since_rules.specs.Fields.{is_timestamp};
+ghost use Rattle.tx_rules.specs.At.{IsAtParent, IsSiteOf, AreSeen, found_row};
 ghost use Rattle.tx_rules.specs.Seen.{IsRowOf};
 
 use crate::at::{TxAt, damage_of};
@@ -18,12 +19,12 @@ use cell_model::{CellMeta, OutPoint};
 use epochs::span_over;
 use mol_schema::TxView;
 use outside::Damage;
-use since_rules::{SinceAt, meets};
+use since_rules::{SinceAt, counts_seconds, meets};
 
 /// The height of the block that made a cell, which is at most that of the block that the transaction stands in.
 /// Damaged where a row's block is not kept, or not below that height.
 pub(crate) fn made_at(at: &TxAt<'_, '_, '_>, height: u64, meta: &CellMeta) -> Result<u64, Damage>
-    requires placed { IsPlaced at.now }
+    requires placed { IsAtParent at.now }
     ensures at_most { IfOk result (λ made. made ≤ height) }
     ensures made { (stored : List Stored) (rows : OutPoint → Option Row) (site : Site) (found : Found) → IsSiteOf stored at.now rows site
         → height ≡ height_at site → IsRowOf (blocks_of stored) at.now.parent site found meta.now → IfOk result (λ made. made ≡ found.cell.height) }
@@ -47,7 +48,7 @@ pub(crate) fn made_at(at: &TxAt<'_, '_, '_>, height: u64, meta: &CellMeta) -> Re
 
 /// Whether a cell may be used: it is no cellbase output, or the span of maturity is over.
 fn is_mature(at: &TxAt<'_, '_, '_>, height: u64, meta: &CellMeta) -> Result<bool, Damage>
-    requires placed { IsPlaced at.now }
+    requires placed { IsAtParent at.now }
     requires fits { height < 2 ^ 24 }
     ensures mature { (stored : List Stored) (rows : OutPoint → Option Row) (site : Site) (found : Found) → IsSiteOf stored at.now rows site
         → height ≡ height_at site → IsRowOf (blocks_of stored) at.now.parent site found meta.now → IfOk result (λ mature. mature ≡ rules.is_mature site found) }
@@ -72,7 +73,7 @@ pub(crate) fn are_mature(
     at: &TxAt<'_, '_, '_>,
     found: &[(OutPoint, CellMeta)],
 ) -> Result<bool, Damage>
-    requires placed { IsPlaced at.now }
+    requires placed { IsAtParent at.now }
     ensures mature { (stored : List Stored) (rows : OutPoint → Option Row) (site : Site) (founds : List Found) → IsSiteOf stored at.now rows site → AreSeen site founds
         → found.now ≡ map (found_row (blocks_of stored) at.now.parent) founds → IfOk result (λ mature. mature ≡ list_all (rules.is_mature site) founds) }
     ensures undamaged { (stored : List Stored) (rows : OutPoint → Option Row) (site : Site) (founds : List Found) → IsSiteOf stored at.now rows site → AreSeen site founds
@@ -94,7 +95,7 @@ pub(crate) fn are_mature(
 /// made it, the genesis' own timestamp. `median` is the median time at the parent of the block that the transaction stands in.
 /// Damaged where a row's block is not kept.
 fn median_start(at: &TxAt<'_, '_, '_>, median: u64, meta: &CellMeta) -> Result<u64, Damage>
-    requires placed { IsPlaced at.now }
+    requires placed { IsAtParent at.now }
     ensures start { (stored : List Stored) (rows : OutPoint → Option Row) (site : Site) (found : Found) → IsSiteOf stored at.now rows site
         → median ≡ median_time site.branch → IsRowOf (blocks_of stored) at.now.parent site found meta.now
         → IfOk result (λ start. start ≡ rules.median_start site.branch found.cell.height) }
@@ -120,7 +121,7 @@ fn median_start(at: &TxAt<'_, '_, '_>, median: u64, meta: &CellMeta) -> Result<u
 
 /// The same under the second edition: the timestamp of the block that made it. Damaged where a row's block is not kept.
 fn block_start(at: &TxAt<'_, '_, '_>, meta: &CellMeta) -> Result<u64, Damage>
-    requires placed { IsPlaced at.now }
+    requires placed { IsAtParent at.now }
     ensures start { (stored : List Stored) (rows : OutPoint → Option Row) (site : Site) (found : Found) → IsSiteOf stored at.now rows site
         → IsRowOf (blocks_of stored) at.now.parent site found meta.now → IfOk result (λ start. start ≡ rules.block_start site found.cell.height) }
     ensures undamaged { (stored : List Stored) (rows : OutPoint → Option Row) (site : Site) (found : Found) → IsSiteOf stored at.now rows site
@@ -139,7 +140,7 @@ fn block_start(at: &TxAt<'_, '_, '_>, meta: &CellMeta) -> Result<u64, Damage>
 
 /// The time from which a cell counts, by the edition under which it is spent. Damaged where a row's block is not kept.
 fn start_at(at: &TxAt<'_, '_, '_>, median: u64, meta: &CellMeta) -> Result<u64, Damage>
-    requires placed { IsPlaced at.now }
+    requires placed { IsAtParent at.now }
     ensures start { (stored : List Stored) (rows : OutPoint → Option Row) (site : Site) (found : Found) → IsSiteOf stored at.now rows site
         → median ≡ median_time site.branch → IsRowOf (blocks_of stored) at.now.parent site found meta.now
         → IfOk result (λ start. start ≡ rules.start_at site found.cell.height) }
@@ -155,22 +156,43 @@ fn start_at(at: &TxAt<'_, '_, '_>, median: u64, meta: &CellMeta) -> Result<u64, 
     }
 }
 
-/// Whether a since is valid and met by the cell of a row, spent at this height with this median time at the parent.
-/// Damaged where a row's block is not kept, or not below that height.
+/// The times that a since compares: the median time at the parent of the block that the transaction stands in, and the time
+/// from which the cell of a row counts. Of a since that counts no seconds they are 0, and none is looked for. Damaged where a
+/// row's block is not kept.
+fn times_of(at: &TxAt<'_, '_, '_>, since: u64, meta: &CellMeta) -> Result<(u64, u64), Damage>
+    requires placed { IsAtParent at.now }
+    ensures times { (stored : List Stored) (rows : OutPoint → Option Row) (site : Site) (found : Found) → IsSiteOf stored at.now rows site
+        → IsRowOf (blocks_of stored) at.now.parent site found meta.now → is_timestamp (metric_of since) ≡ true
+        → IfOk result (λ times. (times.0 ≡ median_time site.branch) × (times.1 ≡ rules.start_at site found.cell.height)) }
+    ensures undamaged { (stored : List Stored) (rows : OutPoint → Option Row) (site : Site) (found : Found) → IsSiteOf stored at.now rows site
+        → IsRowOf (blocks_of stored) at.now.parent site found meta.now → (damage : Damage) → result ≡ Err damage → ⊥ }
+    ensures damage { (damage : Damage) → result ≡ Err damage → damage.area ≡ Log }
+{
+    if !counts_seconds(since) {
+        return Ok((0, 0));
+    }
+    let median = at.tree.median(at.parent);
+    match start_at(at, median, meta) {
+        Ok(start) => Ok((median, start)),
+        Err(damage) => Err(damage),
+    }
+}
+
+/// Whether a since is valid and met by the cell of a row, spent at this height. Damaged where a row's block is not kept, or
+/// not below that height.
 fn meets_since(
     at: &TxAt<'_, '_, '_>,
     height: u64,
-    median: u64,
     since: u64,
     meta: &CellMeta,
 ) -> Result<bool, Damage>
-    requires placed { IsPlaced at.now }
+    requires placed { IsAtParent at.now }
     requires fits { height < 2 ^ 24 }
     ensures met { (stored : List Stored) (rows : OutPoint → Option Row) (site : Site) (found : Found) → IsSiteOf stored at.now rows site
-        → height ≡ height_at site → median ≡ median_time site.branch → IsRowOf (blocks_of stored) at.now.parent site found meta.now
+        → height ≡ height_at site → IsRowOf (blocks_of stored) at.now.parent site found meta.now
         → IfOk result (λ met. met ≡ (is_valid since && is_met since (rules.spending site found))) }
     ensures undamaged { (stored : List Stored) (rows : OutPoint → Option Row) (site : Site) (found : Found) → IsSiteOf stored at.now rows site
-        → height ≡ height_at site → median ≡ median_time site.branch → IsRowOf (blocks_of stored) at.now.parent site found meta.now
+        → height ≡ height_at site → IsRowOf (blocks_of stored) at.now.parent site found meta.now
         → (damage : Damage) → result ≡ Err damage → ⊥ }
     ensures damage { (damage : Damage) → result ≡ Err damage → damage.area ≡ Log }
 {
@@ -178,8 +200,8 @@ fn meets_since(
         Ok(made) => made,
         Err(damage) => return Err(damage),
     };
-    let start = match start_at(at, median, meta) {
-        Ok(start) => start,
+    let (median, start) = match times_of(at, since, meta) {
+        Ok(times) => times,
         Err(damage) => return Err(damage),
     };
     let spec = at.spec;
@@ -200,7 +222,7 @@ pub(crate) fn meets_each_since(
     at: &TxAt<'_, '_, '_>,
     found: &[(OutPoint, CellMeta)],
 ) -> Result<bool, Damage>
-    requires placed { IsPlaced at.now }
+    requires placed { IsAtParent at.now }
     requires each { length found.now ≡ length tx.now.raw.inputs }
     ensures met { (stored : List Stored) (rows : OutPoint → Option Row) (site : Site) (founds : List Found) → IsSiteOf stored at.now rows site → AreSeen site founds
         → found.now ≡ map (found_row (blocks_of stored) at.now.parent) founds → IfOk result (λ met. met ≡ list_all (rules.meets_since site) (zip tx.now.raw.inputs founds)) }
@@ -210,10 +232,9 @@ pub(crate) fn meets_each_since(
 {
     let raw = tx.raw();
     let height = at.height();
-    let median = at.tree.median(at.parent);
     'inputs: for i in 0..found.len() {
         let since = raw.inputs_item(i).since();
-        match meets_since(at, height, median, since, &found[i].1) {
+        match meets_since(at, height, since, &found[i].1) {
             Ok(true) => {}
             Ok(false) => return Ok(false),
             Err(damage) => return Err(damage),

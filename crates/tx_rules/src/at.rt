@@ -134,11 +134,11 @@ impl<'a, 'o, 'b> TxAt<'a, 'o, 'b> {
     ghost use Rattle.chain_tree.specs.Told.{Stored};
     ghost use Rattle.rule_defs.specs.Site.{Site, height_at};
     ghost use Rattle.rule_defs.specs.Age.{timestamp_of};
-    ghost use Rattle.tx_rules.specs.At.{IsPlaced, IsSiteOf};
+    ghost use Rattle.tx_rules.specs.At.{IsAtParent, IsSiteOf};
 
     /// The height of the block that the transaction stands in.
     pub fn height(&self) -> u64
-        requires { IsPlaced self.now }
+        requires { IsAtParent self.now }
         ensures fits { result < 2 ^ 24 }
         ensures next { IsSomeAnd (entry_at self.now.entries self.now.parent) (λ parent. result ≡ parent.number + 1) }
         ensures height { (stored : List Stored) (rows : OutPoint → Option Row) (site : Site) → IsSiteOf stored self.now rows site → result ≡ height_at site }
@@ -158,7 +158,7 @@ impl<'a, 'o, 'b> TxAt<'a, 'o, 'b> {
 
     /// Whether that block stands under the second edition of the rules.
     pub(crate) fn is_second(&self) -> bool
-        requires { IsPlaced self.now }
+        requires { IsAtParent self.now }
         ensures { (stored : List Stored) (rows : OutPoint → Option Row) (site : Site) → IsSiteOf stored self.now rows site → result ≡ site.second }
     {
         self.spec.is_second_at(self.height())

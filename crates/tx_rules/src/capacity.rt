@@ -15,7 +15,7 @@ ghost use Rattle.rule_defs.specs.Site.{Site, Found, height_at};
 ghost use Rattle.rule_defs.specs.Resolving.{inputs, heights};
 ghost use Rattle.rule_defs.specs.Withdrawals.{names_deposits, withdraws_well};
 ghost use Rattle.rule_defs.specs.Capacity as rules;
-ghost use Rattle.tx_rules.specs.At.{IsPlaced, IsSiteOf};
+ghost use Rattle.tx_rules.specs.At.{IsAtParent, IsSiteOf};
 ghost use Rattle.tx_rules.specs.Outcome.{Copies, IsBalanceOf};
 ghost use Rattle.tx_rules.specs.Seen.{IsRowOf};
 
@@ -35,7 +35,7 @@ pub(crate) struct Balance {
 
 /// The accumulated rate of a kept block.
 fn rate_at(at: &TxAt<'_, '_, '_>, place: u32) -> u64
-    requires placed { IsPlaced at.now }
+    requires placed { IsAtParent at.now }
     requires within { place < length at.now.entries }
     ensures rate { (entry : Entry) → entry_at at.now.entries place ≡ Some entry → result ≡ (field_of_bytes entry.dao).rate }
     ensures above_zero { 0 < result }
@@ -46,7 +46,7 @@ fn rate_at(at: &TxAt<'_, '_, '_>, place: u32) -> u64
 /// What a withdrawing cell counts since its deposit block, in shannons; none above the greatest u64. Damaged where its
 /// row's block is not kept, or it does not hold what it occupies.
 fn withdrawn(at: &TxAt<'_, '_, '_>, meta: &CellMeta, deposit: u32) -> Result<Option<u64>, Damage>
-    requires placed { IsPlaced at.now }
+    requires placed { IsAtParent at.now }
     requires within { deposit < length at.now.entries }
     ensures withdrawn { (stored : List Stored) (rows : OutPoint → Option Row) (site : Site) (found : Found) (height : ℕ) → IsSiteOf stored at.now rows site
         → IsRowOf (blocks_of stored) at.now.parent site found meta.now → found.cell.height < height_at site
@@ -82,7 +82,7 @@ fn counted(
     i: usize,
     copy: &Resolved,
 ) -> Result<Option<u64>, Damage>
-    requires placed { IsPlaced at.now }
+    requires placed { IsAtParent at.now }
     ensures counted { (stored : List Stored) (rows : OutPoint → Option Row) (site : Site) (found : Found) → IsSiteOf stored at.now rows site
         → height ≡ height_at site → headers.now ≡ map (slice_index (branch_places (blocks_of stored) at.now.parent)) (heights site tx.now)
         → IsRowOf (blocks_of stored) at.now.parent site found copy.now.row → IsCopyOf found.cell copy.now → IsTrue (withdraws_well site tx.now (i, found))
@@ -112,7 +112,7 @@ fn counted_in(
     copies: &[Resolved],
     headers: &[u32],
 ) -> Result<Option<u64>, Damage>
-    requires placed { IsPlaced at.now }
+    requires placed { IsAtParent at.now }
     ensures counted { (stored : List Stored) (rows : OutPoint → Option Row) (site : Site) → IsSiteOf stored at.now rows site
         → AllZip (Copies (blocks_of stored) at.now.parent) (inputs site tx.now) copies.now → headers.now ≡ map (slice_index (branch_places (blocks_of stored) at.now.parent)) (heights site tx.now)
         → IsTrue (names_deposits site tx.now) → IfOk result (λ sum. sum ≡ as_u64 (pos (rules.counted_in site tx.now))) }
@@ -185,7 +185,7 @@ pub(crate) fn balance_of(
     copies: &[Resolved],
     headers: &[u32],
 ) -> Result<Option<Balance>, Damage>
-    requires placed { IsPlaced at.now }
+    requires placed { IsAtParent at.now }
     requires each { length copies.now ≡ length tx.now.raw.inputs }
     ensures fits { IfOk result (λ balance. IfSome balance (λ it. nat_abs it.interest < 2 ^ 96)) }
     ensures balance { (stored : List Stored) (rows : OutPoint → Option Row) (site : Site) → IsSiteOf stored at.now rows site

@@ -11,8 +11,8 @@ ghost use Rattle.outside.specs.declared.disk.ReadStop.TheVariants.{DiskFault, Da
 ghost use Rattle.chain_tree.specs.Told.{Stored, blocks_of};
 ghost use Rattle.chain_tree.specs.Reading.{HasRead, stop_of};
 ghost use Rattle.rule_defs.specs.Site.{Site, Found};
-ghost use Rattle.tx_rules.specs.At.{IsPlaced, IsSiteOf, AreSeen, found_row};
-ghost use Rattle.tx_rules.specs.Copying.{IsFoundAt, IsBlockAt, IsCopyOfRow, CopiesItsRow, AreTaken, row_in, HoldsOutput};
+ghost use Rattle.tx_rules.specs.At.{IsAtParent, IsSiteOf, AreSeen, found_row};
+ghost use Rattle.tx_rules.specs.Copying.{IsFoundAt, IsBlockAt, IsCopyOfRow, CopiesItsRow, AreRowsCopied, row_in, HoldsOutput};
 ghost use Rattle.tx_rules.specs.Outcome.{Copies};
 
 use crate::at::{Own, TxAt, damage_of};
@@ -142,7 +142,7 @@ fn copy_row<B: Blocks>(
     o: OutPoint,
     meta: CellMeta,
 ) -> Result<Resolved, ReadStop>
-    requires placed { IsPlaced at.now }
+    requires placed { IsAtParent at.now }
     requires counts { B.count blocks.old ≡ length at.now.entries }
     ensures read { HasRead B.told B.count B.loans_of B.faults B.damages blocks.old blocks.new (stop_of result) }
     ensures out_point { IfOk result (λ copy. copy.out_point ≡ o) }
@@ -222,13 +222,13 @@ fn take_read(
     these: &Ordered<'_>,
     taken: &mut [Option<Resolved>],
 ) -> Result<(), ReadStop>
-    requires placed { IsPlaced at.now }
+    requires placed { IsAtParent at.now }
     requires within { block < length at.now.entries }
     requires places { All (λ it. it.1 < length these.now.rows.now) these.now.order.now }
     requires long { length taken.old ≡ length these.now.rows.now }
     ensures long { length taken.new ≡ length these.now.rows.now }
-    ensures taken { (told : Option (List Stored)) → IsBlockAt told block read.now → AreTaken told at.now these.now.rows.now taken.old
-        → IfOk result (λ _. AreTaken told at.now these.now.rows.now taken.new) }
+    ensures taken { (told : Option (List Stored)) → IsBlockAt told block read.now → AreRowsCopied told at.now these.now.rows.now taken.old
+        → IfOk result (λ _. AreRowsCopied told at.now these.now.rows.now taken.new) }
     ensures undamaged { (stored : List Stored) (seen : OutPoint → Option Row) (site : Site) (founds : List Found) → IsBlockAt (Some stored) block read.now
         → IsSiteOf stored at.now seen site → AreSeen site founds → these.now.rows.now ≡ map (found_row (blocks_of stored) at.now.parent) founds
         → (damage : Damage) → result ≡ Err (Damaged damage) → ⊥ }
@@ -261,14 +261,14 @@ fn take_kept<B: Blocks>(
     these: &Ordered<'_>,
     taken: &mut [Option<Resolved>],
 ) -> Result<(), ReadStop>
-    requires placed { IsPlaced at.now }
+    requires placed { IsAtParent at.now }
     requires counts { B.count blocks.old ≡ length at.now.entries }
     requires within { meta.block < length at.now.entries }
     requires places { All (λ it. it.1 < length these.now.rows.now) these.now.order.now }
     requires long { length taken.old ≡ length these.now.rows.now }
     ensures read { HasRead B.told B.count B.loans_of B.faults B.damages blocks.old blocks.new (stop_of result) }
     ensures long { length taken.new ≡ length these.now.rows.now }
-    ensures taken { AreTaken (B.told blocks.old) at.now these.now.rows.now taken.old → IfOk result (λ _. AreTaken (B.told blocks.old) at.now these.now.rows.now taken.new) }
+    ensures taken { AreRowsCopied (B.told blocks.old) at.now these.now.rows.now taken.old → IfOk result (λ _. AreRowsCopied (B.told blocks.old) at.now these.now.rows.now taken.new) }
     ensures undamaged { (stored : List Stored) (seen : OutPoint → Option Row) (site : Site) (founds : List Found) → B.told blocks.old ≡ Some stored
         → IsSiteOf stored at.now seen site → AreSeen site founds → these.now.rows.now ≡ map (found_row (blocks_of stored) at.now.parent) founds
         → (damage : Damage) → result ≡ Err (Damaged damage) → ⊥ }
@@ -297,13 +297,13 @@ fn take_several<B: Blocks>(
     order: &[(u32, usize)],
     taken: &mut [Option<Resolved>],
 ) -> Result<(), ReadStop>
-    requires placed { IsPlaced at.now }
+    requires placed { IsAtParent at.now }
     requires counts { B.count blocks.old ≡ length at.now.entries }
     requires places { All (λ it. it.1 < length rows.now) order.now }
     requires long { length taken.old ≡ length rows.now }
     ensures read { HasRead B.told B.count B.loans_of B.faults B.damages blocks.old blocks.new (stop_of result) }
     ensures long { length taken.new ≡ length rows.now }
-    ensures taken { AreTaken (B.told blocks.old) at.now rows.now taken.old → IfOk result (λ _. AreTaken (B.told blocks.old) at.now rows.now taken.new) }
+    ensures taken { AreRowsCopied (B.told blocks.old) at.now rows.now taken.old → IfOk result (λ _. AreRowsCopied (B.told blocks.old) at.now rows.now taken.new) }
     ensures undamaged { (stored : List Stored) (seen : OutPoint → Option Row) (site : Site) (founds : List Found) → B.told blocks.old ≡ Some stored
         → IsSiteOf stored at.now seen site → AreSeen site founds → rows.now ≡ map (found_row (blocks_of stored) at.now.parent) founds
         → (damage : Damage) → result ≡ Err (Damaged damage) → ⊥ }
@@ -334,7 +334,7 @@ fn taken_or_copied<B: Blocks>(
     o: OutPoint,
     meta: CellMeta,
 ) -> Result<Resolved, ReadStop>
-    requires placed { IsPlaced at.now }
+    requires placed { IsAtParent at.now }
     requires counts { B.count blocks.old ≡ length at.now.entries }
     requires taken { IfSome taken (IsCopyOfRow (B.told blocks.old) at.now (o, meta)) }
     ensures read { HasRead B.told B.count B.loans_of B.faults B.damages blocks.old blocks.new (stop_of result) }
@@ -357,10 +357,10 @@ fn copy_each<B: Blocks>(
     rows: &[(OutPoint, CellMeta)],
     taken: &mut [Option<Resolved>],
 ) -> Result<Vec<Resolved>, ReadStop>
-    requires placed { IsPlaced at.now }
+    requires placed { IsAtParent at.now }
     requires counts { B.count blocks.old ≡ length at.now.entries }
     requires long { length taken.old ≡ length rows.now }
-    requires taken { AreTaken (B.told blocks.old) at.now rows.now taken.old }
+    requires taken { AreRowsCopied (B.told blocks.old) at.now rows.now taken.old }
     ensures read { HasRead B.told B.count B.loans_of B.faults B.damages blocks.old blocks.new (stop_of result) }
     ensures copies { IfOk result (λ copies. AllZip (IsCopyOfRow (B.told blocks.old) at.now) rows.now copies.items) }
     ensures undamaged { (stored : List Stored) (seen : OutPoint → Option Row) (site : Site) (founds : List Found) → B.told blocks.old ≡ Some stored
@@ -388,7 +388,7 @@ pub(crate) fn fetch_all<B: Blocks>(
     blocks: &mut B,
     rows: &[(OutPoint, CellMeta)],
 ) -> Result<Vec<Resolved>, ReadStop>
-    requires placed { IsPlaced at.now }
+    requires placed { IsAtParent at.now }
     requires counts { B.count blocks.old ≡ length at.now.entries }
     ensures read { HasRead B.told B.count B.loans_of B.faults B.damages blocks.old blocks.new (stop_of result) }
     ensures rows { IfOk result (λ copies. map row_in copies.items ≡ rows.now) }

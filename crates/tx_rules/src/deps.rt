@@ -12,7 +12,7 @@ ghost use Rattle.cell_defs.specs.Row.{row_of};
 ghost use Rattle.cell_model.specs.Copies.{NamesOutput, output_in};
 ghost use Rattle.rule_defs.specs.Site.{Site};
 ghost use Rattle.rule_defs.specs.Resolving.{cells_of_dep, dep_cells};
-ghost use Rattle.tx_rules.specs.At.{IsPlaced, IsSiteOf, found_row, place_of_height};
+ghost use Rattle.tx_rules.specs.At.{IsAtParent, IsSiteOf, found_row, place_of_height};
 ghost use Rattle.tx_rules.specs.Members.{Adds, rows_of, member_rows};
 
 use crate::at::{Own, TxAt, damage_of};
@@ -177,7 +177,7 @@ fn add_group_of<C: Cells, B: Blocks>(
     meta: &CellMeta,
     found: &mut Vec<(OutPoint, CellMeta)>,
 ) -> Result<bool, ReadStop>
-    requires placed { IsPlaced at.now }
+    requires placed { IsAtParent at.now }
     requires counts { B.count blocks.old ≡ length at.now.entries }
     ensures read { HasRead B.told B.count B.loans_of B.faults B.damages blocks.old blocks.new (stop_of result) }
     ensures rows { (stored : List Stored) (site : Site) (cell : Cell) → B.told blocks.old ≡ Some stored → IsSiteOf stored at.now (C.rows cells.now) site
@@ -208,7 +208,7 @@ fn add_dep<C: Cells, B: Blocks>(
     dep: &DepView<'_>,
     found: &mut Vec<(OutPoint, CellMeta)>,
 ) -> Result<bool, ReadStop>
-    requires placed { IsPlaced at.now }
+    requires placed { IsAtParent at.now }
     requires counts { B.count blocks.old ≡ length at.now.entries }
     ensures read { HasRead B.told B.count B.loans_of B.faults B.damages blocks.old blocks.new (stop_of result) }
     ensures resolved { (stored : List Stored) (site : Site) → B.told blocks.old ≡ Some stored → IsSiteOf stored at.now (C.rows cells.now) site
@@ -238,7 +238,7 @@ pub(crate) fn resolved_deps<C: Cells, B: Blocks>(
     cells: &C,
     blocks: &mut B,
 ) -> Result<Option<Vec<(OutPoint, CellMeta)>>, ReadStop>
-    requires placed { IsPlaced at.now }
+    requires placed { IsAtParent at.now }
     requires counts { B.count blocks.old ≡ length at.now.entries }
     ensures read { HasRead B.told B.count B.loans_of B.faults B.damages blocks.old blocks.new (stop_of result) }
     ensures resolved { (stored : List Stored) (site : Site) → B.told blocks.old ≡ Some stored → IsSiteOf stored at.now (C.rows cells.now) site

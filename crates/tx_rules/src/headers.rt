@@ -11,7 +11,7 @@ ghost use Rattle.chain_tree.specs.Told.{Stored, blocks_of};
 ghost use Rattle.rule_defs.specs.Site.{Site};
 ghost use Rattle.rule_defs.specs.Resolving.{header_heights, named_ancestor};
 ghost use Rattle.rule_defs.specs.Resolving as rules;
-ghost use Rattle.tx_rules.specs.At.{IsPlaced, IsSiteOf};
+ghost use Rattle.tx_rules.specs.At.{IsAtParent, IsSiteOf};
 
 use crate::at::TxAt;
 use crate::form::header_dep_at;
@@ -22,7 +22,7 @@ use std::alloc::Global;
 
 /// The ancestor with a hash: its place in the tree, and its height. None where no ancestor has it.
 fn ancestor_with(at: &TxAt<'_, '_, '_>, hash: &[u8; 32]) -> Option<(u32, u64)>
-    requires placed { IsPlaced at.now }
+    requires placed { IsAtParent at.now }
     ensures found { IfSome result (λ it. place_of_hash at.now.entries hash.now ≡ Some it.0) }
     ensures above { IfSome result (λ it. IsSomeAnd (entry_at at.now.entries at.now.parent) (λ parent. it.1 ≤ parent.number)) }
     ensures height { (stored : List Stored) (rows : OutPoint → Option Row) (site : Site) → IsSiteOf stored at.now rows site
@@ -46,7 +46,7 @@ fn ancestor_with(at: &TxAt<'_, '_, '_>, hash: &[u8; 32]) -> Option<(u32, u64)>
 /// Whether the header of an ancestor may be named, by its height: under the first edition the span of maturity is over from
 /// it, under the second it may be any.
 fn may_be_named(at: &TxAt<'_, '_, '_>, height: u64) -> bool
-    requires placed { IsPlaced at.now }
+    requires placed { IsAtParent at.now }
     requires above { IsSomeAnd (entry_at at.now.entries at.now.parent) (λ parent. height ≤ parent.number) }
     ensures { (stored : List Stored) (rows : OutPoint → Option Row) (site : Site) → IsSiteOf stored at.now rows site → result ≡ rules.may_be_named site height }
 {
@@ -56,7 +56,7 @@ fn may_be_named(at: &TxAt<'_, '_, '_>, height: u64) -> bool
 
 /// The place of a header dep in the tree. None where it is not the hash of an ancestor whose header may be named.
 fn header_place(at: &TxAt<'_, '_, '_>, hash: &[u8; 32]) -> Option<u32>
-    requires placed { IsPlaced at.now }
+    requires placed { IsAtParent at.now }
     ensures found { IfSome result (λ place. place_of_hash at.now.entries hash.now ≡ Some place) }
     ensures height { (stored : List Stored) (rows : OutPoint → Option Row) (site : Site) → IsSiteOf stored at.now rows site
         → result ≡ option_map (slice_index (branch_places (blocks_of stored) at.now.parent)) (named_ancestor site hash.now) }
@@ -78,7 +78,7 @@ pub(crate) fn header_places(
     tx: &TxView<'_>,
     at: &TxAt<'_, '_, '_>,
 ) -> Result<Option<Vec<u32>>, NoMemory>
-    requires placed { IsPlaced at.now }
+    requires placed { IsAtParent at.now }
     ensures found { IfOk result (λ found. IfSome found (λ places. AllZip (λ hash place. place_of_hash at.now.entries hash ≡ Some place) tx.now.raw.header_deps places.items)) }
     ensures heights { (stored : List Stored) (rows : OutPoint → Option Row) (site : Site) → IsSiteOf stored at.now rows site
         → IfOk result (λ found. option_map (λ places. places.items) found ≡ option_map (map (slice_index (branch_places (blocks_of stored) at.now.parent))) (header_heights site tx.now)) }

@@ -7,8 +7,9 @@ ghost use Rattle.chain_defs.specs.Hashes.{transaction_hash};
 ghost use Rattle.rule_defs.specs.Site.{Site};
 ghost use Rattle.rule_defs.specs.Capacity as rules;
 
-use cell_model::{Cells, OutPoint, data_at, occupied};
+use cell_model::{Cells, OutPoint, data_at};
 use mol_schema::{OutputView, TxView};
+use view_hashes::occupied;
 
 /// Whether an output with its data holds what it occupies.
 fn holds_its_own(output: &OutputView<'_>, content: &[u8]) -> bool

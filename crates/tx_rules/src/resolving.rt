@@ -14,7 +14,7 @@ ghost use Rattle.rule_defs.specs.Site.{Site};
 ghost use Rattle.rule_defs.specs.RuleNumber.{rule_number};
 ghost use Rattle.rule_defs.specs.TransactionRules as defs;
 ghost use Rattle.rule_defs.specs.Resolving.{inputs, deps, heights};
-ghost use Rattle.tx_rules.specs.At.{AtValue, IsPlaced, IsSiteOf, found_row, input_rows};
+ghost use Rattle.tx_rules.specs.At.{AtValue, IsAtParent, IsSiteOf, found_row, input_rows};
 ghost use Rattle.tx_rules.specs.Steps.{spending_rules, naming_rules, using_rules, finding_rules, paying_rules, AnswersBy, AnswersWith, Stops, StopsLater, IsLater, AreNamed, AreFound, AreCopied, Pays, ResolvesTo};
 ghost use Rattle.tx_rules.specs.declared.resolving.TxStop.TheVariants.{Read};
 ghost use Rattle.tx_rules.specs.Reading.{read_stop, read_stop_of};
@@ -141,7 +141,7 @@ fn named_rows<C: Cells, B: Blocks>(
     cells: &C,
     blocks: &mut B,
 ) -> Result<(Vec<(OutPoint, CellMeta)>, Vec<u32>), TxStop>
-    requires placed { IsPlaced at.now }
+    requires placed { IsAtParent at.now }
     requires counts { B.count blocks.old ≡ length at.now.entries }
     ensures read { HasRead B.told B.count B.loans_of B.faults B.damages blocks.old blocks.new (read_stop_of result) }
     ensures later { StopsLater result }
@@ -170,7 +170,7 @@ fn try_cells<C: Cells>(
     spent: &[(OutPoint, CellMeta)],
     named: &[(OutPoint, CellMeta)],
 ) -> Result<(), TxStop>
-    requires placed { IsPlaced at.now }
+    requires placed { IsAtParent at.now }
     requires each { length spent.now ≡ length tx.now.raw.inputs }
     requires hash { hash ≡ transaction_hash tx.now }
     ensures later { StopsLater result }
@@ -208,7 +208,7 @@ fn paid_by(
     copies: &[Resolved],
     places: &[u32],
 ) -> Result<Balance, TxStop>
-    requires placed { IsPlaced at.now }
+    requires placed { IsAtParent at.now }
     requires each { length copies.now ≡ length tx.now.raw.inputs }
     ensures fits { IfOk result (λ balance. nat_abs balance.interest < 2 ^ 96) }
     ensures later { StopsLater result }
@@ -251,7 +251,7 @@ fn find<C: Cells, B: Blocks>(
     blocks: &mut B,
 ) -> Result<Finding, TxStop>
     requires hash { judged.now.hash ≡ transaction_hash judged.now.tx.now }
-    requires placed { IsPlaced at.now }
+    requires placed { IsAtParent at.now }
     requires counts { B.count blocks.old ≡ length at.now.entries }
     ensures read { HasRead B.told B.count B.loans_of B.faults B.damages blocks.old blocks.new (read_stop_of result) }
     ensures stops { Stops judged.now.proposed result }
@@ -292,7 +292,7 @@ fn copy_cells<B: Blocks>(
     blocks: &mut B,
     finding: &Finding,
 ) -> Result<Copying, TxStop>
-    requires placed { IsPlaced at.now }
+    requires placed { IsAtParent at.now }
     requires counts { B.count blocks.old ≡ length at.now.entries }
     requires each { length finding.now.spent.items ≡ length tx.now.raw.inputs }
     ensures read { HasRead B.told B.count B.loans_of B.faults B.damages blocks.old blocks.new (read_stop_of result) }
@@ -336,7 +336,7 @@ pub fn resolve<'a, C: Cells, B: Blocks>(
     blocks: &mut B,
 ) -> Result<TxOk<'a>, TxStop>
     requires hash { judged.now.hash ≡ transaction_hash judged.now.tx.now }
-    requires placed { IsPlaced at.now }
+    requires placed { IsAtParent at.now }
     requires counts { B.count blocks.old ≡ length at.now.entries }
     ensures read { HasRead B.told B.count B.loans_of B.faults B.damages blocks.old blocks.new (read_stop_of result) }
     ensures formed { IfOk result (λ ok. IsFormed at.now.entries judged.now.tx.now ok.resolved) }

@@ -15,7 +15,7 @@ ghost use Rattle.chain_tree.specs.Told.{Stored, blocks_of};
 ghost use Rattle.rule_defs.specs.Site.{Site, Found, height_at};
 ghost use Rattle.rule_defs.specs.Resolving.{inputs, heights};
 ghost use Rattle.rule_defs.specs.Withdrawals as rules;
-ghost use Rattle.tx_rules.specs.At.{IsPlaced, IsSiteOf};
+ghost use Rattle.tx_rules.specs.At.{IsAtParent, IsSiteOf};
 ghost use Rattle.tx_rules.specs.Outcome.{Copies};
 ghost use Rattle.tx_rules.specs.Seen.{IsRowOf};
 
@@ -63,7 +63,7 @@ pub(crate) fn withdrawing_made(
     height: u64,
     copy: &Resolved,
 ) -> Result<Option<u64>, Damage>
-    requires placed { IsPlaced at.now }
+    requires placed { IsAtParent at.now }
     ensures made { (stored : List Stored) (rows : OutPoint → Option Row) (site : Site) (found : Found) → IsSiteOf stored at.now rows site
         → height ≡ height_at site → IsRowOf (blocks_of stored) at.now.parent site found copy.now.row → IsCopyOf found.cell copy.now
         → IfOk result (λ made. made ≡ (if rules.is_withdrawing site.spec found.cell then Some found.cell.height else None)) }
@@ -129,7 +129,7 @@ pub(crate) fn deposit_place(
     i: usize,
     made: u64,
 ) -> Option<u32>
-    requires placed { IsPlaced at.now }
+    requires placed { IsAtParent at.now }
     ensures within { IfSome result (λ place. place < length at.now.entries) }
     ensures deposit { (stored : List Stored) (rows : OutPoint → Option Row) (site : Site) (cell : Cell) → IsSiteOf stored at.now rows site
         → headers.now ≡ map (slice_index (branch_places (blocks_of stored) at.now.parent)) (heights site tx.now) → made ≡ cell.height
@@ -174,7 +174,7 @@ fn withdraws_well(
     i: usize,
     copy: &Resolved,
 ) -> Result<bool, Damage>
-    requires placed { IsPlaced at.now }
+    requires placed { IsAtParent at.now }
     requires rising { IsNonDecreasing ordered.now }
     requires same { IsPermutation headers.now ordered.now }
     ensures well { (stored : List Stored) (rows : OutPoint → Option Row) (site : Site) (found : Found) → IsSiteOf stored at.now rows site
@@ -203,7 +203,7 @@ fn all_withdraw_well(
     headers: &[u32],
     ordered: &[u32],
 ) -> Result<bool, Damage>
-    requires placed { IsPlaced at.now }
+    requires placed { IsAtParent at.now }
     requires rising { IsNonDecreasing ordered.now }
     requires same { IsPermutation headers.now ordered.now }
     ensures named { (stored : List Stored) (rows : OutPoint → Option Row) (site : Site) → IsSiteOf stored at.now rows site
@@ -234,7 +234,7 @@ pub(crate) fn names_deposits(
     copies: &[Resolved],
     headers: &[u32],
 ) -> Result<bool, ReadStop>
-    requires placed { IsPlaced at.now }
+    requires placed { IsAtParent at.now }
     ensures named { (stored : List Stored) (rows : OutPoint → Option Row) (site : Site) → IsSiteOf stored at.now rows site
         → AllZip (Copies (blocks_of stored) at.now.parent) (inputs site tx.now) copies.now → headers.now ≡ map (slice_index (branch_places (blocks_of stored) at.now.parent)) (heights site tx.now)
         → IfOk result (λ named. named ≡ rules.names_deposits site tx.now) }

@@ -1,17 +1,9 @@
 // A header by its hash and its number.
 ghost use Rattle.std.specs.Prelude.{◌≡◌};
-ghost use Rattle.chain_defs.specs.Kept.{header_hash};
 ghost use Rattle.uncle_rules.specs.Known as known;
 
-use blake2b_ckb::ckbhash;
 use mol_schema::HeaderView;
-
-#[tactic(auto, unfolding(chain_defs::specs::Kept::header_hash))]
-pub(crate) fn hash_of(header: &HeaderView<'_>) -> [u8; 32]
-    ensures { result ≡ header_hash header.now }
-{
-    ckbhash(header.bytes())
-}
+use view_hashes::header_hash;
 
 pub(crate) fn parent_hash_of(header: &HeaderView<'_>) -> [u8; 32]
     ensures { result ≡ header.now.parent_hash }
@@ -35,5 +27,5 @@ pub(crate) fn has_number(number: Option<u64>, own: u64) -> bool
 pub(crate) fn is_named(header: &HeaderView<'_>, hash: &[u8; 32], number: Option<u64>) -> bool
     ensures { result ≡ known.is_named hash.now number header.now }
 {
-    hash_of(header) == *hash && has_number(number, header.number())
+    header_hash(header) == *hash && has_number(number, header.number())
 }

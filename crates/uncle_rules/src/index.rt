@@ -8,13 +8,14 @@ ghost use Rattle.uncle_rules.specs.Embedded.{embedded_in};
 ghost use Rattle.uncle_rules.specs.Known.{is_named_on};
 
 use crate::branch::is_on_branch;
-use crate::header::{has_number, hash_of};
+use crate::header::has_number;
 use chain_tree::Tree;
 use mol_schema::BlockView;
 use outside::NoMemory;
 use std::alloc::Global;
 use std::collections::HashMap;
 use std::marker::Model;
+use view_hashes::header_hash;
 
 /// An embedded uncle.
 #[derive(Clone, Copy)]
@@ -108,7 +109,7 @@ impl Uncles {
     {
         'uncles: for i in 0..block.uncles_count() {
             let header = block.uncles_item(i).header();
-            self.push(hash_of(&header), header.number(), place);
+            self.push(header_hash(&header), header.number(), place);
         }
     }
 

@@ -9,7 +9,7 @@ ghost use Rattle.uncle_rules.specs.Embedded.{IndexesUncles};
 ghost use Rattle.uncle_rules.specs.Known as known;
 
 use crate::branch::is_on_branch;
-use crate::header::{has_number, hash_of, is_named, parent_hash_of};
+use crate::header::{has_number, is_named, parent_hash_of};
 use crate::index::Uncles;
 use crate::proposals::proposes_well;
 use chain_tree::Tree;
@@ -17,6 +17,7 @@ use epochs::{Spec, parts};
 use mol_schema::{BlockView, HeaderView, UncleView};
 use outside::NoMemory;
 use std::alloc::Global;
+use view_hashes::header_hash;
 
 /// Whether a block on the branch of a parent has this hash and number.
 fn is_ancestor(tree: &Tree, parent: u32, hash: &[u8; 32], number: Option<u64>) -> bool
@@ -111,7 +112,8 @@ fn is_new(
     ensures { (kept : List Block) → IndexesBlocks kept tree.now.entries → IndexesUncles kept uncles.now
         → result ≡ rules.is_new (rules.known_headers (branch kept parent) (take earlier block.now.uncles)) header.now }
 {
-    !is_known(tree, uncles, parent, block, earlier, &hash_of(header), None)
+    let hash = header_hash(header);
+    !is_known(tree, uncles, parent, block, earlier, &hash, None)
 }
 
 /// Whether an uncle has the block's compact target and epoch number, and a lower number.

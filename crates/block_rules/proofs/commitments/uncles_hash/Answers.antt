@@ -17,9 +17,9 @@ pub uncles-preserved : goal.uncles-preserved
 uncles-preserved c =
     let uncles = c.args.block.now.uncles in
     let hashes : List (List ℕ) = map uncle_hash uncles in
-    let there = map-there uncle_hash uncles c.uncles.i c.uncles_item.result c.hash_of_header.result c.uncles_item.ensures
-    (c.hash_of_header.ensures ∙ ap header_hash c.header.ensures) in
-    subst (Holds c.update.new.self) (concat-more hashes c.uncles.i c.hash_of_header.result there)
+    let there = map-there uncle_hash uncles c.uncles.i c.uncles_item.result c.header_hash.result c.uncles_item.ensures
+    (c.header_hash.ensures ∙ ap header_hash c.header.ensures) in
+    subst (Holds c.update.new.self) (concat-more hashes c.uncles.i c.header_hash.result there)
     (c.update.ensures (concat (take c.uncles.i hashes)) c.uncles.invariant)
 
 pub returns : goal.returns

@@ -7,7 +7,7 @@ use Rattle.chain_defs.specs.Schema.{OutPoint}
 use Rattle.cell_defs.specs.Row.{Row}
 use Rattle.cell_model.specs.Copies.{ResolvedValue}
 use Rattle.chain_tree.specs.Told.{Stored}
-use Rattle.tx_rules.specs.Copying.{AreTaken, IsCopyOfRow}
+use Rattle.tx_rules.specs.Copying.{AreRowsCopied, IsCopyOfRow}
 use Rattle.outside.proofs.Endings.{no_answer, memory_undamaged, handed}
 use Rattle.chain_tree.proofs.ReadLemmas.{read_on, read_short}
 use Rattle.tx_rules.proofs.SiteLemmas.{IsNext, next-found, zip-more}
@@ -55,7 +55,7 @@ each-preserved g c =
     record {
       read = read_on c.each.invariant.read c.in-Ok.ensures.read;
       long = length-set c.each.taken c.each.i c.take.new.self ∙ c.each.invariant.long;
-      taken = subst (λ (slot : Option ResolvedValue). AreTaken told c.args.at.now c.args.rows.now (slice_set c.each.taken c.each.i slot))
+      taken = subst (λ (slot : Option ResolvedValue). AreRowsCopied told c.args.at.now c.args.rows.now (slice_set c.each.taken c.each.i slot))
           (sym c.take.ensures.after) (taken-less told c.args.at.now c.args.rows.now c.each.taken c.each.i c.each.invariant.taken);
       copies = subst (λ (copies : List ResolvedValue). AllZip (IsCopyOfRow told c.args.at.now) (take (c.each.i + 1) c.args.rows.now) copies) (sym pushed)
           (zip-more (IsCopyOfRow told c.args.at.now) c.args.rows.now c.each.copies.items c.each.i row c.in-Ok.copy c.each-test.true c.index-rows-i.is

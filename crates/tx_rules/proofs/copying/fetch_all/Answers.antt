@@ -6,7 +6,7 @@ use Rattle.std.proofs.lemmas.List.Elements.{All-same}
 use Rattle.std.proofs.lemmas.Result.{IfOk-weaker}
 use Rattle.chain_tree.specs.Told.{Stored, blocks_of}
 use Rattle.cell_model.specs.Copies.{ResolvedValue}
-use Rattle.tx_rules.specs.Copying.{AreTaken, CopiesItsRow, HoldsOutput, IsCopyOfRow, row_in}
+use Rattle.tx_rules.specs.Copying.{AreRowsCopied, CopiesItsRow, HoldsOutput, IsCopyOfRow, row_in}
 use Rattle.tx_rules.specs.Outcome.{Copies}
 use Rattle.outside.proofs.Endings.{memory_undamaged, handed}
 use Rattle.chain_tree.proofs.ReadLemmas.{unread, read_on, read_short}
@@ -61,15 +61,15 @@ copy_each-requires g c =
     let items : c.deref_mut-2.result.now ≡ c.take_several.new.taken =
     c.deref_mut-2.ensures.value
     ∙ take_at c.take_several.new.taken (drop (length c.take_several.new.taken) c.in-Ok-none_taken.taken.items) c.in-Ok-none_taken.taken.len (omega (arith, filled, long, still)) in
-    let before : AreTaken (g.B.Blocks.told c.args.blocks.now) c.args.at.now c.args.rows.now c.deref_mut.result.now =
-    subst (λ (slots : List (Option ResolvedValue)). AreTaken (g.B.Blocks.told c.args.blocks.now) c.args.at.now c.args.rows.now slots)
+    let before : AreRowsCopied (g.B.Blocks.told c.args.blocks.now) c.args.at.now c.args.rows.now c.deref_mut.result.now =
+    subst (λ (slots : List (Option ResolvedValue)). AreRowsCopied (g.B.Blocks.told c.args.blocks.now) c.args.at.now c.args.rows.now slots)
     (sym (c.deref_mut.ensures.value ∙ none)) (taken-none (g.B.Blocks.told c.args.blocks.now) c.args.at.now c.args.rows.now (length c.args.rows.now)) in
     record {
       placed = c.requires.placed;
       counts = c.in-Ok-take_several.ensures.read.count ∙ c.requires.counts;
       long = ap length items ∙ still;
-      taken = subst (λ (slots : List (Option ResolvedValue)). AreTaken (g.B.Blocks.told c.take_several.new.blocks) c.args.at.now c.args.rows.now slots) (sym items)
-          (subst (λ (told : Option (List Stored)). AreTaken told c.args.at.now c.args.rows.now c.take_several.new.taken) (sym c.in-Ok-take_several.ensures.read.told)
+      taken = subst (λ (slots : List (Option ResolvedValue)). AreRowsCopied (g.B.Blocks.told c.take_several.new.blocks) c.args.at.now c.args.rows.now slots) (sym items)
+          (subst (λ (told : Option (List Stored)). AreRowsCopied told c.args.at.now c.args.rows.now c.take_several.new.taken) (sym c.in-Ok-take_several.ensures.read.told)
           (c.in-Ok-take_several.ensures.taken before));
     }
 

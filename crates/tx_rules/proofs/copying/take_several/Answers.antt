@@ -5,7 +5,7 @@ use Rattle.cell_defs.specs.Row.{Row}
 use Rattle.chain_tree.specs.Told.{Stored}
 use Rattle.cell_model.specs.Copies.{ResolvedValue}
 use Rattle.tx_rules.specs.At.{AtValue}
-use Rattle.tx_rules.specs.Copying.{AreTaken}
+use Rattle.tx_rules.specs.Copying.{AreRowsCopied}
 use Rattle.outside.proofs.Endings.{no_answer, handed}
 use Rattle.chain_tree.proofs.ReadLemmas.{unread, read_on, read_is}
 use Rattle.tx_rules.proofs.copying.take_several.Goals as goal
@@ -50,16 +50,16 @@ order-preserved g c = elim c.if-row-kept.branch [
   | then-row-kept+then-starts_several+in-Ok w ↦ record {
     read = read_is w.blocks-is (read_on c.order.invariant.read w.in-Ok.ensures.read);
     long = ap length w.taken-is ∙ w.in-Ok.ensures.long;
-    taken = λ before. subst (λ (slots : List (Option ResolvedValue)). AreTaken (g.B.Blocks.told c.args.blocks.now) c.args.at.now c.args.rows.now slots) (sym w.taken-is)
-        (subst (λ (told : Option (List Stored)). AreTaken told c.args.at.now c.args.rows.now w.take_kept.new.taken) c.order.invariant.read.told
+    taken = λ before. subst (λ (slots : List (Option ResolvedValue)). AreRowsCopied (g.B.Blocks.told c.args.blocks.now) c.args.at.now c.args.rows.now slots) (sym w.taken-is)
+        (subst (λ (told : Option (List Stored)). AreRowsCopied told c.args.at.now c.args.rows.now w.take_kept.new.taken) c.order.invariant.read.told
         (w.in-Ok.ensures.taken
-        (subst (λ (told : Option (List Stored)). AreTaken told c.args.at.now c.args.rows.now c.order.taken) (sym c.order.invariant.read.told)
+        (subst (λ (told : Option (List Stored)). AreRowsCopied told c.args.at.now c.args.rows.now c.order.taken) (sym c.order.invariant.read.told)
         (c.order.invariant.taken before))));
   }
   | else-row-kept w ↦ record {
     read = read_is w.blocks-is c.order.invariant.read;
     long = ap length w.taken-is ∙ c.order.invariant.long;
-    taken = λ before. subst (λ (slots : List (Option ResolvedValue)). AreTaken (g.B.Blocks.told c.args.blocks.now) c.args.at.now c.args.rows.now slots) (sym w.taken-is)
+    taken = λ before. subst (λ (slots : List (Option ResolvedValue)). AreRowsCopied (g.B.Blocks.told c.args.blocks.now) c.args.at.now c.args.rows.now slots) (sym w.taken-is)
         (c.order.invariant.taken before);
   }
 ]
