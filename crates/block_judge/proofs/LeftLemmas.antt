@@ -25,11 +25,11 @@ use Rattle.block_judge.specs.declared.all_transactions.Outcome.{Outcome}
 use Rattle.block_judge.specs.Answers.{Answers, IsExt, IsOutcomeOf, JudgesBlock, StopsAs}
 use Rattle.block_judge.specs.ByRows.{AgreeOnLive}
 use Rattle.block_judge.specs.Progress.{AreMoved}
-use Rattle.block_judge.specs.Standing.{ContextValue, StandsForAll, judged_left, rules_left}
+use Rattle.block_judge.specs.Standing.{ContextValue, ContextStandsForAll, judged_left, rules_left}
 use Rattle.block_judge.proofs.AnswerLemmas.{stops-at, stops-within}
 use Rattle.block_judge.proofs.SightLemmas.{live-there, passed, first-cellbase, first-transaction, at-end}
 
-module _ (stored : List Stored) (on : ContextValue) (b : Block) (whole : StandsForAll stored on) where
+module _ (stored : List Stored) (on : ContextValue) (b : Block) (whole : ContextStandsForAll stored on) where
   abbrev over : List Block
   over = branch (blocks_of stored) on.parent
 

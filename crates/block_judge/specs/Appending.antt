@@ -10,7 +10,7 @@ use Rattle.rule_defs.specs.Site.{Site, site_at}
 use Rattle.tx_rules.specs.At.{AtValue}
 use Rattle.tx_rules.specs.Own.{of_transactions}
 use Rattle.block_judge.specs.declared.appending.BlockSoFar.{BlockSoFar}
-use Rattle.block_judge.specs.Standing.{ContextValue, StandsFor}
+use Rattle.block_judge.specs.Standing.{ContextValue, ContextStandsFor}
 
 -- where the next transaction stands of a block after a branch that has this timestamp and these transactions so far
 abbrev pub next_site : Specification → List Block → ℕ → List Transaction → Site
@@ -37,6 +37,6 @@ at_next on so_far = record {
 
 -- The context stands for kept blocks, and the rows are those after these transactions of a block on its parent, the cellbase first.
 pub record SeesSoFar (stored : List Stored) (on : ContextValue) (so_far : SoFarValue) : Type 0 where
-  pub stands : StandsFor stored on
+  pub stands : ContextStandsFor stored on
   pub rows_are : (o : OutPoint)
       → so_far.rows o ≡ row_after (length on.entries) (events_from 0 so_far.transactions (length (branch (blocks_of stored) on.parent))) on.rows o

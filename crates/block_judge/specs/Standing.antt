@@ -56,11 +56,11 @@ seen rows context = record {
 }
 
 -- The kept blocks for which a context stands, of a transaction and of a whole block.
-abbrev pub StandsFor : List Stored → ContextValue → Type 0
-StandsFor stored on = Stands stored on.entries on.parent on.rows
+abbrev pub ContextStandsFor : List Stored → ContextValue → Type 0
+ContextStandsFor stored on = Stands stored on.entries on.parent on.rows
 
-abbrev pub StandsForAll : List Stored → ContextValue → Type 0
-StandsForAll stored on = StandsWhole on.spec stored on.entries on.parent on.rows on.uncles
+abbrev pub ContextStandsForAll : List Stored → ContextValue → Type 0
+ContextStandsForAll stored on = StandsWhole on.spec stored on.entries on.parent on.rows on.uncles
 
 -- A block has passed at sight: over these kept blocks it breaks none of the rules that ask for no live cell.
 abbrev pub PassesAtSight : List Block → ContextValue → Block → Type 0

@@ -8,7 +8,7 @@ ghost use Rattle.chain_tree.specs.Reading.{HasRead};
 ghost use Rattle.cell_defs.specs.Events.{events_of};
 ghost use Rattle.cell_defs.specs.Row.{row_after};
 ghost use Rattle.rule_defs.specs.Site.{Site};
-ghost use Rattle.tx_rules.specs.At.{IsPlaced, IsSiteOf};
+ghost use Rattle.tx_rules.specs.At.{IsAtParent, IsSiteOf};
 ghost use Rattle.chain_tree.specs.Blocks.{IsParent};
 ghost use Rattle.tx_rules.specs.Copying.{row_in};
 ghost use Rattle.verdict_defs.specs.Judged.{judged_transactions, judged_where};
@@ -18,7 +18,7 @@ ghost use Rattle.block_judge.specs.declared.stop.JudgeStop.TheVariants.{Broken};
 ghost use Rattle.block_judge.specs.Answers.{Answers, AddsAnswered, IsOutcomeOf, AddsJudged};
 ghost use Rattle.block_judge.specs.BlockCells.{rows_in};
 ghost use Rattle.block_judge.specs.Progress.{AreFew, CanMove};
-ghost use Rattle.block_judge.specs.Standing.{IsTriedOnTransaction, StandsFor, seen};
+ghost use Rattle.block_judge.specs.Standing.{IsTriedOnTransaction, ContextStandsFor, seen};
 ghost use Rattle.block_judge.specs.Stops.{read_stop_of};
 
 use crate::block_cells::BlockCells;
@@ -27,13 +27,14 @@ use crate::known::hash_of;
 use crate::spent::push_spent;
 use crate::stop::JudgeStop;
 use crate::transactions::{PassedTransaction, judge_transaction};
-use cell_model::{Cells, Ext, proposal_id};
+use cell_model::{Cells, Ext};
 use chain_tree::Blocks;
 use mol_schema::{BlockView, TxView};
 use outside::{NoMemory, ReadStop};
 use proposal_window::Proposed;
 use std::alloc::Global;
 use tx_rules::{JudgedTx, Own, TxAt};
+use view_hashes::proposal_id;
 
 /// What the transactions of a block come to: their ext, the interest that they withdraw and what the cells occupy that
 /// they spend, in shannons.
@@ -142,7 +143,7 @@ impl<'a, C: Cells> Progress<'a, C> {
         blocks: &mut B,
         place: u32,
     ) -> Result<(), JudgeStop>
-        requires placed { IsPlaced at.now }
+        requires placed { IsAtParent at.now }
         requires hash { judged.now.hash ≡ transaction_hash judged.now.tx.now }
         requires few { AreFew place self.old.left self.old.interest self.old.freed }
         requires counts { B.count blocks.old ≡ length at.now.entries }
@@ -187,7 +188,7 @@ pub(crate) fn judge_transactions<C: Cells, B: Blocks>(
     ensures read { HasRead B.told B.count B.loans_of B.faults B.damages blocks.old blocks.new (read_stop_of result) }
     ensures rule { (rule : Rule) → result ≡ Err (Broken rule) → IsTriedOnTransaction (rule_number rule) }
     ensures fees { IfOk result (λ it. length it.ext.fees ≡ length block.now.transactions - 1) }
-    ensures exact { (stored : List Stored) → B.told blocks.old ≡ Some stored → StandsFor stored (seen C.rows context.now)
+    ensures exact { (stored : List Stored) → B.told blocks.old ≡ Some stored → ContextStandsFor stored (seen C.rows context.now)
         → Answers IsOutcomeOf (judged_transactions context.now.spec.now (blocks_of stored) context.now.parent block.now) result }
 {
     let count = block.transactions_count();

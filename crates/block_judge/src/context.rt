@@ -8,7 +8,7 @@ use uncle_rules::Uncles;
 
 /// What a block or a transaction is judged on: the specification, the kept blocks by their tree and their uncles, the place
 /// of the parent, and the live cells of its branch, whichever the tip is on. For which kept blocks it stands say `StandsFor`
-/// (for a transaction) and `StandsForAll` (for a block) of specs/Standing.antt.
+/// (for a transaction) and `ContextStandsForAll` (for a block) of specs/Standing.antt.
 #[derive(Drop)]
 pub struct Context<'a, C> {
     pub spec: &'a Spec,

@@ -24,7 +24,7 @@ ghost use Rattle.block_judge.specs.Stops.{read_stop_of};
 use crate::all_transactions::Outcome;
 use crate::context::Context;
 use crate::stop::JudgeStop;
-use cell_model::{Cells, data_at, occupied};
+use cell_model::{Cells, data_at};
 use chain_tree::{Blocks, Tree};
 use dao_math::{Dao, DaoMove, next_field};
 use epochs::{Spec, primary, share};
@@ -33,6 +33,7 @@ use outside::ReadStop;
 use rewards::reward;
 use rule_defs::Rule;
 use std::alloc::Global;
+use view_hashes::{occupied, occupied_output};
 
 /// The lock in the first witness of a block's cellbase.
 pub fn lock_of<'a>(block: &BlockView<'a>) -> Option<ScriptView<'a>>
@@ -131,19 +132,6 @@ fn pays_reward<B: Blocks>(
         Ok(None) => Ok(false),
         Err(stop) => Err(stop),
     }
-}
-
-/// What an output occupies with its data, in shannons.
-fn occupied_output(output: &OutputView<'_>, content: &[u8]) -> u64
-    requires { length content.now < 2 ^ 32 }
-    ensures { result ≡ occupied_by output.now content.now }
-{
-    let type_args = match output.type_script() {
-        None => None,
-        Some(script) => Some(script.args().len() as u32),
-    };
-    let lock_args = output.lock().args().len() as u32;
-    occupied(lock_args, type_args, content.len() as u32)
 }
 
 /// What the cells occupy that a transaction makes, in shannons. It has below 2^30 of them.

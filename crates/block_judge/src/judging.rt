@@ -17,7 +17,7 @@ ghost use Rattle.verdict_defs.specs.Judged.{judged_alone};
 ghost use Rattle.block_judge.specs.declared.stop.JudgeStop.TheVariants.{Broken};
 ghost use Rattle.block_judge.specs.Answers.{Answers, JudgesBlock, PaysAndTakes};
 ghost use Rattle.block_judge.specs.ByRows.{SaysByForm, SaysByRows, AgreeOnLive};
-ghost use Rattle.block_judge.specs.Standing.{IsTried, IsTriedAlone, StandsFor, StandsForAll, seen};
+ghost use Rattle.block_judge.specs.Standing.{IsTried, IsTriedAlone, ContextStandsFor, ContextStandsForAll, seen};
 ghost use Rattle.block_judge.specs.Stops.{read_stop_of};
 
 use crate::all_transactions::judge_transactions;
@@ -26,12 +26,13 @@ use crate::context::Context;
 use crate::ending::judge_end;
 use crate::stop::JudgeStop;
 use crate::transactions::judge_transaction;
-use cell_model::{Cells, Ext, tx_hash};
+use cell_model::{Cells, Ext};
 use chain_tree::Blocks;
 use mol_schema::{BlockView, TxView};
 use rule_defs::Rule;
 use std::alloc::Global;
 use tx_rules::{JudgedTx, TxAt};
+use view_hashes::transaction_hash;
 
 /// Judges a block that has passed at sight, by J17 over the live cells and by J18 to J32: the first rule that it breaks, or
 /// its ext. The hashes are those of its transactions, as `judge_at_sight` answers them. The cells are those of the parent's
@@ -58,7 +59,7 @@ pub fn judge<C: Cells, B: Blocks>(
     ensures rated { IfOk result (λ _. IsTrue (is_rated block.now.header.dao)) }
 
     // Over kept blocks that are known with their own fees, with the cells of the parent's branch: J17 to J32, which are all rules on one that has passed at sight.
-    ensures exact { (stored : List Stored) → B.told blocks.old ≡ Some stored → StandsForAll stored (seen C.rows context.now)
+    ensures exact { (stored : List Stored) → B.told blocks.old ≡ Some stored → ContextStandsForAll stored (seen C.rows context.now)
         → JudgesBlock (blocks_of stored) (seen C.rows context.now) block.now result }
 {
     if !forms_cellbase(context.cells, block, hashes) {
@@ -95,7 +96,7 @@ pub fn dry_run<C: Cells, B: Blocks>(
     ensures within { IfOk result (λ it. it.1 ≤ context.now.spec.now.max_cycles) }
 
     // Over kept blocks that are known, with the cells of the parent's branch.
-    ensures exact { (stored : List Stored) → B.told blocks.old ≡ Some stored → StandsFor stored (seen C.rows context.now)
+    ensures exact { (stored : List Stored) → B.told blocks.old ≡ Some stored → ContextStandsFor stored (seen C.rows context.now)
         → Answers PaysAndTakes (judged_alone (site_after context.now.spec.now (branch (blocks_of stored) context.now.parent)) context.now.spec.now.max_cycles tx.now) result }
 {
     let spec = context.spec;
@@ -107,7 +108,7 @@ pub fn dry_run<C: Cells, B: Blocks>(
     };
     let judged = JudgedTx {
         tx,
-        hash: tx_hash(tx),
+        hash: transaction_hash(tx),
         proposed: true,
     };
     match judge_transaction(alloc, &judged, &at, context.cells, blocks, spec.max_cycles) {

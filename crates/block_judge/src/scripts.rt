@@ -5,7 +5,7 @@ ghost use Rattle.cell_defs.specs.Row.{Row};
 ghost use Rattle.chain_tree.specs.Told.{Stored, blocks_of};
 ghost use Rattle.chain_tree.specs.Reading.{HasRead};
 ghost use Rattle.rule_defs.specs.Site.{Site};
-ghost use Rattle.tx_rules.specs.At.{IsPlaced, IsSiteOf};
+ghost use Rattle.tx_rules.specs.At.{IsAtParent, IsSiteOf};
 ghost use Rattle.tx_rules.specs.Outcome.{IsFormed, IsResolved};
 ghost use Rattle.verdict_defs.specs.Scene.{scene_of};
 ghost use Rattle.verdict_defs.specs.ScriptRules as rules;
@@ -54,7 +54,7 @@ pub(crate) fn run_scripts<B: Blocks>(
     blocks: &mut B,
     left: u64,
 ) -> Result<u64, JudgeStop>
-    requires placed { IsPlaced at.now }
+    requires placed { IsAtParent at.now }
     requires left { left ≤ 2 ^ 40 }
     requires counts { B.count blocks.old ≡ length at.now.entries }
     requires formed { IsFormed at.now.entries resolved.now.tx resolved.now }

@@ -6,7 +6,7 @@ ghost use Rattle.chain_tree.specs.Told.{Stored, blocks_of};
 ghost use Rattle.chain_tree.specs.Reading.{HasRead};
 ghost use Rattle.rule_defs.specs.Site.{Site};
 ghost use Rattle.rule_defs.specs.TransactionRules.{has_form};
-ghost use Rattle.tx_rules.specs.At.{IsPlaced, IsSiteOf, spends_rows};
+ghost use Rattle.tx_rules.specs.At.{IsAtParent, IsSiteOf, spends_rows};
 ghost use Rattle.verdict_defs.specs.Judged.{judged_where};
 ghost use Rattle.rule_defs.specs.RuleNumber.{rule_number};
 ghost use Rattle.rule_defs.specs.declared.rule.Rule.{Rule};
@@ -70,7 +70,7 @@ pub(crate) fn judge_transaction<C: Cells, B: Blocks>(
     left: u64,
 ) -> Result<PassedTransaction, JudgeStop>
     requires hash { judged.now.hash ≡ transaction_hash judged.now.tx.now }
-    requires placed { IsPlaced at.now }
+    requires placed { IsAtParent at.now }
     requires left { left ≤ 2 ^ 40 }
     requires counts { B.count blocks.old ≡ length at.now.entries }
     ensures read { HasRead B.told B.count B.loans_of B.faults B.damages blocks.old blocks.new (read_stop_of result) }

@@ -15,11 +15,11 @@ use Rattle.cell_state.specs.Moves.{CanBeTakenBack}
 use Rattle.cell_state.proofs.PlaceLemmas.{branch-linked}
 use Rattle.cell_state.proofs.HeightLemmas.{rows-above}
 use Rattle.cell_state.proofs.RowLemmas.{live_row-step}
-use Rattle.cell_index.specs.Index.{IndexValue, Holds, StandsFor}
+use Rattle.cell_index.specs.Index.{IndexValue, Holds, IndexesBranch}
 use Rattle.cell_index.proofs.ChangeLemmas.{Takes, takes, TakesBack, takes_back}
 
-pub stands-at : (kept : List Block) (index : IndexValue) (place other : ℕ) → place ≡ other → StandsFor kept place index → StandsFor kept other index
-stands-at kept index place other same stands = subst (λ (n : ℕ). StandsFor kept n index) same stands
+pub stands-at : (kept : List Block) (index : IndexValue) (place other : ℕ) → place ≡ other → IndexesBranch kept place index → IndexesBranch kept other index
+stands-at kept index place other same stands = subst (λ (n : ℕ). IndexesBranch kept n index) same stands
 
 -- the same rows under another name
 pub holds-same : (f g : OutPoint → Option Row) (index : IndexValue) → ((o : OutPoint) → f o ≡ g o) → Holds f index → Holds g index
@@ -40,7 +40,7 @@ above stored end height place on =
 -- From the rows of a parent's branch to those of the block's own.
 pub stands-up : (stored : List Stored) (place parent : ℕ) (it : Stored) (index : IndexValue) → slice_get stored place ≡ Some it → parent_place (blocks_of stored) place ≡ Some parent
     → ((height : ℕ) → 0 < height → Holds (row_after place (events_of_block height it.block) (live_row (blocks_of stored) parent)) index)
-    → StandsFor (blocks_of stored) place index
+    → IndexesBranch (blocks_of stored) place index
 stands-up stored place parent it index there of has =
     let block : block_at (blocks_of stored) place ≡ Some it.block =
     slice_get-map (λ (s : Stored). s.block) stored place ∙ ap (option_map (λ (s : Stored). s.block)) there in

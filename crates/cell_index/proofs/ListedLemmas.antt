@@ -26,7 +26,7 @@ use Rattle.cell_defs.specs.Row.{Row, live_row, out_point_cmp, IsRising, ListsRow
 use Rattle.cell_defs.specs.ByLock.{of_lock, capacity_of, IsByLock}
 use Rattle.cell_defs.proofs.ByLockLaws.{here, there, cons-of, cons-rising, none-rises, lists-once}
 use Rattle.cell_defs.proofs.EventLemmas.{out_points-same}
-use Rattle.cell_index.specs.Index.{Key, key_of, key_cmp, IndexValue, at, counts, holds, total_of, IsOwn, StandsFor}
+use Rattle.cell_index.specs.Index.{Key, key_of, key_cmp, IndexValue, at, counts, holds, total_of, IsOwn, IndexesBranch}
 use Rattle.cell_index.proofs.EntryLemmas.{key-is, key_cmp-total}
 
 -- the out-point of a key, and an entry's row with it
@@ -125,7 +125,7 @@ lists-rows es lock rows sorted same = record {
 }
 
 -- So an index that stands for a branch lists its cells by lock.
-pub lists-cells : (kept : List Block) (place : ℕ) (index : IndexValue) (lock : List ℕ) → IsStrictlySortedBy key_cmp (keys_of index.entries) → StandsFor kept place index
+pub lists-cells : (kept : List Block) (place : ℕ) (index : IndexValue) (lock : List ℕ) → IsStrictlySortedBy key_cmp (keys_of index.entries) → IndexesBranch kept place index
     → IsByLock kept place lock (listed lock index.entries)
 lists-cells kept place index lock sorted stands = lists-rows index.entries lock (λ o. of_lock lock (live_row kept place o)) sorted (stands lock)
 
@@ -159,7 +159,7 @@ listed-capacity (e ∷ es) lock own =
     by_test false rest = omega (arith, rest)
 
 pub totals-of : (kept : List Block) (place : ℕ) (index : IndexValue) (lock : List ℕ) (list : List (OutPoint × Row)) → IsStrictlySortedBy key_cmp (keys_of index.entries)
-    → AllByRecursion IsOwn index.entries → StandsFor kept place index → IsByLock kept place lock list → ◌≡◌ {A = ℕ × ℕ} (total_of lock index.entries) (length list, capacity_of list)
+    → AllByRecursion IsOwn index.entries → IndexesBranch kept place index → IsByLock kept place lock list → ◌≡◌ {A = ℕ × ℕ} (total_of lock index.entries) (length list, capacity_of list)
 totals-of kept place index lock list sorted own stands is =
     let same = lists-once (λ o. of_lock lock (live_row kept place o)) (listed lock index.entries) list (lists-cells kept place index lock sorted stands) is in
     ap (λ (n : ℕ). (n, sum_by (holds lock) (values_of index.entries))) (listed-count index.entries lock own)

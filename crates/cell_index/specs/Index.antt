@@ -71,8 +71,8 @@ abbrev pub Holds : (OutPoint → Option Row) → IndexValue → Type 0
 Holds rows index = (lock : List ℕ) (o : OutPoint) → at index.entries lock o ≡ of_lock lock (rows o)
 
 -- An index stands for the branch of a kept block where it has just the rows of that branch.
-abbrev pub StandsFor : List Block → ℕ → IndexValue → Type 0
-StandsFor kept place index = Holds (live_row kept place) index
+abbrev pub IndexesBranch : List Block → ℕ → IndexValue → Type 0
+IndexesBranch kept place index = Holds (live_row kept place) index
 
 -- ---- Without some rows
 

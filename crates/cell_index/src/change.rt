@@ -18,11 +18,12 @@ ghost use Rattle.cell_index.specs.Index.{Holds, without_all, AreThere};
 use crate::Index;
 use crate::stop::Stop;
 use cell_model::{CellMeta, Ext, OutPoint};
-use cell_state::{State, tx_hashes};
+use cell_state::State;
 use chain_tree::{Blocks, Tree, damaged_at};
 use mol_schema::BlockView;
 use outside::{NoMemory, ReadStop};
 use std::alloc::Global;
+use view_hashes::transaction_hashes;
 
 /// What a block changes: the rows of cells that were live before it and that it spends, and those of the cells that it makes and
 /// does not spend itself.
@@ -40,7 +41,7 @@ fn left_by(
 ) -> Result<Vec<(OutPoint, CellMeta)>, NoMemory>
     ensures { (height : ℕ) → 0 < height → IfOk result (λ list. ListsRows (row_after place (events_of_block height block.now) (λ _. None)) list.items) }
 {
-    let hashes = tx_hashes(alloc, block)?;
+    let hashes = transaction_hashes(alloc, block)?;
     let state = State::left_by(alloc, block, &hashes, place)?;
     state.sorted(alloc)
 }

@@ -8,7 +8,7 @@ ghost use Rattle.chain_tree.specs.Damages.{IsAtRecord};
 ghost use Rattle.chain_tree.specs.Told.{Stored, blocks_of};
 ghost use Rattle.chain_tree.specs.Reading.{HasRead, stop_of};
 ghost use Rattle.cell_state.specs.Moves.{IsPathUp, IsOnTheWay, AreOnTheWay};
-ghost use Rattle.cell_index.specs.Index.{StandsFor};
+ghost use Rattle.cell_index.specs.Index.{IndexesBranch};
 ghost use Rattle.cell_index.specs.Follow.{CanBeFollowed};
 
 use crate::Index;
@@ -36,9 +36,9 @@ fn go_down<B: Blocks>(
     ensures on_way { (kept : List Block) → IndexesBlocks kept tree.now.entries → IfOk result (λ it. AreOnTheWay kept from to it.2.items) }
     ensures path { (kept : List Block) → IndexesBlocks kept tree.now.entries → IfOk result (λ it. IsPathUp kept to it.2.items it.1) }
     ensures stands { (stored : List Stored) → B.told blocks.old ≡ Some stored → IndexesBlocks (blocks_of stored) tree.now.entries
-        → CanBeFollowed stored from to → StandsFor (blocks_of stored) from index → IfOk result (λ it. StandsFor (blocks_of stored) it.1 it.0) }
+        → CanBeFollowed stored from to → IndexesBranch (blocks_of stored) from index → IfOk result (λ it. IndexesBranch (blocks_of stored) it.1 it.0) }
     ensures undamaged { (stored : List Stored) → B.told blocks.old ≡ Some stored → IndexesBlocks (blocks_of stored) tree.now.entries
-        → CanBeFollowed stored from to → StandsFor (blocks_of stored) from index → (damage : Damage) → result ≡ Err (Damaged damage) → ⊥ }
+        → CanBeFollowed stored from to → IndexesBranch (blocks_of stored) from index → (damage : Damage) → result ≡ Err (Damaged damage) → ⊥ }
     ensures at_record { (kept : List Block) → IndexesBlocks kept tree.now.entries → IsSome (B.told blocks.old) → (damage : Damage) → result ≡ Err (Damaged damage)
         → (place : ℕ) × (IsOnTheWay kept from to place × IsAtRecord tree.now.entries place damage) }
 {
@@ -87,9 +87,9 @@ impl Index {
         requires counts { B.count blocks.old ≡ length tree.now.entries }
         ensures read { HasRead B.told B.count B.loans_of B.faults B.damages blocks.old blocks.new (stop_of result) }
         ensures stands { (stored : List Stored) → B.told blocks.old ≡ Some stored → IndexesBlocks (blocks_of stored) tree.now.entries
-            → CanBeFollowed stored from to → StandsFor (blocks_of stored) from self → IfOk result (StandsFor (blocks_of stored) to) }
+            → CanBeFollowed stored from to → IndexesBranch (blocks_of stored) from self → IfOk result (IndexesBranch (blocks_of stored) to) }
         ensures undamaged { (stored : List Stored) → B.told blocks.old ≡ Some stored → IndexesBlocks (blocks_of stored) tree.now.entries
-            → CanBeFollowed stored from to → StandsFor (blocks_of stored) from self → (damage : Damage) → result ≡ Err (Damaged damage) → ⊥ }
+            → CanBeFollowed stored from to → IndexesBranch (blocks_of stored) from self → (damage : Damage) → result ≡ Err (Damaged damage) → ⊥ }
         ensures at_record { (kept : List Block) → IndexesBlocks kept tree.now.entries → IsSome (B.told blocks.old) → (damage : Damage) → result ≡ Err (Damaged damage)
             → (place : ℕ) × (IsOnTheWay kept from to place × IsAtRecord tree.now.entries place damage) }
     {

@@ -6,9 +6,9 @@ ghost use Rattle.cell_defs.specs.Row.{Row, ListsRows};
 ghost use Rattle.cell_defs.specs.Undo.{without, with_row, with_rows, first_live};
 ghost use Rattle.cell_defs.specs.ByLock.{of_lock, capacity_of, IsByLock};
 ghost use Rattle.cell_state.specs.State.{rows};
-ghost use Rattle.cell_state.specs.Moves.{AreOf};
+ghost use Rattle.cell_state.specs.Moves.{AreRowsOfBranch};
 ghost use Rattle.cell_index.specs.declared.stop.Stop.TheVariants.{Odd};
-ghost use Rattle.cell_index.specs.Index.{IndexValue, Holds, StandsFor, without_all, AreThere, key_of, total_of};
+ghost use Rattle.cell_index.specs.Index.{IndexValue, Holds, IndexesBranch, without_all, AreThere, key_of, total_of};
 
 use crate::stop::Stop;
 use cell_model::{CellMeta, OutPoint};
@@ -74,7 +74,7 @@ impl Index {
 
     /// The index of the live cells of a branch.
     pub fn of(alloc: Global, state: &State) -> Result<Index, NoMemory>
-        ensures { (kept : List Block) (place : ℕ) → AreOf kept place (rows state.now) → IfOk result (StandsFor kept place) }
+        ensures { (kept : List Block) (place : ℕ) → AreRowsOfBranch kept place (rows state.now) → IfOk result (IndexesBranch kept place) }
     {
         match state.sorted(alloc) {
             Ok(list) => Index::of_rows(alloc, &list),
@@ -88,7 +88,7 @@ impl Index {
         alloc: Global,
         lock: &[u8; 32],
     ) -> Result<Vec<(OutPoint, CellMeta)>, NoMemory>
-        ensures { (kept : List Block) (place : ℕ) → StandsFor kept place self.now → IfOk result (λ list. IsByLock kept place lock.now list.items) }
+        ensures { (kept : List Block) (place : ℕ) → IndexesBranch kept place self.now → IfOk result (λ list. IsByLock kept place lock.now list.items) }
     {
         let first = (*lock, ([0; 32], 0));
         let last = (*lock, ([255; 32], u32::MAX));
@@ -106,7 +106,7 @@ impl Index {
     /// How many cells of a lock there are, by its hash, and what they hold together, in shannons. It takes no memory.
     pub fn total(&self, lock: &[u8; 32]) -> (u64, u128)
         ensures kept { result ≡ total_of lock.now self.now.entries }
-        ensures of_branch { (kept : List Block) (place : ℕ) (list : List (schema.OutPoint × Row)) → StandsFor kept place self.now
+        ensures of_branch { (kept : List Block) (place : ℕ) (list : List (schema.OutPoint × Row)) → IndexesBranch kept place self.now
             → IsByLock kept place lock.now list → result ≡ (length list, capacity_of list) }
     {
         match self.totals.get(lock) {

@@ -7,7 +7,7 @@ use Rattle.std.proofs.lemmas.List.{length-map, length_push, map_push, get_or-map
 use Rattle.std.proofs.lemmas.List.Elements.{All-push}
 use Rattle.chain_defs.specs.Shape.{decoded}
 use Rattle.chain_defs.specs.Schema.{Block, block}
-use Rattle.chain_defs.proofs.ShapeLaws.{IsA-decoded}
+use Rattle.chain_defs.proofs.ShapeLaws.{IsEncoding-decoded}
 use Rattle.chain_defs.proofs.RowLaws.{block-check}
 use Rattle.chain_tree.specs.Told.{Stored, blocks_of}
 use Rattle.cell_defs.specs.Ext.{is_ext}
@@ -18,14 +18,14 @@ use Rattle.cell_model.specs.ListBlocks.{ListBlocksValue, place_among, current_pl
 taken_out : (bytes : List ℕ) (found : Option Block) → decoded block bytes ≡ found → IsSome found → decoded block bytes ≡ Some (block.decoding bytes)
 taken_out bytes None is some = absurd (cc)
 taken_out bytes (Some b) is some =
-    let whole = IsA-decoded block bytes b is in
+    let whole = IsEncoding-decoded block bytes b is in
     is ∙ ap (λ (it : Block). Some it) (sym (block-check.value bytes b whole))
 
 pub canonical-decoded : (bytes : List ℕ) → IsCanonical bytes → decoded block bytes ≡ Some (block.decoding bytes)
 canonical-decoded bytes canonical = taken_out bytes (decoded block bytes) refl canonical
 
 pub decoding-is : (bytes : List ℕ) (b : Block) → decoded block bytes ≡ Some b → block.decoding bytes ≡ b
-decoding-is bytes b is = block-check.value bytes b (IsA-decoded block bytes b is)
+decoding-is bytes b is = block-check.value bytes b (IsEncoding-decoded block bytes b is)
 
 -- ---- The two lists of what they are seen as
 

@@ -18,7 +18,7 @@ mod row;
 pub use cells::{CellMeta, Cells, OutPoint, Resolved, ResolvedTx};
 pub use copies::{copy_of, data_at, fetch, output_at};
 pub use ext::{Ext, fee_in};
-pub use hashes::{data_hash, meta_of, meta_with, occupied, proposal_id, script_hash, tx_hash};
+pub use hashes::{meta_of, meta_with};
 pub use last_script::LastScript;
 pub use list_blocks::ListBlocks;
 pub use row::{ROW_SIZE, put_row, read_row};

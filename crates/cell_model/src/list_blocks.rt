@@ -7,12 +7,12 @@ ghost use Rattle.chain_tree.specs.Told.{blocks_of};
 ghost use Rattle.chain_tree.specs.Reading.{nothing_found};
 ghost use Rattle.cell_model.specs.ListBlocks.{current_place, contents, id_lists, ids_of, all_ids, IsCanonical, IsExtFor, AreKept};
 
-use crate::hashes::{proposal_id, tx_hash};
 use chain_tree::{Blocks, noted};
 use mol_schema::BlockView;
 use outside::{Damage, NoMemory, ReadStop};
 use std::alloc::Global;
 use std::marker::Model;
+use view_hashes::{proposal_id, transaction_hash};
 
 /// Kept blocks with their exts, in two lists of bytes, and beside each its proposal ids. Clauses see the list of the
 /// blocks, which is the current one, and the damage that readers found. It tells them, and never fails.
@@ -51,7 +51,7 @@ fn proposal_ids(alloc: Global, block: &BlockView<'_>) -> Result<Vec<[u8; 10]>, N
     let count = block.transactions_count();
     let mut ids = Vec::with_capacity(alloc, count.saturating_sub(1))?;
     'later: for i in 1..count {
-        ids.push(proposal_id(&tx_hash(&block.transactions_item(i))))?;
+        ids.push(proposal_id(&transaction_hash(&block.transactions_item(i))))?;
     }
     Ok(ids)
 }

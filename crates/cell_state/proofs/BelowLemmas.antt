@@ -12,13 +12,13 @@ use Rattle.cell_defs.specs.Events.{Event, Makes, Spends, same_out_point, last_na
 use Rattle.cell_defs.specs.Row.{Row, row_of, row_on, row_or, row_after, live_row}
 use Rattle.cell_defs.specs.CellLaws.{makes}
 use Rattle.cell_defs.specs.Undo.{without, row_at, spent_of, with_row, with_rows, without_made, undone}
-use Rattle.cell_state.specs.Moves.{AreBelow, is_below}
+use Rattle.cell_state.specs.Moves.{AreRowsBelow, is_below}
 use Rattle.cell_state.proofs.DistanceLemmas.{has, within-own}
 
-pub below-same : (one other : OutPoint → Option Row) (place : ℕ) → ((o : OutPoint) → one o ≡ other o) → AreBelow place other → AreBelow place one
+pub below-same : (one other : OutPoint → Option Row) (place : ℕ) → ((o : OutPoint) → one o ≡ other o) → AreRowsBelow place other → AreRowsBelow place one
 below-same one other place same below o row is = below o row (sym (same o) ∙ is)
 
-pub none-below : {place : ℕ} → AreBelow place (λ _. None)
+pub none-below : {place : ℕ} → AreRowsBelow place (λ _. None)
 none-below o row is = absurd (cc)
 
 -- what is there where others were dropped
@@ -26,12 +26,12 @@ left : (test : Bool) (found : Option Row) (row : Row) → (if test then None els
 left true found row is = absurd (cc)
 left false found row is = is
 
-without-below : (gone : OutPoint) (rows : OutPoint → Option Row) (place : ℕ) → AreBelow place rows → AreBelow place (without gone rows)
+without-below : (gone : OutPoint) (rows : OutPoint → Option Row) (place : ℕ) → AreRowsBelow place rows → AreRowsBelow place (without gone rows)
 without-below gone rows place below o row is = below o row (left (same_out_point gone o) (rows o) row is)
 
 -- ---- Rows that are spent
 
-pub spent-below : (events : List Event) (rows : OutPoint → Option Row) (place : ℕ) → AreBelow place rows → list_all (is_below place) (spent_of events rows) ≡ true
+pub spent-below : (events : List Event) (rows : OutPoint → Option Row) (place : ℕ) → AreRowsBelow place rows → list_all (is_below place) (spent_of events rows) ≡ true
 unfolding spent_of
 spent-below [] rows place below = refl
 spent-below (Makes o cell ∷ later) rows place below = spent-below later (without o rows) place (without-below o rows place below)
@@ -44,15 +44,15 @@ spent-below (Spends o ∷ later) rows place below = by_row (rows o) refl (spent-
 
 -- ---- Rows that are put back
 
-with_row-below : (one : OutPoint × Row) (rows : OutPoint → Option Row) (place : ℕ) → one.1.block < place → AreBelow place rows → AreBelow place (with_row one rows)
+with_row-below : (one : OutPoint × Row) (rows : OutPoint → Option Row) (place : ℕ) → one.1.block < place → AreRowsBelow place rows → AreRowsBelow place (with_row one rows)
 with_row-below one rows place here below o row is = by_test (same_out_point one.0 o) is
   where
     by_test : (test : Bool) → (if test then Some one.1 else rows o) ≡ Some row → row.block < place
     by_test true is = subst (λ (r : Row). r.block < place) (same_Some one.1 row is) here
     by_test false is = below o row is
 
-with_rows-below : (spent : List (OutPoint × Row)) (rows : OutPoint → Option Row) (place : ℕ) → list_all (is_below place) spent ≡ true → AreBelow place rows
-    → AreBelow place (with_rows spent rows)
+with_rows-below : (spent : List (OutPoint × Row)) (rows : OutPoint → Option Row) (place : ℕ) → list_all (is_below place) spent ≡ true → AreRowsBelow place rows
+    → AreRowsBelow place (with_rows spent rows)
 with_rows-below [] rows place all below = below
 with_rows-below (one ∷ later) rows place all below =
     let both = and_parts (is_below place one) (list_all (is_below place) later) all in
@@ -67,15 +67,15 @@ all-more (one ∷ later) place end less all =
 
 -- a block that is taken back
 pub undone-below : (events : List Event) (spent : List (OutPoint × Row)) (rows : OutPoint → Option Row) (place end : ℕ) → list_all (is_below place) spent ≡ true
-    → place < end → AreBelow end rows → AreBelow end (undone events spent rows)
+    → place < end → AreRowsBelow end rows → AreRowsBelow end (undone events spent rows)
 unfolding undone
 undone-below events spent rows place end all less below =
     with_rows-below spent (without_made events rows) end (all-more spent place end (omega (arith, less)) all)
     (λ o row is. below o row (left (list_any (makes o) events) (rows o) row is))
 
 -- one that is applied
-pub after-below : (place : ℕ) (events : List Event) (rows : OutPoint → Option Row) (end : ℕ) → place < end → AreBelow end rows
-    → AreBelow end (row_after place events rows)
+pub after-below : (place : ℕ) (events : List Event) (rows : OutPoint → Option Row) (end : ℕ) → place < end → AreRowsBelow end rows
+    → AreRowsBelow end (row_after place events rows)
 unfolding row_after
 after-below place events rows end less below o row is = by_last (last_naming o events) is
   where
@@ -92,7 +92,7 @@ index-below [] (suc i) end some each = some
 index-below (x ∷ xs) zero end some each = each x (or_left (x == x) (has xs x) (eq-eqb x x refl))
 index-below (x ∷ xs) (suc i) end some each = index-below xs i end some (λ y there. each y (or_right (x == y) (has xs y) there))
 
-pub live-below : (kept : List Block) (place end : ℕ) → place < end → AreBelow end (live_row kept place)
+pub live-below : (kept : List Block) (place end : ℕ) → place < end → AreRowsBelow end (live_row kept place)
 unfolding live_row
 live-below kept place end less o row is = by_cell (live_cell (branch kept place) o) is
   where

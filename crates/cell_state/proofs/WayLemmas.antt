@@ -14,7 +14,7 @@ use Rattle.chain_tree.proofs.BlockLemmas.{len-same}
 use Rattle.cell_defs.specs.Row.{Row, live_row}
 use Rattle.cell_defs.specs.Events.{events_of_block}
 use Rattle.cell_defs.specs.UndoLaws.{ComesBefore}
-use Rattle.cell_state.specs.Moves.{CanBeTakenBack, CanGoDown, AreOf, is_on_branch, IsOnTheWay}
+use Rattle.cell_state.specs.Moves.{CanBeTakenBack, CanGoDown, AreRowsOfBranch, is_on_branch, IsOnTheWay}
 
 pub parent-earlier : (entries : List Entry) (place : ℕ) (entry : Entry) → IsTree entries → 0 < place → entry_at entries place ≡ Some entry
     → entry.parent < place
@@ -62,7 +62,7 @@ taken-same b bytes one other before same can = record {
 -- the block at a place can be taken back from the rows of its branch, as they stand
 pub taken-here : (stored : List Stored) (from to place parent : ℕ) (it : Stored) (rows : OutPoint → Option Row) → CanGoDown stored from to
     → is_on_branch (blocks_of stored) from place ≡ true → IsOnTheWay (blocks_of stored) from to place
-    → slice_get stored place ≡ Some it → parent_place (blocks_of stored) place ≡ Some parent → AreOf (blocks_of stored) place rows
+    → slice_get stored place ≡ Some it → parent_place (blocks_of stored) place ≡ Some parent → AreRowsOfBranch (blocks_of stored) place rows
     → CanBeTakenBack it.block it.ext rows (live_row (blocks_of stored) parent)
 taken-here stored from to place parent it rows can on way there is are =
     taken-same it.block it.ext (live_row (blocks_of stored) place) rows (live_row (blocks_of stored) parent) (λ o. sym (are o))

@@ -27,12 +27,12 @@ EachCanBeTakenBack stored = (place parent : ℕ) (it : Stored) → slice_get sto
     → CanBeTakenBack it.block it.ext (live_row (blocks_of stored) place) (live_row (blocks_of stored) parent)
 
 -- rows are those of the branch of a place
-abbrev pub AreOf : List Block → ℕ → (OutPoint → Option Row) → Type 0
-AreOf kept place rows = (o : OutPoint) → rows o ≡ live_row kept place o
+abbrev pub AreRowsOfBranch : List Block → ℕ → (OutPoint → Option Row) → Type 0
+AreRowsOfBranch kept place rows = (o : OutPoint) → rows o ≡ live_row kept place o
 
 -- each row is of a block before a place
-abbrev pub AreBelow : ℕ → (OutPoint → Option Row) → Type 0
-AreBelow place rows = (o : OutPoint) (row : Row) → rows o ≡ Some row → row.block < place
+abbrev pub AreRowsBelow : ℕ → (OutPoint → Option Row) → Type 0
+AreRowsBelow place rows = (o : OutPoint) (row : Row) → rows o ≡ Some row → row.block < place
 
 -- whether a row is
 abbrev pub is_below : ℕ → OutPoint × Row → Bool

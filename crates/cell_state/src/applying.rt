@@ -12,14 +12,15 @@ ghost use Rattle.cell_defs.specs.Row.{row_after};
 ghost use Rattle.cell_defs.specs.Fit.{are_live, AllFit};
 ghost use Rattle.cell_state.specs.State.{rows};
 ghost use Rattle.chain_tree.specs.Damages.{IsAtRecord};
-ghost use Rattle.cell_state.specs.Moves.{AreBelow, AreOf};
+ghost use Rattle.cell_state.specs.Moves.{AreRowsBelow, AreRowsOfBranch};
 
-use crate::{State, outputs_in, tx_hashes};
+use crate::{State, outputs_in};
 use chain_tree::{Blocks, Tree, damaged_at};
 use mol_schema::BlockView;
 use outside::{ReadStop, Steps};
 use std::alloc::Global;
 use std::sync::ledger::Ledger;
+use view_hashes::transaction_hashes;
 
 /// The cells that the genesis leaves, from which the branch of any other place can be gone to. Damaged where the source finds
 /// it damaged.
@@ -32,8 +33,8 @@ pub fn genesis_cells<B: Blocks>(
     requires counts { B.count blocks.old ≡ length tree.now.entries }
     ensures read { HasRead B.told B.count B.loans_of B.faults B.damages blocks.old blocks.new (stop_of result) }
     ensures rows { (stored : List Stored) → B.told blocks.old ≡ Some stored → IndexesBlocks (blocks_of stored) tree.now.entries
-        → IfOk result (λ state. AreOf (blocks_of stored) 0 (rows state)) }
-    ensures below { IfOk result (λ state. AreBelow 1 (rows state)) }
+        → IfOk result (λ state. AreRowsOfBranch (blocks_of stored) 0 (rows state)) }
+    ensures below { IfOk result (λ state. AreRowsBelow 1 (rows state)) }
     ensures undamaged { (stored : List Stored) → B.told blocks.old ≡ Some stored → (damage : Damage) → result ≡ Err (Damaged damage) → ⊥ }
 {
     match blocks.bring(0) {
@@ -41,7 +42,7 @@ pub fn genesis_cells<B: Blocks>(
         Err(stop) => return Err(stop),
     }
     let block = blocks.block();
-    let hashes = match tx_hashes(alloc, &block) {
+    let hashes = match transaction_hashes(alloc, &block) {
         Ok(hashes) => hashes,
         Err(_) => return Err(ReadStop::NoMemory),
     };
@@ -66,7 +67,7 @@ pub(crate) fn apply_at<B: Blocks, L: Ledger>(
     ensures read { HasRead B.told B.count B.loans_of B.faults B.damages blocks.old blocks.new (stop_of result) }
     ensures rows { (stored : List Stored) (b : Block) → B.told blocks.old ≡ Some stored → block_at (blocks_of stored) place ≡ Some b
         → OnOk result ((height : ℕ) (o : OutPoint) → 0 < height → rows state.new o ≡ row_after place (events_of_block height b) (rows state.old) o) }
-    ensures below { (end : ℕ) → place < end → AreBelow end (rows state.old) → OnOk result (AreBelow end (rows state.new)) }
+    ensures below { (end : ℕ) → place < end → AreRowsBelow end (rows state.old) → OnOk result (AreRowsBelow end (rows state.new)) }
     ensures fit { (stored : List Stored) (b : Block) → B.told blocks.old ≡ Some stored → block_at (blocks_of stored) place ≡ Some b
         → OnOk result ((height : ℕ) → 0 < height → AllFit (events_of_block height b) (are_live (rows state.old))) }
     ensures undamaged { (stored : List Stored) (b : Block) (height : ℕ) → B.told blocks.old ≡ Some stored → block_at (blocks_of stored) place ≡ Some b
@@ -84,7 +85,7 @@ pub(crate) fn apply_at<B: Blocks, L: Ledger>(
         Ok(()) => {}
         Err(_) => return Err(ReadStop::NoMemory),
     }
-    let hashes = match tx_hashes(alloc, &block) {
+    let hashes = match transaction_hashes(alloc, &block) {
         Ok(hashes) => hashes,
         Err(_) => return Err(ReadStop::NoMemory),
     };

@@ -8,7 +8,6 @@
 
 mod applying;
 mod events;
-mod hashes;
 mod listing;
 mod made;
 mod moving;
@@ -21,7 +20,6 @@ mod taking_back;
 mod undoing;
 
 pub use applying::genesis_cells;
-pub use hashes::tx_hashes;
 pub use moving::go_to;
 pub use odd::Odd;
 pub use parent::parent_in;

@@ -10,7 +10,7 @@ ghost use Rattle.chain_tree.specs.Reading.{HasRead, stop_of};
 ghost use Rattle.cell_defs.specs.Fit.{BranchFits};
 ghost use Rattle.cell_state.specs.State.{rows};
 ghost use Rattle.chain_tree.specs.Damages.{IsAtRecord};
-ghost use Rattle.cell_state.specs.Moves.{CanGoDown, AreBelow, AreOf, IsPathUp, IsOnTheWay, AreOnTheWay};
+ghost use Rattle.cell_state.specs.Moves.{CanGoDown, AreRowsBelow, AreRowsOfBranch, IsPathUp, IsOnTheWay, AreOnTheWay};
 
 use crate::State;
 use crate::applying::apply_at;
@@ -39,13 +39,13 @@ fn go_down<B: Blocks, L: Ledger>(
     ensures read { HasRead B.told B.count B.loans_of B.faults B.damages blocks.old blocks.new (stop_of result) }
     ensures within { IfOk result (λ it. (i place : ℕ) → slice_get it.1.items i ≡ Some place → place < length tree.now.entries) }
     ensures up_to { IfOk result (λ it. (i place : ℕ) → slice_get it.1.items i ≡ Some place → place ≤ to) }
-    ensures below { (end : ℕ) → from < end → AreBelow end (rows state.old) → IfOk result (λ it. AreBelow end (rows state.new)) }
+    ensures below { (end : ℕ) → from < end → AreRowsBelow end (rows state.old) → IfOk result (λ it. AreRowsBelow end (rows state.new)) }
     ensures on_way { (kept : List Block) → IndexesBlocks kept tree.now.entries → IfOk result (λ it. AreOnTheWay kept from to it.1.items) }
     ensures path { (kept : List Block) → IndexesBlocks kept tree.now.entries → IfOk result (λ it. IsPathUp kept to it.1.items it.0) }
     ensures rows { (stored : List Stored) → B.told blocks.old ≡ Some stored → IndexesBlocks (blocks_of stored) tree.now.entries
-        → CanGoDown stored from to → AreOf (blocks_of stored) from (rows state.old) → IfOk result (λ it. AreOf (blocks_of stored) it.0 (rows state.new)) }
+        → CanGoDown stored from to → AreRowsOfBranch (blocks_of stored) from (rows state.old) → IfOk result (λ it. AreRowsOfBranch (blocks_of stored) it.0 (rows state.new)) }
     ensures undamaged { (stored : List Stored) → B.told blocks.old ≡ Some stored → IndexesBlocks (blocks_of stored) tree.now.entries
-        → CanGoDown stored from to → AreOf (blocks_of stored) from (rows state.old) → (damage : Damage) → result ≡ Err (Damaged damage) → ⊥ }
+        → CanGoDown stored from to → AreRowsOfBranch (blocks_of stored) from (rows state.old) → (damage : Damage) → result ≡ Err (Damaged damage) → ⊥ }
     ensures at_record { (kept : List Block) → IndexesBlocks kept tree.now.entries → IsSome (B.told blocks.old) → (damage : Damage) → result ≡ Err (Damaged damage)
         → (place : ℕ) × (IsOnTheWay kept from to place × IsAtRecord tree.now.entries place damage) }
     ensures steps { (kept : List Block) → IndexesBlocks kept tree.now.entries
@@ -97,10 +97,10 @@ pub fn go_to<B: Blocks, L: Ledger>(
     requires counts { B.count blocks.old ≡ length tree.now.entries }
     ensures read { HasRead B.told B.count B.loans_of B.faults B.damages blocks.old blocks.new (stop_of result) }
     ensures rows { (stored : List Stored) → B.told blocks.old ≡ Some stored → IndexesBlocks (blocks_of stored) tree.now.entries
-        → CanGoDown stored from to → AreOf (blocks_of stored) from (rows state) → IfOk result (λ there. AreOf (blocks_of stored) to (rows there)) }
-    ensures below { (end : ℕ) → from < end → to < end → AreBelow end (rows state) → IfOk result (λ there. AreBelow end (rows there)) }
+        → CanGoDown stored from to → AreRowsOfBranch (blocks_of stored) from (rows state) → IfOk result (λ there. AreRowsOfBranch (blocks_of stored) to (rows there)) }
+    ensures below { (end : ℕ) → from < end → to < end → AreRowsBelow end (rows state) → IfOk result (λ there. AreRowsBelow end (rows there)) }
     ensures undamaged { (stored : List Stored) → B.told blocks.old ≡ Some stored → IndexesBlocks (blocks_of stored) tree.now.entries
-        → CanGoDown stored from to → AreOf (blocks_of stored) from (rows state) → BranchFits (blocks_of stored) to
+        → CanGoDown stored from to → AreRowsOfBranch (blocks_of stored) from (rows state) → BranchFits (blocks_of stored) to
         → (damage : Damage) → result ≡ Err (Damaged damage) → ⊥ }
     ensures at_record { (kept : List Block) → IndexesBlocks kept tree.now.entries → IsSome (B.told blocks.old) → (damage : Damage) → result ≡ Err (Damaged damage)
         → (place : ℕ) × (IsOnTheWay kept from to place × IsAtRecord tree.now.entries place damage) }

@@ -9,14 +9,15 @@ ghost use Rattle.chain_tree.specs.Reading.{HasRead, stop_of};
 ghost use Rattle.cell_defs.specs.Row.{Row};
 ghost use Rattle.cell_state.specs.State.{rows};
 ghost use Rattle.chain_tree.specs.Damages.{IsAtRecord};
-ghost use Rattle.cell_state.specs.Moves.{AreBelow, CanBeTakenBack, is_below};
+ghost use Rattle.cell_state.specs.Moves.{AreRowsBelow, CanBeTakenBack, is_below};
 
-use crate::{State, tx_hashes};
+use crate::State;
 use cell_model::{CellMeta, Ext, OutPoint};
 use chain_tree::{Blocks, Tree, damaged_at};
 use outside::{ReadStop, Steps};
 use std::alloc::Global;
 use std::sync::ledger::Ledger;
+use view_hashes::transaction_hashes;
 
 /// Whether rows are of blocks before a place.
 fn are_below(rows: &[(OutPoint, CellMeta)], place: u32) -> bool
@@ -47,8 +48,8 @@ pub(crate) fn undo_at<B: Blocks, L: Ledger>(
     ensures rows { (stored : List Stored) (it : Stored) (before : out_point → Option Row) → B.told blocks.old ≡ Some stored → slice_get stored place ≡ Some it
         → CanBeTakenBack it.block it.ext (rows state.old) before → OnOk result ((o : out_point) → rows state.new o ≡ before o) }
     ensures undamaged { (stored : List Stored) (it : Stored) (before : out_point → Option Row) → B.told blocks.old ≡ Some stored → slice_get stored place ≡ Some it
-        → CanBeTakenBack it.block it.ext (rows state.old) before → AreBelow place before → (damage : Damage) → result ≡ Err (Damaged damage) → ⊥ }
-    ensures below { (end : ℕ) → place < end → AreBelow end (rows state.old) → OnOk result (AreBelow end (rows state.new)) }
+        → CanBeTakenBack it.block it.ext (rows state.old) before → AreRowsBelow place before → (damage : Damage) → result ≡ Err (Damaged damage) → ⊥ }
+    ensures below { (end : ℕ) → place < end → AreRowsBelow end (rows state.old) → OnOk result (AreRowsBelow end (rows state.new)) }
     ensures at_record { IsSome (B.told blocks.old) → (damage : Damage) → result ≡ Err (Damaged damage) → IsAtRecord tree.now.entries place damage }
     ensures steps { OnOk result (steps.new ≡ steps.old + 1) }
     ensures most { steps.new ≤ steps.old + 1 }
@@ -70,7 +71,7 @@ pub(crate) fn undo_at<B: Blocks, L: Ledger>(
         Err(_) => return Err(ReadStop::NoMemory),
     }
     let block = blocks.block();
-    let hashes = match tx_hashes(alloc, &block) {
+    let hashes = match transaction_hashes(alloc, &block) {
         Ok(hashes) => hashes,
         Err(_) => return Err(ReadStop::NoMemory),
     };

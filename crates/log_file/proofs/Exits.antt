@@ -8,7 +8,7 @@ use Rattle.outside.specs.Disk.{IsAsBefore}
 use Rattle.outside.proofs.Moments.{started, leaves_also, leaves_then}
 use Rattle.log_file.specs.declared.stop.LogStop.{LogStop}
 use Rattle.log_file.specs.declared.stop.LogStop.TheVariants.{DiskFault, NotAStore, NoMemory}
-use Rattle.log_file.specs.Stops.{OfDamage, IsDamage, in_log, IsInLog}
+use Rattle.log_file.specs.Stops.{IfDamage, IsDamage, in_log, IsInLog}
 
 -- what holds of each image holds of the one that is known
 pub on_each : (reads : Option Image) (P : Image → Type 0) → ((image : Image) → P image) → IfSome reads P
@@ -126,24 +126,24 @@ pub wrong_not_fault : {T : Type 0} (damage : Damage) → ◌≡◌ {A = Result T
 wrong_not_fault damage is = absurd (cc)
 
 -- what is said of the damage that a stop names, where less is known, or it names none
-pub damage_also : (P Q : Damage → Type 0) (stop : LogStop) → ((damage : Damage) → P damage → Q damage) → OfDamage P stop → OfDamage Q stop
+pub damage_also : (P Q : Damage → Type 0) (stop : LogStop) → ((damage : Damage) → P damage → Q damage) → IfDamage P stop → IfDamage Q stop
 damage_also P Q DiskFault also is = tt
 damage_also P Q (NotAStore damage) also is = also damage is
 damage_also P Q NoMemory also is = tt
 
-pub no_damage : (Q : Damage → Type 0) (stop : LogStop) → OfDamage (λ _. ⊥) stop → OfDamage Q stop
+pub no_damage : (Q : Damage → Type 0) (stop : LogStop) → IfDamage (λ _. ⊥) stop → IfDamage Q stop
 no_damage Q stop none = damage_also (λ _. ⊥) Q stop (λ _ never. absurd never) none
 
 -- a stop that is converted
 pub damage_same : {T : Type 0} (result : Result T LogStop) (stop : LogStop) (Q : Damage → Type 0)
-    → ((damage : Damage) → result ≡ Err (NotAStore damage) → stop ≡ NotAStore damage) → OfDamage Q stop → IfErr result (OfDamage Q)
+    → ((damage : Damage) → result ≡ Err (NotAStore damage) → stop ≡ NotAStore damage) → IfDamage Q stop → IfErr result (IfDamage Q)
 damage_same (Ok value) stop Q same is = tt
 damage_same (Err DiskFault) stop Q same is = tt
-damage_same (Err (NotAStore damage)) stop Q same is = subst (OfDamage Q) (same damage refl) is
+damage_same (Err (NotAStore damage)) stop Q same is = subst (IfDamage Q) (same damage refl) is
 damage_same (Err NoMemory) stop Q same is = tt
 
 -- a stop that names damage
-pub damage_named : (P Q : Damage → Type 0) (stop : LogStop) → ((damage : Damage) → P damage → Q damage) → IsDamage P stop → OfDamage Q stop
+pub damage_named : (P Q : Damage → Type 0) (stop : LogStop) → ((damage : Damage) → P damage → Q damage) → IsDamage P stop → IfDamage Q stop
 damage_named P Q DiskFault also is = absurd is
 damage_named P Q (NotAStore damage) also is = also damage is
 damage_named P Q NoMemory also is = absurd is
@@ -153,13 +153,13 @@ named_no_fault P stop is fault = subst (IsDamage P) fault is
 
 -- damage in LOG, handed on by a call that knows less of its place
 pub in_log_also : (reads later : Option Image) (P Q : List ℕ → ℕ → Type 0) (stop : LogStop)
-    → ((at : ℕ) → IfSome later (λ image. P image.log at) → IfSome reads (λ image. Q image.log at)) → OfDamage (IsInLog later P) stop → OfDamage (IsInLog reads Q) stop
+    → ((at : ℕ) → IfSome later (λ image. P image.log at) → IfSome reads (λ image. Q image.log at)) → IfDamage (IsInLog later P) stop → IfDamage (IsInLog reads Q) stop
 in_log_also reads later P Q stop also is =
     damage_also (IsInLog later P) (IsInLog reads Q) stop (λ damage wrong. record { area = wrong.area; at = also damage.at wrong.at }) is
 
 -- damage in LOG at a place
 pub at_place : (reads : Option Image) (P : List ℕ → ℕ → Type 0) (R : Type 0) (place : ℕ) (stop : LogStop) → (R → IfSome reads (λ image. P image.log place))
-    → OfDamage (λ damage. (damage ≡ in_log place) × R) stop → OfDamage (IsInLog reads P) stop
+    → IfDamage (λ damage. (damage ≡ in_log place) × R) stop → IfDamage (IsInLog reads P) stop
 at_place reads P R place stop also is = damage_also (λ damage. (damage ≡ in_log place) × R) (IsInLog reads P) stop
     (λ damage wrong. record {
       area = ap (λ (d : Damage). d.area) wrong.0;

@@ -6,7 +6,7 @@ use Rattle.outside.specs.Image.{Image}
 use Rattle.disk_defs.specs.Log.{magic, is_specification, is_genesis, IsNoLogFrom}
 use Rattle.log_file.specs.Grammar.{AreBlocks, BlocksValue, read_with, IsGenesisOf}
 use Rattle.log_file.specs.Reading.{ReaderValue, IsReading, HasPassed, IsOtherHere}
-use Rattle.log_file.specs.Opening.{HasRead}
+use Rattle.log_file.specs.Opening.{HasReadLog}
 use Rattle.log_file.proofs.Progress.{OfSpec, begun, not_specified, no_genesis, no_content, no_start}
 
 -- what is known of a later disk, which reads as the earlier one
@@ -49,7 +49,7 @@ pub told_begun : (reads l1 l2 : Option Image) (spec : Specification) (r0 r1 r2 r
     → IfSome l1 (λ image. IsReading image.log r1 → HasPassed image.log (OfSpec spec) r1 r2)
     → IfSome l2 (λ image. IsReading image.log r2 → IsReading image.log r3)
     → IfSome l2 (λ image. IsReading image.log r2 → HasPassed image.log (λ r. IsGenesisOf (r2.at + 6) r blocks) r2 r3)
-    → AreBlocks blocks.stored blocks.entries → IfSome reads (λ image. IsReading image.log r0 → HasRead image.log spec r3 (read_with blocks.stored blocks.entries None))
+    → AreBlocks blocks.stored blocks.entries → IfSome reads (λ image. IsReading image.log r0 → HasReadLog image.log spec r3 (read_with blocks.stored blocks.entries None))
 told_begun None l1 l2 spec r0 r1 r2 r3 blocks same then at goes on one further two are = tt
 told_begun (Some image) l1 l2 spec r0 r1 r2 r3 blocks same then at goes on one further two are = λ reading.
     let goes_on = on_same l1 (Some image) (λ image. IsReading image.log r1 → IsReading image.log r2) same on in

@@ -1,10 +1,10 @@
 -- Blocks that are put after others, from their records.
 use Rattle.std.proofs.Common.{◌≡◌, ◌⊎◌, inl, inr, ℕ, ◌<◌, Bool, true, false, cond, drop, List, [], ◌∷◌, ◌++◌, length, Option, Some, None, refl, sym, ap, ◌∙◌, subst, arith}
-use Rattle.std.specs.Prelude.{◌==◌, is_none, slice_get, IsTrue}
+use Rattle.std.specs.Prelude.{◌==◌, ◌&&◌, is_none, slice_get, IsTrue}
 use Rattle.std.proofs.lemmas.Bool.{and_right, eqb-true}
 use Rattle.std.proofs.lemmas.List.{length-map, length_push, map_push}
 use Rattle.chain_defs.specs.Shape.{decoded}
-use Rattle.chain_defs.proofs.ShapeLaws.{IsA-decoded}
+use Rattle.chain_defs.proofs.ShapeLaws.{IsEncoding-decoded}
 use Rattle.chain_defs.specs.Schema.{Block}
 use Rattle.chain_defs.specs.Schema as shapes
 use Rattle.cell_defs.specs.Ext.{is_ext}
@@ -72,10 +72,26 @@ not_genesis kind body none =
     let wrong : is_none (broken_genesis_rule body) ≡ false = ap (λ (o : Option Block). is_none (broken_by o)) none in
     and_right (kind == 2) (is_none (broken_genesis_rule body)) wrong
 
+-- a block that breaks a rule on a genesis is none
+pub breaks_a_rule : (kind : ℕ) (body : List ℕ) (b : Block) (rule : ℕ) → decoded shapes.block body ≡ Some b → broken_by (Some b) ≡ Some rule
+    → is_genesis (record_of kind body) ≡ false
+unfolding broken_genesis_rule
+breaks_a_rule kind body b rule there broken =
+    let wrong : is_none (broken_genesis_rule body) ≡ false = ap (λ (o : Option Block). is_none (broken_by o)) there ∙ ap (λ (o : Option ℕ). is_none o) broken in
+    and_right (kind == 2) (is_none (broken_genesis_rule body)) wrong
+
+-- and one that breaks none is one
+pub breaks_none : (kind : ℕ) (body : List ℕ) (b : Block) → kind ≡ 2 → decoded shapes.block body ≡ Some b → broken_by (Some b) ≡ None
+    → is_genesis (record_of kind body) ≡ true
+unfolding broken_genesis_rule
+breaks_none kind body b second there none =
+    ap (λ (k : ℕ). (k == 2) && is_none (broken_genesis_rule body)) second ∙ ap (λ (o : Option Block). is_none (broken_by o)) there
+    ∙ ap (λ (o : Option ℕ). is_none o) none
+
 -- G2: the number of a genesis is 0
-pub genesis_first : (body : List ℕ) (b : Block) → decoded shapes.block body ≡ Some b → broken_genesis_rule body ≡ None → b.header.number ≡ 0
-unfolding broken_genesis_rule first_failing
-genesis_first body b there kept = by_test (is_first b) refl (sym (ap broken_by there) ∙ kept)
+pub genesis_first : (b : Block) → broken_by (Some b) ≡ None → b.header.number ≡ 0
+unfolding first_failing
+genesis_first b kept = by_test (is_first b) refl kept
   where
     by_test : (t : Bool) → is_first b ≡ t → cond {A = Option ℕ} t (first_failing (drop 1 (genesis_rules b))) (Some 2) ≡ None → b.header.number ≡ 0
     by_test true is none = eqb-true b.header.number 0 is
@@ -86,7 +102,7 @@ pub genesis_blocks : (stored : List Stored) (entries : List Entry) (body : List 
 genesis_blocks stored entries body b there one indexed =
     subst (λ (list : List Stored). AreBlocks list entries) (sym one) (record {
       indexed = indexed;
-      canonical = each-push IsCanonicalAt [] b (none-at IsCanonicalAt) (IsA-decoded shapes.block body b there).fits;
+      canonical = each-push IsCanonicalAt [] b (none-at IsCanonicalAt) (IsEncoding-decoded shapes.block body b there).fits;
       forms = each-push HasForm [] (record { block = b; ext = [] }) (none-at HasForm) (λ above. absurd (omega (arith, above)));
       few = omega (arith, kept_limit_is);
     })

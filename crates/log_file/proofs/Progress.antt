@@ -8,7 +8,7 @@ use Rattle.std.proofs.lemmas.Bool.{and_from, and_parts, le-leb, eqb-true}
 use Rattle.std.proofs.lemmas.List.{append_assoc, append-nil, length-append, length-drop, length_push, map_push, drop-drop}
 use Rattle.std.proofs.lemmas.List.Elements.{All-nil, All-push, filter-append}
 use Rattle.chain_defs.specs.Shape.{encoded}
-use Rattle.chain_defs.proofs.ShapeLaws.{IsA-decoded}
+use Rattle.chain_defs.proofs.ShapeLaws.{IsEncoding-decoded}
 use Rattle.chain_defs.specs.Schema.{Block}
 use Rattle.chain_defs.specs.Schema as shapes
 use Rattle.chain_defs.specs.Kept.{block_list, blocks_of_item}
@@ -27,7 +27,7 @@ use Rattle.disk_defs.proofs.Stopping.{past_specification, at_specification, at_g
 use Rattle.log_file.specs.Grammar.{record_of, ext_in, NamesBody, AreBlocks, BlocksValue, ReadValue, read_with, IsGenesisOf, IsGrownBy, IsTakenFrom, IsMisplaced}
 use Rattle.log_file.specs.Pieces.{block_record}
 use Rattle.log_file.specs.Reading.{ReaderValue, IsReading, IsAt, HasPassed, IsOther, IsOtherHere, IsWrongHere}
-use Rattle.log_file.specs.Opening.{NameNext, NameBodies, kept_records, AreOpened, IsOpened, HasRead, HasReadAll, IsNoContentFrom}
+use Rattle.log_file.specs.Opening.{NameNext, NameBodies, kept_records, AreOpened, IsOpened, HasReadLog, HasReadAll, IsNoContentFrom}
 use Rattle.log_file.proofs.Judging.{limit_is, kept_limit_is, blocks-push, as_many}
 
 -- ---- Records that were read, and those that are left
@@ -241,13 +241,13 @@ opened_first one two at blocks is are start =
       fits = All-nil HasFittingBody;
       indexed = subst (λ (l : List Block). IndexesBlocks l blocks.entries) blocks_are are.indexed;
       named = subst (NameBodies (14 + length one.body) (record_of 2 two.body ∷ [])) (sym is.entries) named;
-      held = ap (λ (body : List ℕ). record_of 2 body ∷ []) (IsA-decoded shapes.block two.body is.block is.is).encoding ∙ sym (ap kept_records is.stored);
+      held = ap (λ (body : List ℕ). record_of 2 body ∷ []) (IsEncoding-decoded shapes.block two.body is.block is.is).encoding ∙ sym (ap kept_records is.stored);
     }
 
 pub begun : (log : List ℕ) (spec : Specification) (first second third : ReaderValue) (blocks : BlocksValue) → first.at ≡ 8
     → HasPassed log (λ r. (is_specification r ≡ true) × (spec ≡ specification_of r.body)) first second
     → HasPassed log (λ r. IsGenesisOf (second.at + 6) r blocks) second third → AreBlocks blocks.stored blocks.entries → IsReading log third
-    → HasRead log spec third (read_with blocks.stored blocks.entries None)
+    → HasReadLog log spec third (read_with blocks.stored blocks.entries None)
 begun log spec first second third blocks start one two are reading =
     let size : size_of_all (one.r ∷ two.r ∷ []) ≡ length (record_bytes one.r) + length (record_bytes two.r) =
     length-append (record_bytes one.r) (record_bytes two.r ++ []) ∙ ap (λ (l : List ℕ). length (record_bytes one.r) + length l) (append-nil (record_bytes two.r)) in
@@ -324,12 +324,12 @@ opened_edited r log before after so_far edition is =
     })
 
 -- a reader that went over a record, after which the records say this
-module _ (log : List ℕ) (spec : Specification) (old new : ReaderValue) (before after : ReadValue) (so_far : HasRead log spec old before) (r : Record)
+module _ (log : List ℕ) (spec : Specification) (old new : ReaderValue) (before after : ReadValue) (so_far : HasReadLog log spec old before) (r : Record)
     (there : record_at (drop old.at log) ≡ Some r) (at : IsAt old.len (old.at + length (record_bytes r)) new) (reading : IsReading log new) where
   read_on : (blocks : List Block)
       → let content : LogContent = record { specification = so_far.log.specification; genesis = so_far.log.genesis; records = so_far.log.records ++ r ∷ []; blocks = blocks } in
       content_of_records (so_far.records ++ r ∷ []) ≡ Some content → edition_of content.records ≡ after.edition
-      → AreOpened content after.blocks.stored after.blocks.entries → length blocks ≡ length (of_blocks content.records) + 1 → HasRead log spec new after
+      → AreOpened content after.blocks.stored after.blocks.entries → length blocks ≡ length (of_blocks content.records) + 1 → HasReadLog log spec new after
   read_on blocks says told opened counted = record {
     reading = reading;
     within = omega (arith, at.at, still_within log old.at r there);
@@ -346,8 +346,8 @@ module _ (log : List ℕ) (spec : Specification) (old new : ReaderValue) (before
     next = omega (arith, at.at, so_far.next, size-push (record_of 2 so_far.log.genesis ∷ so_far.log.records) r);
   }
 
-pub one_more_read : (log : List ℕ) (spec : Specification) (old new : ReaderValue) (before after : ReadValue) → HasRead log spec old before
-    → HasPassed log (λ r. IsTakenFrom (old.at + 6) r before after) old new → AreBlocks after.blocks.stored after.blocks.entries → IsReading log new → HasRead log spec new after
+pub one_more_read : (log : List ℕ) (spec : Specification) (old new : ReaderValue) (before after : ReadValue) → HasReadLog log spec old before
+    → HasPassed log (λ r. IsTakenFrom (old.at + 6) r before after) old new → AreBlocks after.blocks.stored after.blocks.entries → IsReading log new → HasReadLog log spec new after
 one_more_read log spec old new before after so_far passed are reading = by_kind passed.is
   where
     r : Record
@@ -356,7 +356,7 @@ one_more_read log spec old new before after so_far passed are reading = by_kind 
     kept : List Block
     kept = so_far.log.blocks
 
-    by_kind : IsTakenFrom (old.at + 6) r before after → HasRead log spec new after
+    by_kind : IsTakenFrom (old.at + 6) r before after → HasReadLog log spec new after
     by_kind (inl (is, same)) =
         let opened = opened_more old.at r so_far.log before.blocks after.blocks so_far.opened is are so_far.next in
         let found : block_of_record kept r ≡ Some is.block = subst (λ (l : List Block). block_of_record l r ≡ Some is.block) so_far.opened.blocks is.is in
@@ -386,7 +386,7 @@ stops_misplaced : (kept : List Block) (edition : Option ℕ) (place : ℕ) (r : 
 stops_misplaced kept edition place r more (inl (is, wrong)) = stops_at_edition kept (is_none edition) place r more is wrong
 stops_misplaced kept edition place r more (inr (other, wrong)) = stops_at_block kept (is_none edition) place r more other wrong
 
-pub wrong_here : (log : List ℕ) (spec : Specification) (reader : ReaderValue) (read : ReadValue) (at : ℕ) → HasRead log spec reader read
+pub wrong_here : (log : List ℕ) (spec : Specification) (reader : ReaderValue) (read : ReadValue) (at : ℕ) → HasReadLog log spec reader read
     → IsWrongHere log (blocks_of read.blocks.stored) read.edition reader at → IsNoContentFrom log at
 wrong_here log spec reader read at so_far here =
     let wrong : IsMisplaced so_far.log.blocks (edition_of so_far.log.records) here.r =
@@ -510,11 +510,11 @@ with_each (Some image) P each = each
 module _ (spec : Specification) (r0 r1 : ReaderValue) (b0 b1 : ReadValue) where
   -- what was read so far
   abbrev pub SoFar : Option Image → Type 0
-  SoFar reads = IfSome reads (λ image. HasRead image.log spec r0 b0 → HasRead image.log spec r1 b1)
+  SoFar reads = IfSome reads (λ image. HasReadLog image.log spec r0 b0 → HasReadLog image.log spec r1 b1)
 
   pub told_wrong : (reads later : Option Image) (at : ℕ) → later ≡ reads → SoFar reads
       → IfSome later (λ image. IsReading image.log r1 → IsWrongHere image.log (blocks_of b1.blocks.stored) b1.edition r1 at)
-      → IfSome reads (λ image. HasRead image.log spec r0 b0 → IsNoContentFrom image.log at)
+      → IfSome reads (λ image. HasReadLog image.log spec r0 b0 → IsNoContentFrom image.log at)
   told_wrong None later at same so_far wrong = tt
   told_wrong (Some image) later at same so_far wrong = λ start.
       let far = so_far start in
@@ -524,7 +524,7 @@ module _ (spec : Specification) (r0 r1 : ReaderValue) (b0 b1 : ReadValue) where
   pub told_more : (reads later : Option Image) (r2 : ReaderValue) (b2 : ReadValue) (E : Type 0) → E → later ≡ reads → SoFar reads
       → IfSome later (λ image. IsReading image.log r1 → IsReading image.log r2)
       → IfSome later (λ image. IsReading image.log r1 → E → HasPassed image.log (λ r. IsTakenFrom (r1.at + 6) r b1 b2) r1 r2)
-      → AreBlocks b2.blocks.stored b2.blocks.entries → IfSome reads (λ image. HasRead image.log spec r0 b0 → HasRead image.log spec r2 b2)
+      → AreBlocks b2.blocks.stored b2.blocks.entries → IfSome reads (λ image. HasReadLog image.log spec r0 b0 → HasReadLog image.log spec r2 b2)
   told_more None later r2 b2 E e same so_far goes passed are = tt
   told_more (Some image) later r2 b2 E e same so_far goes passed are = λ start.
       let far = so_far start in
@@ -537,7 +537,7 @@ module _ (spec : Specification) (r0 r1 : ReaderValue) (b0 b1 : ReadValue) where
       → IfSome later (λ image. IsReading image.log r1 → IsReading image.log r2)
       → IfSome later (λ image. IsReading image.log r1 → E → record_at (drop r1.at image.log) ≡ None)
       → IfSome later (λ image. IsReading image.log r1 → E → r1.at < r1.len → 0 < length r2.ahead)
-      → IsAt r1.len r1.at r2 → b2 ≡ b1 → IfSome reads (λ image. HasRead image.log spec r0 b0 → HasReadAll image.log spec r2 b2)
+      → IsAt r1.len r1.at r2 → b2 ≡ b1 → IfSome reads (λ image. HasReadLog image.log spec r0 b0 → HasReadAll image.log spec r2 b2)
   told_all None later r2 b2 E e same so_far goes none byte at is = tt
   told_all (Some image) later r2 b2 E e same so_far goes none byte at is = λ start.
       let far = so_far start in

@@ -9,7 +9,7 @@ use Rattle.disk_defs.specs.Rest.{EndsAt}
 use Rattle.disk_defs.proofs.Resting.{gate_there}
 use Rattle.log_file.specs.Grammar.{ReadValue}
 use Rattle.log_file.specs.Reading.{ReaderValue, IsReading}
-use Rattle.log_file.specs.Opening.{IsOpened, HasRead, HasReadAll, IsNoContentFrom}
+use Rattle.log_file.specs.Opening.{IsOpened, HasReadLog, HasReadAll, IsNoContentFrom}
 use Rattle.log_file.proofs.Progress.{no_content, opened_all, ends_all}
 use Rattle.log_file.proofs.Front.{on_same}
 
@@ -21,25 +21,25 @@ pub record IsRead (log : List ℕ) (spec : Specification) (reader : ReaderValue)
 pub told_read : (reads l1 : Option Image) (spec : Specification) (len : ℕ) (r0 r1 r2 : ReaderValue) (b1 b2 : ReadValue) → l1 ≡ reads
     → IfSome reads (λ image. len ≡ length image.log) → ((log : List ℕ) → len ≡ length log → IsReading log r0)
     → IfSome reads (λ image. IsReading image.log r0 → take 8 image.log ≡ magic)
-    → IfSome reads (λ image. IsReading image.log r0 → HasRead image.log spec r1 b1)
-    → IfSome l1 (λ image. HasRead image.log spec r1 b1 → HasReadAll image.log spec r2 b2)
+    → IfSome reads (λ image. IsReading image.log r0 → HasReadLog image.log spec r1 b1)
+    → IfSome l1 (λ image. HasReadLog image.log spec r1 b1 → HasReadAll image.log spec r2 b2)
     → IfSome reads (λ image. IsRead image.log spec r2 b2)
 told_read None l1 spec len r0 r1 r2 b1 b2 same size reading start front further = tt
 told_read (Some image) l1 spec len r0 r1 r2 b1 b2 same size reading start front further =
     let first : IsReading image.log r0 = reading image.log size in
-    let all = on_same l1 (Some image) (λ image. HasRead image.log spec r1 b1 → HasReadAll image.log spec r2 b2) same further in
+    let all = on_same l1 (Some image) (λ image. HasReadLog image.log spec r1 b1 → HasReadAll image.log spec r2 b2) same further in
     record { begins = start first; all = all (front first) }
 
 pub told_wrong_blocks : (reads l1 : Option Image) (spec : Specification) (len : ℕ) (r0 r1 : ReaderValue) (b1 : ReadValue) (at : ℕ) → l1 ≡ reads
     → IfSome reads (λ image. len ≡ length image.log) → ((log : List ℕ) → len ≡ length log → IsReading log r0)
     → IfSome reads (λ image. IsReading image.log r0 → take 8 image.log ≡ magic)
-    → IfSome reads (λ image. IsReading image.log r0 → HasRead image.log spec r1 b1)
-    → IfSome l1 (λ image. (spec : Specification) → HasRead image.log spec r1 b1 → IsNoContentFrom image.log at)
+    → IfSome reads (λ image. IsReading image.log r0 → HasReadLog image.log spec r1 b1)
+    → IfSome l1 (λ image. (spec : Specification) → HasReadLog image.log spec r1 b1 → IsNoContentFrom image.log at)
     → IfSome reads (λ image. IsNoLogFrom image.log at)
 told_wrong_blocks None l1 spec len r0 r1 b1 at same size reading start front wrong = tt
 told_wrong_blocks (Some image) l1 spec len r0 r1 b1 at same size reading start front wrong =
     let first : IsReading image.log r0 = reading image.log size in
-    let none = on_same l1 (Some image) (λ image. (spec : Specification) → HasRead image.log spec r1 b1 → IsNoContentFrom image.log at) same wrong in
+    let none = on_same l1 (Some image) (λ image. (spec : Specification) → HasReadLog image.log spec r1 b1 → IsNoContentFrom image.log at) same wrong in
     no_content image.log at (start first) (none spec (front first))
 
 pub told_opened : (reads : Option Image) (spec : Specification) (reader : ReaderValue) (read : ReadValue) → IfSome reads (λ image. IsRead image.log spec reader read)

@@ -54,7 +54,7 @@ pub record IsOpened (bytes : List ℕ) (log : LogContent) (specification : Speci
   pub opened : AreOpened log stored entries
 
 -- So far a log was read: its records up to the place of the reader, and what they say.
-pub record HasRead (bytes : List ℕ) (specification : Specification) (reader : ReaderValue) (read : ReadValue) : Type 0 where
+pub record HasReadLog (bytes : List ℕ) (specification : Specification) (reader : ReaderValue) (read : ReadValue) : Type 0 where
   pub reading : IsReading bytes reader
   pub within : reader.at < length bytes
   pub records : List Record
@@ -70,7 +70,7 @@ pub record HasRead (bytes : List ℕ) (specification : Specification) (reader : 
 
 -- All of it was read: no record stands where the reader is, and a byte is in memory.
 pub record HasReadAll (bytes : List ℕ) (specification : Specification) (reader : ReaderValue) (read : ReadValue) : Type 0 where
-  pub so_far : HasRead bytes specification reader read
+  pub so_far : HasReadLog bytes specification reader read
   pub ended : record_at (drop reader.at bytes) ≡ None
   pub byte : 0 < length reader.ahead
 

@@ -7,10 +7,10 @@ use Rattle.log_file.specs.declared.stop.LogStop.{LogStop}
 use Rattle.log_file.specs.declared.stop.LogStop.TheVariants.{DiskFault, NotAStore, NoMemory}
 
 -- what holds of the damage that a stop names, if it names one
-abbrev pub OfDamage : (Damage → Type 0) → LogStop → Type 0
-OfDamage P DiskFault = Unit
-OfDamage P (NotAStore damage) = P damage
-OfDamage P NoMemory = Unit
+abbrev pub IfDamage : (Damage → Type 0) → LogStop → Type 0
+IfDamage P DiskFault = Unit
+IfDamage P (NotAStore damage) = P damage
+IfDamage P NoMemory = Unit
 
 -- the stop names damage, of which P holds
 abbrev pub IsDamage : (Damage → Type 0) → LogStop → Type 0

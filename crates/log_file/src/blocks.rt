@@ -10,18 +10,18 @@ ghost use Rattle.chain_tree.specs.Blocks.{Describes, IndexesBlocks};
 ghost use Rattle.chain_tree.specs.Told.{blocks_of};
 ghost use Rattle.disk_defs.specs.Log.{may_stand_on, block_of_record, record_limit, is_genesis};
 ghost use Rattle.log_file.specs.Grammar.{record_of, AreBlocks, blocks_with, IsGenesisOf, IsGrownBy, IsJudged};
-ghost use Rattle.log_file.specs.Stops.{OfDamage, in_log};
+ghost use Rattle.log_file.specs.Stops.{IfDamage, in_log};
 
 use crate::body::parts;
 use crate::ext::ext_form;
-use crate::genesis::genesis_ok;
+use crate::genesis::judge_genesis;
 use crate::stop::LogStop;
 use crate::visitor::Visitor;
-use blake2b_ckb::ckbhash;
 use chain_tree::{Entry, Tree};
 use mol_schema::BlockView;
 use outside::{Area, Damage, NoMemory};
 use std::alloc::Global;
+use view_hashes::header_hash;
 
 /// The most records of blocks, which are one fewer than the blocks.
 const RECORD_LIMIT: u32 = 999_999;
@@ -38,7 +38,7 @@ fn entry_of(block: &BlockView<'_>, parent: u32, at: u64, len: u32) -> Entry
     let mut dao = [0u8; 32];
     dao.copy_from_slice(header.dao());
     Entry {
-        hash: ckbhash(header.bytes()),
+        hash: header_hash(&header),
         parent,
         number: header.number(),
         timestamp: header.timestamp(),
@@ -105,7 +105,7 @@ fn genesis<'a>(alloc: Global, kind: u8, body: &'a [u8], at: u64) -> Result<Block
     ensures genesis { IfOk result (λ block. is_genesis (record_of kind body.now) ≡ true) }
     ensures decoded { IfOk result (λ block. decoded schema.block body.now ≡ Some block) }
     ensures first { IfOk result (λ block. block.header.number ≡ 0) }
-    ensures wrong { IfErr result (OfDamage (λ damage. (damage ≡ in_log at) × (is_genesis (record_of kind body.now) ≡ false))) }
+    ensures wrong { IfErr result (IfDamage (λ damage. (damage ≡ in_log at) × (is_genesis (record_of kind body.now) ≡ false))) }
     ensures reads { IfErr result (λ stop. stop ≢ LogStop.DiskFault) }
 {
     if kind != 2 {
@@ -114,22 +114,19 @@ fn genesis<'a>(alloc: Global, kind: u8, body: &'a [u8], at: u64) -> Result<Block
             at,
         }));
     }
-    match genesis_ok(alloc, body) {
-        Ok(None) => {}
-        Ok(Some(_)) => {
-            return Err(LogStop::NotAStore(Damage {
-                area: Area::Log,
-                at,
-            }));
-        }
-        Err(_) => return Err(LogStop::NoMemory),
-    }
-    match BlockView::read(body) {
-        Some(block) => Ok(block),
-        None => Err(LogStop::NotAStore(Damage {
+    let Some(block) = BlockView::read(body) else {
+        return Err(LogStop::NotAStore(Damage {
+            area: Area::Log,
+            at,
+        }));
+    };
+    match judge_genesis(alloc, &block) {
+        Ok(None) => Ok(block),
+        Ok(Some(_)) => Err(LogStop::NotAStore(Damage {
             area: Area::Log,
             at,
         })),
+        Err(_) => Err(LogStop::NoMemory),
     }
 }
 
@@ -145,7 +142,7 @@ pub(crate) fn begin<V: Visitor>(
     requires none { V.visited visitor.old ≡ [] }
     ensures genesis { IfOk result (λ tree. IsGenesisOf at (record_of kind body.now) (blocks_with (V.visited visitor.new) tree.entries)) }
     ensures blocks { IfOk result (λ tree. AreBlocks (V.visited visitor.new) tree.entries) }
-    ensures wrong { IfErr result (OfDamage (λ damage. (damage ≡ in_log at) × (is_genesis (record_of kind body.now) ≡ false))) }
+    ensures wrong { IfErr result (IfDamage (λ damage. (damage ≡ in_log at) × (is_genesis (record_of kind body.now) ≡ false))) }
     ensures reads { IfErr result (λ stop. stop ≢ LogStop.DiskFault) }
 {
     let block = match genesis(alloc, kind, body, at) {
@@ -177,7 +174,7 @@ pub(crate) fn put<V: Visitor>(
     ensures grown { OnOk result (IsGrownBy at (record_of kind body.now) (blocks_with (V.visited visitor.old) tree.old.entries)
         (blocks_with (V.visited visitor.new) tree.new.entries)) }
     ensures blocks { OnOk result (AreBlocks (V.visited visitor.new) tree.new.entries) }
-    ensures wrong { IfErr result (OfDamage (λ damage. (damage ≡ in_log at) × ((block_of_record (blocks_of (V.visited visitor.old)) (record_of kind body.now) ≡ None)
+    ensures wrong { IfErr result (IfDamage (λ damage. (damage ≡ in_log at) × ((block_of_record (blocks_of (V.visited visitor.old)) (record_of kind body.now) ≡ None)
         ⊎ (record_limit < length (blocks_of (V.visited visitor.old)))))) }
     ensures reads { IfErr result (λ stop. stop ≢ LogStop.DiskFault) }
 {

@@ -4,7 +4,7 @@ ghost use Rattle.std.specs.Prelude.{◌≡◌, ◌≢◌, ◌<◌, ◌^◌, leng
 ghost use Rattle.chain_tree.specs.Told.{blocks_of};
 ghost use Rattle.disk_defs.specs.Log.{is_edition, epoch_in};
 ghost use Rattle.log_file.specs.Grammar.{record_of, AreBlocks, read_with, IsTakenFrom, IsMisplaced};
-ghost use Rattle.log_file.specs.Stops.{OfDamage, in_log};
+ghost use Rattle.log_file.specs.Stops.{IfDamage, in_log};
 
 use crate::blocks::put;
 use crate::number::read_u64;
@@ -45,7 +45,7 @@ pub(crate) fn take<V: Visitor>(
     ensures taken { OnOk result (IsTakenFrom at (record_of kind body.now) (read_with (V.visited visitor.old) tree.old.entries edition.old)
         (read_with (V.visited visitor.new) tree.new.entries edition.new)) }
     ensures blocks { OnOk result (AreBlocks (V.visited visitor.new) tree.new.entries) }
-    ensures wrong { IfErr result (OfDamage (λ damage. (damage ≡ in_log at)
+    ensures wrong { IfErr result (IfDamage (λ damage. (damage ≡ in_log at)
         × IsMisplaced (blocks_of (V.visited visitor.old)) edition.old (record_of kind body.now))) }
     ensures reads { IfErr result (λ stop. stop ≢ LogStop.DiskFault) }
 {

@@ -8,14 +8,11 @@ ghost use Rattle.chain_defs.specs.Hashes.{transaction_hash};
 ghost use Rattle.cell_defs.specs.Cell as cells;
 
 use crate::number::read_u64;
-use blake2b_ckb::ckbhash;
 use mol_schema::{BlockView, OutputView, RawTxView, TxView};
 use outside::NoMemory;
 use std::alloc::Global;
 use std::collections::HashSet;
-
-/// Shannons a byte.
-const SHANNONS: u64 = 100_000_000;
+use view_hashes::{occupied_output, transaction_hash};
 
 /// G2: its number is 0.
 fn is_first(block: &BlockView<'_>) -> bool
@@ -40,13 +37,6 @@ fn is_rated(block: &BlockView<'_>) -> bool
     0 < read_u64(dao, 0) && 0 < read_u64(dao, 8)
 }
 
-#[tactic(auto, unfolding(chain_defs::specs::Hashes::transaction_hash))]
-fn hash_of(transaction: &TxView<'_>) -> [u8; 32]
-    ensures { result ≡ transaction_hash transaction.now }
-{
-    ckbhash(transaction.raw().bytes())
-}
-
 /// G5: it has a transaction, and its transaction hashes are distinct.
 fn has_transactions(alloc: Global, block: &BlockView<'_>) -> Result<bool, NoMemory>
     ensures { IfOk result (λ holds. holds ≡ rules.has_transactions block.now) }
@@ -54,7 +44,7 @@ fn has_transactions(alloc: Global, block: &BlockView<'_>) -> Result<bool, NoMemo
     let count = block.transactions_count();
     let mut seen: HashSet<[u8; 32]> = HashSet::new(alloc);
     'later: for i in (0..count).rev() {
-        let hash = hash_of(&block.transactions_item(i));
+        let hash = transaction_hash(&block.transactions_item(i));
         if !seen.insert(hash)? {
             return Ok(false);
         }
@@ -81,23 +71,11 @@ fn all_pair_data(block: &BlockView<'_>) -> bool
     true
 }
 
-/// The bytes that the type script of an output takes.
-fn type_size(output: &OutputView<'_>) -> usize
-    ensures value { result ≡ occupied_by_type (option_map (λ s. length s.args) output.now.type_script) }
-    ensures fits { result < 2 ^ 32 + 33 }
-{
-    match output.type_script() {
-        None => 0,
-        Some(script) => 33 + script.args().len(),
-    }
-}
-
 fn holds_its_own(output: &OutputView<'_>, content: &[u8]) -> bool
     requires { length content.now < 2 ^ 32 }
     ensures { result ≡ cells.holds_its_own output.now content.now }
 {
-    let size = 8 + 33 + output.lock().args().len() + type_size(output) + content.len();
-    size as u64 * SHANNONS <= output.capacity()
+    occupied_output(output, content) <= output.capacity()
 }
 
 /// The data of an output, or none where it is missing.
@@ -136,9 +114,10 @@ fn all_hold_capacity(block: &BlockView<'_>) -> bool
     true
 }
 
-/// The first of G2 to G7 that a block breaks.
+/// The first of G2 to G7 that a block breaks as the genesis of a store (docs/RULES.md, "The genesis"). Bytes that are no
+/// block break G1.
 #[tactic(auto, unfolding(chain_defs::specs::First::first_failing))]
-fn broken_by(alloc: Global, block: &BlockView<'_>) -> Result<Option<u8>, NoMemory>
+pub fn judge_genesis(alloc: Global, block: &BlockView<'_>) -> Result<Option<u8>, NoMemory>
     ensures { IfOk result (λ broken. broken ≡ rules.broken_by (Some block.now)) }
 {
     if !is_first(block) {
@@ -160,15 +139,4 @@ fn broken_by(alloc: Global, block: &BlockView<'_>) -> Result<Option<u8>, NoMemor
         return Ok(Some(7));
     }
     Ok(None)
-}
-
-/// The first of G1 to G7 that the bytes break as the genesis of a store (docs/RULES.md, "The genesis").
-#[tactic(auto, unfolding(rule_defs::specs::Genesis::broken_genesis_rule))]
-pub fn genesis_ok(alloc: Global, b: &[u8]) -> Result<Option<u8>, NoMemory>
-    ensures { IfOk result (λ broken. broken ≡ rules.broken_genesis_rule b.now) }
-{
-    match BlockView::read(b) {
-        None => Ok(Some(1)),
-        Some(block) => broken_by(alloc, &block),
-    }
 }

@@ -5,7 +5,7 @@
 //! `IsSettled`, `IsAtRest` and `HasLog` of `disk_defs`; after `Ok` the log is settled with its records. [`open`]
 //! answers what a log says, or that LOG is none, exactly by `log_of`; it holds no block, and shows each to a [`Visitor`] as
 //! it is read. [`Body`] is filled before the disk is touched,
-//! so that `append` takes no memory. [`genesis_ok`], [`parts`] and [`ext_form`] tell what the records of a log may
+//! so that `append` takes no memory. [`judge_genesis`], [`parts`] and [`ext_form`] tell what the records of a log may
 //! hold. Which block may join is left to the rules above.
 #![tactic(auto)]
 
@@ -29,7 +29,7 @@ pub use appending::{append, next_rec};
 pub use body::{Body, parts};
 pub use creation::create;
 pub use ext::ext_form;
-pub use genesis::genesis_ok;
+pub use genesis::judge_genesis;
 pub use log::{Log, Rec};
 pub use opening::{Opened, open};
 pub use stop::LogStop;

@@ -8,7 +8,7 @@ ghost use Rattle.disk_defs.specs.Log.{Record, LogContent, log_of, records_of, en
 ghost use Rattle.disk_defs.specs.Rest.{EndsAt, IsSettled, HasLog};
 ghost use Rattle.log_file.specs.Grammar.{AreBlocks, edition_room};
 ghost use Rattle.log_file.specs.Opening.{IsOpened, mended};
-ghost use Rattle.log_file.specs.Stops.{OfDamage, IsInLog};
+ghost use Rattle.log_file.specs.Stops.{IfDamage, IsInLog};
 
 use crate::grammar::is_open;
 use crate::log::Log;
@@ -58,7 +58,7 @@ fn read_log<D: Disk, V: Visitor>(
         × IsOpened now.log log found.0.spec (V.visited visitor.new) found.0.tree.entries)) }
     ensures ends { IfSome (D.reads_as disk.old) (λ now. IfOk result (λ found. EndsAt found.0.log.place (records_of (drop 8 now.log)) now.log)) }
     ensures gate { IfSome (D.reads_as disk.old) (λ now. IfOk result (λ found. found.1 ≡ (slice_index now.log found.0.log.place == 1))) }
-    ensures not_a_store { IfErr result (OfDamage (IsInLog (D.reads_as disk.old) IsNoLogFrom)) }
+    ensures not_a_store { IfErr result (IfDamage (IsInLog (D.reads_as disk.old) IsNoLogFrom)) }
     ensures blocks { IfOk result (λ found. AreBlocks (V.visited visitor.new) found.0.tree.entries) }
     ensures place { IfOk result (λ found. found.0.log.place + edition_room found.0.spec.second_from ≤ 2 ^ 33 * (length (V.visited visitor.new) + 1)) }
     ensures as_before { IsAsBefore D.reads_as D.images D.moment D.left_since disk.old disk.new }
@@ -121,7 +121,7 @@ pub fn open<D: Disk, V: Visitor>(
     // Exactly a log is opened, but for faults and want of memory.
     ensures opened { IfSome (D.reads_as disk.old) (λ now. IfOk result (λ o. (log : LogContent)
         × IsOpened now.log log o.spec (V.visited visitor.new) o.tree.entries)) }
-    ensures not_a_store { IfErr result (OfDamage (IsInLog (D.reads_as disk.old) IsNoLogFrom)) }
+    ensures not_a_store { IfErr result (IfDamage (IsInLog (D.reads_as disk.old) IsNoLogFrom)) }
 
     // Of each disk, also of one that tells nothing:
     ensures blocks { IfOk result (λ o. AreBlocks (V.visited visitor.new) o.tree.entries) }
@@ -142,7 +142,7 @@ pub fn open<D: Disk, V: Visitor>(
     ensures unwritten { IfErr result (λ stop. stop ≢ LogStop.DiskFault → D.reads_as disk.new ≡ D.reads_as disk.old) }
     ensures rests { IfSome (D.reads_as disk.old) (λ now. slice_index now.log (end_of_log now.log) ≢ 1
         → IsOnlyRead D.reads_as D.images D.moment D.left_since disk.old disk.new) }
-    ensures only_read { IfErr result (OfDamage (λ _. IsOnlyRead D.reads_as D.images D.moment D.left_since disk.old disk.new)) }
+    ensures only_read { IfErr result (IfDamage (λ _. IsOnlyRead D.reads_as D.images D.moment D.left_since disk.old disk.new)) }
     ensures no_log { IfSome (D.reads_as disk.old) (λ now. log_of now.log ≡ None → IsOnlyRead D.reads_as D.images D.moment D.left_since disk.old disk.new) }
     ensures others { OthersRead log_area (D.reads_as disk.old) (D.reads_as disk.new) }
     ensures cause { CountsFault (D.faults disk.old) (D.faults disk.new) (result ≡ Err LogStop.DiskFault) }

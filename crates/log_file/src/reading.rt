@@ -6,7 +6,7 @@ ghost use Rattle.outside.specs.Disk.{IsAsBefore};
 ghost use Rattle.cell_defs.specs.Ext.{count_at};
 ghost use Rattle.disk_defs.specs.Log.{record_at};
 ghost use Rattle.log_file.specs.Reading.{IsReading, IsAt};
-ghost use Rattle.log_file.specs.Stops.{OfDamage};
+ghost use Rattle.log_file.specs.Stops.{IfDamage};
 
 use crate::number::read_count;
 use crate::stop::LogStop;
@@ -53,7 +53,7 @@ fn read_piece<D: Disk>(
     ensures bytes { IfSome (D.reads_as disk.old) (λ image. prefix.now ≡ take (length prefix.now) (drop at image.log)
         → IfOk result (λ bytes. bytes.items ≡ take size (drop at image.log))) }
     ensures as_before { IsAsBefore D.reads_as D.images D.moment D.left_since disk.old disk.new }
-    ensures reads { IfErr result (OfDamage (λ _. ⊥)) }
+    ensures reads { IfErr result (IfDamage (λ _. ⊥)) }
     ensures cause { CountsFault (D.faults disk.old) (D.faults disk.new) (result ≡ Err LogStop.DiskFault) }
 {
     let mut bytes = match vec![in alloc; 0u8; size] {
@@ -161,7 +161,7 @@ impl Reader {
         ensures reading { IfSome (D.reads_as disk.old) (λ image. IsReading image.log self.old
             → IsReading image.log self.new × OnOk result (need ≤ length self.new.ahead)) }
         ensures as_before { IsAsBefore D.reads_as D.images D.moment D.left_since disk.old disk.new }
-        ensures reads { IfErr result (OfDamage (λ _. ⊥)) }
+        ensures reads { IfErr result (IfDamage (λ _. ⊥)) }
         ensures cause { CountsFault (D.faults disk.old) (D.faults disk.new) (result ≡ Err LogStop.DiskFault) }
     {
         if need <= self.ahead().len() as u64 {
@@ -197,7 +197,7 @@ impl Reader {
         ensures byte { IfSome (D.reads_as disk.old) (λ image. IsReading image.log self.old → self.old.at < self.old.len
             → OnOk result (0 < length self.new.ahead)) }
         ensures as_before { IsAsBefore D.reads_as D.images D.moment D.left_since disk.old disk.new }
-        ensures reads { IfErr result (OfDamage (λ _. ⊥)) }
+        ensures reads { IfErr result (IfDamage (λ _. ⊥)) }
         ensures cause { CountsFault (D.faults disk.old) (D.faults disk.new) (result ≡ Err LogStop.DiskFault) }
     {
         let left = self.left();

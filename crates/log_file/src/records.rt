@@ -9,8 +9,8 @@ ghost use Rattle.chain_defs.specs.Specification.{Specification, specification_of
 ghost use Rattle.disk_defs.specs.Log.{magic, record_at, is_specification, is_genesis, IsNoLogFrom};
 ghost use Rattle.log_file.specs.Grammar.{AreBlocks, blocks_with, read_with, IsGenesisOf, IsTakenFrom, edition_room};
 ghost use Rattle.log_file.specs.Reading.{IsReading, IsAt, HasPassed, IsOtherHere, IsWrongHere};
-ghost use Rattle.log_file.specs.Opening.{HasRead, HasReadAll, IsNoContentFrom};
-ghost use Rattle.log_file.specs.Stops.{OfDamage, IsInLog};
+ghost use Rattle.log_file.specs.Opening.{HasReadLog, HasReadAll, IsNoContentFrom};
+ghost use Rattle.log_file.specs.Stops.{IfDamage, IsInLog};
 
 use crate::blocks::begin;
 use crate::edition::take;
@@ -29,7 +29,7 @@ fn read_start<D: Disk>(alloc: Global, disk: &mut D, reader: &mut Reader) -> Resu
     ensures at { OnOk result (IsAt reader.old.len 8 reader.new) }
     ensures reading { IfSome (D.reads_as disk.old) (λ image. IsReading image.log reader.old → IsReading image.log reader.new) }
     ensures found { IfSome (D.reads_as disk.old) (λ image. IsReading image.log reader.old → OnOk result (take 8 image.log ≡ magic)) }
-    ensures wrong { IfErr result (OfDamage (IsInLog (D.reads_as disk.old) (λ log at. IsReading log reader.old → (take 8 log ≢ magic) × (at ≡ 0)))) }
+    ensures wrong { IfErr result (IfDamage (IsInLog (D.reads_as disk.old) (λ log at. IsReading log reader.old → (take 8 log ≢ magic) × (at ≡ 0)))) }
     ensures as_before { IsAsBefore D.reads_as D.images D.moment D.left_since disk.old disk.new }
     ensures cause { CountsFault (D.faults disk.old) (D.faults disk.new) (result ≡ Err LogStop.DiskFault) }
 {
@@ -59,7 +59,7 @@ fn read_spec<D: Disk>(alloc: Global, disk: &mut D, reader: &mut Reader) -> Resul
     ensures reading { IfSome (D.reads_as disk.old) (λ image. IsReading image.log reader.old → IsReading image.log reader.new) }
     ensures found { IfSome (D.reads_as disk.old) (λ image. IsReading image.log reader.old → IfOk result (λ spec.
         HasPassed image.log (λ r. (is_specification r ≡ true) × (spec ≡ specification_of r.body)) reader.old reader.new)) }
-    ensures wrong { IfErr result (OfDamage (IsInLog (D.reads_as disk.old) (λ log at. IsReading log reader.old → IsOtherHere log is_specification reader.old at))) }
+    ensures wrong { IfErr result (IfDamage (IsInLog (D.reads_as disk.old) (λ log at. IsReading log reader.old → IsOtherHere log is_specification reader.old at))) }
     ensures as_before { IsAsBefore D.reads_as D.images D.moment D.left_since disk.old disk.new }
     ensures cause { CountsFault (D.faults disk.old) (D.faults disk.new) (result ≡ Err LogStop.DiskFault) }
 {
@@ -98,7 +98,7 @@ fn read_genesis<D: Disk, V: Visitor>(
     ensures reading { IfSome (D.reads_as disk.old) (λ image. IsReading image.log reader.old → IsReading image.log reader.new) }
     ensures found { IfSome (D.reads_as disk.old) (λ image. IsReading image.log reader.old → IfOk result (λ tree.
         HasPassed image.log (λ r. IsGenesisOf (reader.old.at + 6) r (blocks_with (V.visited visitor.new) tree.entries)) reader.old reader.new)) }
-    ensures wrong { IfErr result (OfDamage (IsInLog (D.reads_as disk.old) (λ log at. IsReading log reader.old → IsOtherHere log is_genesis reader.old at))) }
+    ensures wrong { IfErr result (IfDamage (IsInLog (D.reads_as disk.old) (λ log at. IsReading log reader.old → IsOtherHere log is_genesis reader.old at))) }
     ensures as_before { IsAsBefore D.reads_as D.images D.moment D.left_since disk.old disk.new }
     ensures cause { CountsFault (D.faults disk.old) (D.faults disk.new) (result ≡ Err LogStop.DiskFault) }
 {
@@ -135,8 +135,8 @@ pub(crate) fn read_head<D: Disk, V: Visitor>(
     ensures blocks { IfOk result (λ head. AreBlocks (V.visited visitor.new) head.1.entries) }
     ensures start { IfSome (D.reads_as disk.old) (λ image. IsReading image.log reader.old → IfOk result (λ head. take 8 image.log ≡ magic)) }
     ensures found { IfSome (D.reads_as disk.old) (λ image. IsReading image.log reader.old → IfOk result (λ head.
-        HasRead image.log head.0 reader.new (read_with (V.visited visitor.new) head.1.entries None))) }
-    ensures wrong { IfErr result (OfDamage (IsInLog (D.reads_as disk.old) (λ log at. IsReading log reader.old → IsNoLogFrom log at))) }
+        HasReadLog image.log head.0 reader.new (read_with (V.visited visitor.new) head.1.entries None))) }
+    ensures wrong { IfErr result (IfDamage (IsInLog (D.reads_as disk.old) (λ log at. IsReading log reader.old → IsNoLogFrom log at))) }
     ensures as_before { IsAsBefore D.reads_as D.images D.moment D.left_since disk.old disk.new }
     ensures cause { CountsFault (D.faults disk.old) (D.faults disk.new) (result ≡ Err LogStop.DiskFault) }
 {
@@ -179,7 +179,7 @@ fn read_record<D: Disk, V: Visitor>(
     ensures ended { IfSome (D.reads_as disk.old) (λ image. IsReading image.log reader.old → result ≡ Ok false → record_at (drop reader.old.at image.log) ≡ None) }
     ensures byte { IfSome (D.reads_as disk.old) (λ image. IsReading image.log reader.old → result ≡ Ok false → reader.old.at < reader.old.len
         → 0 < length reader.new.ahead) }
-    ensures wrong { IfErr result (OfDamage (IsInLog (D.reads_as disk.old) (λ log at. IsReading log reader.old
+    ensures wrong { IfErr result (IfDamage (IsInLog (D.reads_as disk.old) (λ log at. IsReading log reader.old
         → IsWrongHere log (blocks_of (V.visited visitor.old)) edition.old reader.old at))) }
     ensures as_before { IsAsBefore D.reads_as D.images D.moment D.left_since disk.old disk.new }
     ensures cause { CountsFault (D.faults disk.old) (D.faults disk.new) (result ≡ Err LogStop.DiskFault) }
@@ -214,10 +214,10 @@ pub(crate) fn read_later<D: Disk, V: Visitor>(
         → IfOk result (λ edition. reader.new.at + edition_room edition ≤ 2 ^ 33 * (length (V.visited visitor.new) + 1)) }
     ensures blocks { IfOk result (λ edition. AreBlocks (V.visited visitor.new) tree.new.entries) }
     ensures found { (spec : Specification) → IfSome (D.reads_as disk.old) (λ image.
-        HasRead image.log spec reader.old (read_with (V.visited visitor.old) tree.old.entries None)
+        HasReadLog image.log spec reader.old (read_with (V.visited visitor.old) tree.old.entries None)
         → IfOk result (λ edition. HasReadAll image.log spec reader.new (read_with (V.visited visitor.new) tree.new.entries edition))) }
-    ensures wrong { IfErr result (OfDamage (IsInLog (D.reads_as disk.old) (λ log at. (spec : Specification)
-        → HasRead log spec reader.old (read_with (V.visited visitor.old) tree.old.entries None) → IsNoContentFrom log at))) }
+    ensures wrong { IfErr result (IfDamage (IsInLog (D.reads_as disk.old) (λ log at. (spec : Specification)
+        → HasReadLog log spec reader.old (read_with (V.visited visitor.old) tree.old.entries None) → IsNoContentFrom log at))) }
     ensures as_before { IsAsBefore D.reads_as D.images D.moment D.left_since disk.old disk.new }
     ensures cause { CountsFault (D.faults disk.old) (D.faults disk.new) (result ≡ Err LogStop.DiskFault) }
 {

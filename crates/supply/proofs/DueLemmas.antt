@@ -10,7 +10,7 @@ use Rattle.chain_defs.specs.Schema.{Block}
 use Rattle.chain_defs.specs.Specification.{Specification}
 use Rattle.chain_defs.specs.Dao.{as_u64}
 use Rattle.rule_defs.specs.Reward.{part}
-use Rattle.rewards.specs.Reading.{IsUndamaged, ComesTo}
+use Rattle.rewards.specs.Reading.{IsUndamaged, YieldsUndamaged}
 use Rattle.rewards.proofs.SumLemmas.{small}
 use Rattle.supply_defs.specs.Sums.{due}
 
@@ -43,6 +43,6 @@ undamaged-stop NoMemory never = tt
 undamaged-stop (Damaged damage) never = never damage refl
 
 pub comes : {T : Type 0} (expected : T → Type 0) (result : Result T ReadStop) → IfOk result expected
-    → ((damage : Damage) → result ≡ Err (Damaged damage) → ⊥) → ComesTo expected result
+    → ((damage : Damage) → result ≡ Err (Damaged damage) → ⊥) → YieldsUndamaged expected result
 comes expected (Ok value) is never = is
 comes expected (Err stop) is never = undamaged-stop stop never

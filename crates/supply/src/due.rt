@@ -9,7 +9,7 @@ ghost use Rattle.chain_tree.specs.Entries.{entry_at};
 ghost use Rattle.chain_tree.specs.Blocks.{AreRated};
 ghost use Rattle.chain_tree.specs.Told.{Stored, blocks_of};
 ghost use Rattle.chain_tree.specs.Reading.{HasRead, stop_of};
-ghost use Rattle.rewards.specs.Reading.{AreKnownBlocks, ComesTo};
+ghost use Rattle.rewards.specs.Reading.{AreKnownBlocks, YieldsUndamaged};
 ghost use Rattle.supply_defs.specs.Sums.{due};
 
 use chain_tree::{Blocks, Tree};
@@ -34,7 +34,7 @@ pub(crate) fn due_at<B: Blocks>(
     ensures read { HasRead B.told B.count B.loans_of B.faults B.damages blocks.old blocks.new (stop_of result) }
     ensures of_block { (stored : List Stored) → B.told blocks.old ≡ Some stored → (damage : Damage) → result ≡ Err (Damaged damage) → IsOfBlock tree.now.entries damage }
     ensures due { (stored : List Stored) → AreKnownBlocks spec.now (B.told blocks.old) tree.now.entries stored → length (branch (blocks_of stored) parent) ≡ height
-        → ComesTo (λ found. found ≡ as_u64 (pos (due spec.now (branch (blocks_of stored) parent)))) result }
+        → YieldsUndamaged (λ found. found ≡ as_u64 (pos (due spec.now (branch (blocks_of stored) parent)))) result }
 {
     let delay = u64::from(spec.w_far) + 1;
     if height <= delay {

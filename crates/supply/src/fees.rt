@@ -11,7 +11,7 @@ ghost use Rattle.outside.specs.declared.disk.ReadStop.TheVariants.{Damaged};
 ghost use Rattle.chain_tree.specs.Damages.{IsOfBlock};
 ghost use Rattle.chain_tree.specs.Told.{Stored, blocks_of};
 ghost use Rattle.chain_tree.specs.Reading.{HasRead, stop_of};
-ghost use Rattle.rewards.specs.Reading.{AreKnownBlocks, ComesTo};
+ghost use Rattle.rewards.specs.Reading.{AreKnownBlocks, YieldsUndamaged};
 ghost use Rattle.supply_defs.specs.Step.{fees_of, paid_by};
 ghost use Rattle.supply.specs.Moving.{HasFees};
 
@@ -51,7 +51,7 @@ pub(crate) fn flows_at<B: Blocks>(
     ensures of_block { (stored : List Stored) → B.told blocks.old ≡ Some stored → (damage : Damage) → result ≡ Err (Damaged damage) → IsOfBlock tree.now.entries damage }
     ensures flows { (spec : Specification) (stored : List Stored) (parent : ℕ) (b : Block) → AreKnownBlocks spec (B.told blocks.old) tree.now.entries stored
         → parent_place (blocks_of stored) place ≡ Some parent → block_at (blocks_of stored) place ≡ Some b
-        → ComesTo (λ flows. flows ≡ (fees_of spec (branch (blocks_of stored) parent) b, paid_by b)) result }
+        → YieldsUndamaged (λ flows. flows ≡ (fees_of spec (branch (blocks_of stored) parent) b, paid_by b)) result }
     ensures fits { IfOk result (λ flows. (flows.0 < 2 ^ 94) × (flows.1 < 2 ^ 94)) }
 {
     match blocks.bring(place) {

@@ -5,21 +5,9 @@ ghost use Rattle.rule_defs.specs.Capacity as capacity;
 ghost use Rattle.rule_defs.specs.Field as field;
 ghost use Rattle.supply_defs.specs.Step as steps;
 
-use cell_model::{data_at, occupied};
+use cell_model::data_at;
 use mol_schema::{BlockView, OutputView, TxView};
-
-/// What an output occupies with its data, in shannons.
-fn occupied_output(output: &OutputView<'_>, content: &[u8]) -> u64
-    requires { length content.now < 2 ^ 32 }
-    ensures { result ≡ occupied_by output.now content.now }
-{
-    let type_args = match output.type_script() {
-        None => None,
-        Some(script) => Some(script.args().len() as u32),
-    };
-    let lock_args = output.lock().args().len() as u32;
-    occupied(lock_args, type_args, content.len() as u32)
-}
+use view_hashes::occupied_output;
 
 /// What the outputs of a transaction occupy, in shannons. It has below 2^30 of them.
 pub(crate) fn made_by(tx: &TxView<'_>) -> u128

@@ -13,7 +13,7 @@ ghost use Rattle.chain_tree.specs.Entries.{entry_at};
 ghost use Rattle.chain_tree.specs.Blocks.{AreRated, IndexesBlocks};
 ghost use Rattle.chain_tree.specs.Told.{Stored, blocks_of};
 ghost use Rattle.chain_tree.specs.Reading.{HasRead, stop_of};
-ghost use Rattle.rewards.specs.Reading.{ComesTo};
+ghost use Rattle.rewards.specs.Reading.{YieldsUndamaged};
 ghost use Rattle.supply_defs.specs.Step.{Moves, step_by, step_of};
 ghost use Rattle.supply.specs.Moving.{step_back};
 ghost use Rattle.supply.specs.Standing.{HaveJoined};
@@ -174,7 +174,7 @@ pub(crate) fn step_at<B: Blocks>(
     ensures window { OnOk result (IsTrue (keeps_s3 spec.now.w_close spec.now.w_far)) }
     ensures step { (stored : List Stored) (parent : ℕ) (b : Block) → HaveJoined spec.now (B.told blocks.old) tree.now.entries stored
         → parent_place (blocks_of stored) place ≡ Some parent → block_at (blocks_of stored) place ≡ Some b
-        → ComesTo (λ step. step ≡ step_of spec.now (branch (blocks_of stored) parent) b) result }
+        → YieldsUndamaged (λ step. step ≡ step_of spec.now (branch (blocks_of stored) parent) b) result }
 {
     let (fees, paid) = match flows_at(tree, blocks, place) {
         Ok(flows) => flows,

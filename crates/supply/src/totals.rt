@@ -15,7 +15,7 @@ ghost use Rattle.chain_tree.specs.Reading.{HasRead, stop_of};
 ghost use Rattle.rule_defs.specs.Genesis.{genesis_rules};
 ghost use Rattle.rule_defs.specs.Capacity.{held_out};
 ghost use Rattle.rule_defs.specs.Field.{made_by};
-ghost use Rattle.rewards.specs.Reading.{ComesTo};
+ghost use Rattle.rewards.specs.Reading.{YieldsUndamaged};
 ghost use Rattle.supply_defs.specs.Sums.{Sums};
 ghost use Rattle.supply_defs.specs.Step.{MovesBy, last_field};
 ghost use Rattle.supply_defs.specs.Laws.{supply_balance, occupied_balance};
@@ -104,7 +104,7 @@ impl Totals {
         ensures bounded { OnOk result (AreBounded self.new) }
         ensures added { (stored : List Stored) (parent : ℕ) → HaveJoined spec.now (B.told blocks.old) tree.now.entries stored
             → parent_place (blocks_of stored) e ≡ Some parent → AreTotalsOf spec.now (branch (blocks_of stored) parent) self.old
-            → ComesTo (λ _. AreTotalsOf spec.now (branch (blocks_of stored) e) self.new) result }
+            → YieldsUndamaged (λ _. AreTotalsOf spec.now (branch (blocks_of stored) e) self.new) result }
     {
         let step = match step_at(alloc, spec, tree, blocks, e) {
             Ok(step) => step,
@@ -137,7 +137,7 @@ impl Totals {
         ensures bounded { OnOk result (AreBounded self.new) }
         ensures taken { (stored : List Stored) (parent : ℕ) → HaveJoined spec.now (B.told blocks.old) tree.now.entries stored
             → parent_place (blocks_of stored) e ≡ Some parent → AreTotalsOf spec.now (branch (blocks_of stored) e) self.old
-            → ComesTo (λ _. AreTotalsOf spec.now (branch (blocks_of stored) parent) self.new) result }
+            → YieldsUndamaged (λ _. AreTotalsOf spec.now (branch (blocks_of stored) parent) self.new) result }
     {
         let step = match step_at(alloc, spec, tree, blocks, e) {
             Ok(step) => step,
@@ -165,7 +165,7 @@ impl Totals {
         ensures of_block { (stored : List Stored) → B.told blocks.old ≡ Some stored → (damage : Damage) → result ≡ Err (Damaged damage) → IsOfBlock tree.now.entries damage }
         ensures bounded { IfOk result AreBounded }
         ensures totals { (stored : List Stored) → HaveJoined spec.now (B.told blocks.old) tree.now.entries stored
-            → ComesTo (AreTotalsOf spec.now (branch (blocks_of stored) e)) result }
+            → YieldsUndamaged (AreTotalsOf spec.now (branch (blocks_of stored) e)) result }
     {
         match blocks.bring(0) {
             Ok(()) => {}

@@ -2,7 +2,7 @@
 use Rattle.std.proofs.Common.{◌≡◌, ℕ, ◌^◌, ◌<◌, ◌≤◌, Bool, true, false, cond, List, [], length, Option, Some, None, refl, sym, ap, ◌∙◌, subst, arith}
 use Rattle.std.specs.Prelude.{IsTrue, is_some, ◌==◌}
 use Rattle.std.specs.List.{list_any}
-use Rattle.chain_defs.specs.Shape.{Shape, IsA, encoded}
+use Rattle.chain_defs.specs.Shape.{Shape, IsEncoding, encoded}
 use Rattle.chain_defs.specs.Schema as schema
 use Rattle.chain_defs.specs.Schema.{Transaction, Block, CellbaseWitness}
 use Rattle.chain_defs.proofs.RowLaws.{block-check}
@@ -27,7 +27,7 @@ use Rattle.pool_defs.specs.Laws.{IsFounded, breakable}
 use Rattle.pool_defs.proofs.JoiningLaws.{breaks-few, unbroken-joins}
 use Rattle.pool_defs.specs.Size.{most_bytes}
 use Rattle.tx_pool.specs.Assembling.{IsAssembled, IsMade, assembled_on, chain_on}
-use Rattle.tx_pool.specs.Draft.{DraftValue, IsSoFar}
+use Rattle.tx_pool.specs.Draft.{DraftValue, IsDraftSoFar}
 use Rattle.tx_pool.specs.Sealing.{Fills}
 use Rattle.tx_pool.specs.declared.assembling.Assembled.{Assembled}
 
@@ -61,7 +61,7 @@ assembled-is spec kept parent witness items top = ap (λ (on : List Block). asse
 
 module _ (spec : Specification) (kept : List Block) (parent : ℕ) (witness : CellbaseWitness) (items : List (List ℕ)) (answer : Assembled)
     (made : IsMade spec (branch kept parent) (pool.assembly spec (branch kept parent) witness items) answer.lines.items answer.block.items)
-    (broken : (b : Block) → IsA schema.block answer.block.items b
+    (broken : (b : Block) → IsEncoding schema.block answer.block.items b
     → answer.broken ≡ cond (is_some (place_of kept (block_hash b))) (Some 2) (first_broken spec (branch kept parent) b)) where
   pub answer-on : IsAssembled (assembled_on spec kept (branch kept parent) witness items) answer
   answer-on = record {
@@ -74,7 +74,7 @@ module _ (spec : Specification) (kept : List Block) (parent : ℕ) (witness : Ce
 module _ (spec : Specification) (kept : List Block) (parent : ℕ) (witness : CellbaseWitness) (items : List (List ℕ)) (top : tip_place kept ≡ Some parent)
     (answer : Assembled)
     (made : IsMade spec (branch kept parent) (pool.assembly spec (branch kept parent) witness items) answer.lines.items answer.block.items)
-    (broken : (b : Block) → IsA schema.block answer.block.items b
+    (broken : (b : Block) → IsEncoding schema.block answer.block.items b
     → answer.broken ≡ cond (is_some (place_of kept (block_hash b))) (Some 2) (first_broken spec (branch kept parent) b)) where
   abbrev pub all : pool.Assembled
   all = pool.assembled (chain_on spec kept) witness items
@@ -98,9 +98,9 @@ module _ (spec : Specification) (kept : List Block) (parent : ℕ) (witness : Ce
       → verdict_over (chain_on spec kept) answer.block.items ≡ Joined b.header.number (block_hash b)
   answer-joins b same begins room unbroken =
       let bytes_are : answer.block.items ≡ encoded schema.block b = answer-is.block_is ∙ ap (encoded schema.block) (sym same) in
-      let its : IsA schema.block answer.block.items b =
-      subst (λ (it : Block). IsA schema.block answer.block.items it) (sym (same ∙ block-is)) made.block_is in
-      let own : IsA schema.block (encoded schema.block b) b = record { fits = its.fits; encoding = refl } in
+      let its : IsEncoding schema.block answer.block.items b =
+      subst (λ (it : Block). IsEncoding schema.block answer.block.items it) (sym (same ∙ block-is)) made.block_is in
+      let own : IsEncoding schema.block (encoded schema.block b) b = record { fits = its.fits; encoding = refl } in
       ap (verdict_over (chain_on spec kept)) bytes_are
       ∙ unbroken-joins (chain_on spec kept) witness items b begins (sym same) (sym broken-is ∙ unbroken) (decoded-is schema.block block-check (encoded schema.block b) b own) room
 
@@ -109,18 +109,18 @@ module _ (spec : Specification) (kept : List Block) (parent : ℕ) (witness : Ce
 
 -- ---- What the items came to
 
-pub bytes-as : {V : Type 0} (shape : Shape V) (bytes other : List ℕ) (v : V) → other ≡ bytes → IsA shape bytes v → IsA shape other v
-bytes-as shape bytes other v same is = subst (λ (these : List ℕ). IsA shape these v) (sym same) is
+pub bytes-as : {V : Type 0} (shape : Shape V) (bytes other : List ℕ) (v : V) → other ≡ bytes → IsEncoding shape bytes v → IsEncoding shape other v
+bytes-as shape bytes other v same is = subst (λ (these : List ℕ). IsEncoding shape these v) (sym same) is
 
 pub made-of : (stored : List Stored) (on : ContextValue) (witness : CellbaseWitness) (items : List (List ℕ)) (draft : DraftValue) (bytes : List ℕ)
-    → IsSoFar stored on (keep (pool.take_item on.spec (branch (blocks_of stored) on.parent)) (pool.start on.spec (branch (blocks_of stored) on.parent) witness) items) draft
-    → IsA schema.block bytes (sealed on.spec (branch (blocks_of stored) on.parent)
+    → IsDraftSoFar stored on (keep (pool.take_item on.spec (branch (blocks_of stored) on.parent)) (pool.start on.spec (branch (blocks_of stored) on.parent) witness) items) draft
+    → IsEncoding schema.block bytes (sealed on.spec (branch (blocks_of stored) on.parent)
     (keep (pool.take_item on.spec (branch (blocks_of stored) on.parent)) (pool.start on.spec (branch (blocks_of stored) on.parent) witness) items).block)
     → IsMade on.spec (branch (blocks_of stored) on.parent) (pool.assembly on.spec (branch (blocks_of stored) on.parent) witness items) draft.lines bytes
 unfolding assembly
 made-of stored on witness items draft bytes is block = record { lines_are = is.lines_are; block_is = block }
 
-pub fills-with : (stored : List Stored) (on : ContextValue) (so_far : pool.Assembly) (draft : DraftValue) (txs : List Transaction) (ids : List (List ℕ)) → IsSoFar stored on so_far draft
+pub fills-with : (stored : List Stored) (on : ContextValue) (so_far : pool.Assembly) (draft : DraftValue) (txs : List Transaction) (ids : List (List ℕ)) → IsDraftSoFar stored on so_far draft
     → txs ≡ draft.transactions → ids ≡ draft.proposals → Fills on.spec (branch (blocks_of stored) on.parent) so_far.block txs ids
 fills-with stored on so_far draft txs ids is same named = record {
   header_is = is.fills.header_is;

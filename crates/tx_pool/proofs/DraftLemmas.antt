@@ -5,7 +5,7 @@ use Rattle.std.specs.List.{AllByRecursion, list_any}
 use Rattle.std.specs.Str.{bytes_eq}
 use Rattle.std.proofs.lemmas.Bool.{le-leb, lt-leb}
 use Rattle.std.proofs.lemmas.List.{length_push, map-append, take_all, take_more}
-use Rattle.chain_defs.specs.Shape.{IsA, encoded, decoded}
+use Rattle.chain_defs.specs.Shape.{IsEncoding, encoded, decoded}
 use Rattle.chain_defs.specs.Schema.{OutPoint, Transaction, Block, CellbaseWitness, transaction}
 use Rattle.chain_defs.specs.First.{first_failing}
 use Rattle.chain_defs.specs.Fold.{keep}
@@ -25,7 +25,7 @@ use Rattle.block_judge.specs.Appending as appending
 use Rattle.block_judge.specs.Appending.{SeesSoFar}
 use Rattle.block_judge.specs.Answers.{IsPassed, StopsAs}
 use Rattle.block_judge.specs.Progress.{AreMoved, AreProposed, CanMove}
-use Rattle.block_judge.specs.Standing.{ContextValue, StandsFor}
+use Rattle.block_judge.specs.Standing.{ContextValue, ContextStandsFor}
 use Rattle.rule_defs.specs.RuleNumber.{rule_number}
 use Rattle.rule_defs.specs.declared.rule.Rule.{Rule}
 use Rattle.block_judge.specs.declared.stop.JudgeStop.{JudgeStop}
@@ -43,7 +43,7 @@ use Rattle.pool_defs.specs.declared.line.Line.{Line}
 use Rattle.pool_defs.specs.declared.line.Line.TheVariants.{Commit, Propose, Refused, Later}
 use Rattle.pool_defs.proofs.GrowthLemmas.{size-transaction, size-id, counted-size, cellbase-grows, proposals-grow, distinct-push}
 use Rattle.pool_defs.specs.Size.{most_items}
-use Rattle.tx_pool.specs.Draft.{DraftValue, Fits, IsEmpty, IsPut, IsSoFar, has, so_far_in, with_line}
+use Rattle.tx_pool.specs.Draft.{DraftValue, Fits, IsEmpty, IsPut, IsDraftSoFar, has, so_far_in, with_line}
 use Rattle.tx_pool.proofs.GrownLemmas.{each-push, has-push, has-hash-push, moved-push, moved-same, moved-nothing, sees-push, sees-none}
 
 -- ---- What each draft keeps
@@ -146,8 +146,8 @@ not-not true = refl
 not-not false = refl
 
 -- An item that changes nothing but for its line.
-pub so-far-line : (stored : List Stored) (on : ContextValue) (so_far : Assembly) (draft : DraftValue) (line : Line) → IsSoFar stored on so_far draft
-    → IsSoFar stored on (pool.with_line so_far line) (with_line draft line)
+pub so-far-line : (stored : List Stored) (on : ContextValue) (so_far : Assembly) (draft : DraftValue) (line : Line) → IsDraftSoFar stored on so_far draft
+    → IsDraftSoFar stored on (pool.with_line so_far line) (with_line draft line)
 so-far-line stored on so_far draft line is = record {
   timestamp_is = is.timestamp_is;
   sees = is.sees;
@@ -162,13 +162,13 @@ so-far-line stored on so_far draft line is = record {
   lines_are = ap (λ (lines : List Line). lines ++ line ∷ []) is.lines_are;
 }
 
-pub so-far-as : (stored : List Stored) (on : ContextValue) (so_far all : Assembly) (draft : DraftValue) → all ≡ so_far → IsSoFar stored on so_far draft
-    → IsSoFar stored on all draft
-so-far-as stored on so_far all draft same is = subst (λ (it : Assembly). IsSoFar stored on it draft) (sym same) is
+pub so-far-as : (stored : List Stored) (on : ContextValue) (so_far all : Assembly) (draft : DraftValue) → all ≡ so_far → IsDraftSoFar stored on so_far draft
+    → IsDraftSoFar stored on all draft
+so-far-as stored on so_far all draft same is = subst (λ (it : Assembly). IsDraftSoFar stored on it draft) (sym same) is
 
 -- one that is answered by a line alone
 pub so-far-answered : (stored : List Stored) (on : ContextValue) (so_far all : Assembly) (draft : DraftValue) (line : Line) → all ≡ pool.with_line so_far line
-    → IsSoFar stored on so_far draft → IsSoFar stored on all (with_line draft line)
+    → IsDraftSoFar stored on so_far draft → IsDraftSoFar stored on all (with_line draft line)
 so-far-answered stored on so_far all draft line same is =
     so-far-as stored on (pool.with_line so_far line) all (with_line draft line) same (so-far-line stored on so_far draft line is)
 
@@ -194,9 +194,9 @@ header-time spec on = refl
 
 pub started-so-far : (stored : List Stored) (on : ContextValue) (witness : CellbaseWitness) (timestamp e : ℕ) (t : Transaction) (draft put : DraftValue)
     → on.parent < length on.entries → timestamp ≡ next_timestamp (median_time (branch (blocks_of stored) on.parent)) → e ≡ length on.entries
-    → StandsFor stored on → IsEmpty on.spec timestamp on.rows draft → IsPut e t draft put
+    → ContextStandsFor stored on → IsEmpty on.spec timestamp on.rows draft → IsPut e t draft put
     → t ≡ start.cellbase on.spec (branch (blocks_of stored) on.parent) witness
-    → IsSoFar stored on (pool.start on.spec (branch (blocks_of stored) on.parent) witness) put
+    → IsDraftSoFar stored on (pool.start on.spec (branch (blocks_of stored) on.parent) witness) put
 started-so-far stored on witness timestamp e t draft put placed time last stands empty is_put same =
     let alone : put.transactions ≡ start.cellbase on.spec (branch (blocks_of stored) on.parent) witness ∷ [] =
     is_put.transactions ∙ ap (λ (them : List Transaction). them ++ t ∷ []) empty.transactions ∙ ap (λ (it : Transaction). it ∷ []) same in record {
@@ -219,7 +219,7 @@ started-so-far stored on witness timestamp e t draft put placed time last stands
 
 -- ---- Each step
 
-module _ (stored : List Stored) (on : ContextValue) (so_far : Assembly) (draft : DraftValue) (is : IsSoFar stored on so_far draft) (fits : Fits draft) where
+module _ (stored : List Stored) (on : ContextValue) (so_far : Assembly) (draft : DraftValue) (is : IsDraftSoFar stored on so_far draft) (fits : Fits draft) where
   abbrev on_branch : List Block
   on_branch = branch (blocks_of stored) on.parent
 
@@ -264,7 +264,7 @@ module _ (stored : List Stored) (on : ContextValue) (so_far : Assembly) (draft :
   -- the tests in the order of the code
   pub propose-later : (t : Transaction) (id : List ℕ) → id ≡ proposal_id t → length id ≡ 10
       → (on.spec.max_block_bytes < draft.length + 10) ⊎ ((on.spec.max_proposals < length draft.proposals + 1) ⊎ (draft.has_id id ≡ true))
-      → IsSoFar stored on (pool.propose on.spec so_far t) (with_line draft Later)
+      → IsDraftSoFar stored on (pool.propose on.spec so_far t) (with_line draft Later)
   propose-later t id same ten why = so-far-answered stored on so_far _ draft Later
       (propose-is t id same ten ∙ ap (λ (test : Bool). cond test (pool.proposed so_far id) (pool.with_line so_far Later)) (tests why)) is
     where
@@ -294,7 +294,7 @@ module _ (stored : List Stored) (on : ContextValue) (so_far : Assembly) (draft :
       → after.rows ≡ draft.rows → after.transactions ≡ draft.transactions
       → ((hash : List ℕ) → after.has_hash hash ≡ draft.has_hash hash) → after.proposals ≡ draft.proposals ++ id ∷ []
       → ((other : List ℕ) → after.has_id other ≡ (draft.has_id other || bytes_eq id other)) → after.left ≡ draft.left → after.interest ≡ draft.interest
-      → after.freed ≡ draft.freed → after.lines ≡ draft.lines → IsSoFar stored on (pool.proposed so_far id) (with_line after Propose)
+      → after.freed ≡ draft.freed → after.lines ≡ draft.lines → IsDraftSoFar stored on (pool.proposed so_far id) (with_line after Propose)
   proposed-so-far id after ten new timestamp rows txs hashes ids has_ids left interest freed lines = record {
     timestamp_is = timestamp ∙ is.timestamp_is;
     sees = record { stands = is.sees.stands; rows_are = λ o. ap (λ (them : OutPoint → Option Row). them o) rows ∙ is.sees.rows_are o };
@@ -330,7 +330,7 @@ module _ (stored : List Stored) (on : ContextValue) (so_far : Assembly) (draft :
       ∙ ap (λ (n : ℕ). n + (4 + length (encoded transaction t))) size-is)
 
   pub commit-later : (t : Transaction) → on.spec.max_block_bytes < draft.length + (4 + length (encoded transaction t))
-      → IsSoFar stored on (pool.commit on.spec on_branch so_far t) (with_line draft Later)
+      → IsDraftSoFar stored on (pool.commit on.spec on_branch so_far t) (with_line draft Later)
   commit-later t past = so-far-answered stored on so_far _ draft Later
       (commit-is t ∙ ap (λ (test : Bool). cond test (pool.committed_at (pool.next_site on.spec on_branch so_far.block) so_far t) (pool.with_line so_far Later))
       (lt-leb (draft.length + (4 + length (encoded transaction t))) on.spec.max_block_bytes past)) is
@@ -345,7 +345,7 @@ module _ (stored : List Stored) (on : ContextValue) (so_far : Assembly) (draft :
       → IsPassed (blocks_of stored) on.parent (passed_at (pool.next_site on.spec on_branch so_far.block) so_far.left t) passed
       → after ≡ record put { left = put.left - passed.cycles; interest = after.interest; freed = put.freed + passed.freed }
       → after.interest ≡ put.interest +ℤ passed.interest
-      → IsSoFar stored on (pool.committed_at (pool.next_site on.spec on_branch so_far.block) so_far t) (with_line after (Commit passed.fee passed.cycles))
+      → IsDraftSoFar stored on (pool.committed_at (pool.next_site on.spec on_branch so_far.block) so_far t) (with_line after (Commit passed.fee passed.cycles))
   committed-so-far t e put after passed placed last is_put begins comes same sum = record {
     timestamp_is = ap (λ (it : DraftValue). it.timestamp) same ∙ is_put.timestamp ∙ is.timestamp_is;
     sees = sees-push stored on (so_far_in (record draft { timestamp = after.timestamp }) so_far.block.transactions) t e after.rows placed last
@@ -396,7 +396,7 @@ module _ (stored : List Stored) (on : ContextValue) (so_far : Assembly) (draft :
       (not-not (is_cellbase t || draft.has_hash (transaction_hash t)))
 
 -- by what is judged over the transactions of the draft
-module _ (stored : List Stored) (on : ContextValue) (so_far : Assembly) (draft : DraftValue) (is : IsSoFar stored on so_far draft) (t : Transaction)
+module _ (stored : List Stored) (on : ContextValue) (so_far : Assembly) (draft : DraftValue) (is : IsDraftSoFar stored on so_far draft) (t : Transaction)
     (txs : List Transaction) (same : txs ≡ draft.transactions) where
   abbrev branch_on : List Block
   branch_on = branch (blocks_of stored) on.parent
@@ -415,7 +415,7 @@ module _ (stored : List Stored) (on : ContextValue) (so_far : Assembly) (draft :
 
   pub refused-so-far : (stop : JudgeStop) (rule : Rule) (number : ℕ) → stop ≡ Broken rule → number ≡ rule_number rule → IsTrue (is_proposed on.spec branch_on t)
       → StopsAs (judged_alone (appending.next_site on.spec branch_on draft.timestamp txs) draft.left t) stop
-      → IsSoFar stored on (pool.judge on.spec branch_on so_far t (first_failing (transaction_rules (pool.next_site on.spec branch_on so_far.block) so_far.left t)))
+      → IsDraftSoFar stored on (pool.judge on.spec branch_on so_far t (first_failing (transaction_rules (pool.next_site on.spec branch_on so_far.block) so_far.left t)))
       (with_line draft (Refused number))
   refused-so-far stop rule number was numbered proposed stops =
       let broken = subst (StopsAs (judged_alone (appending.next_site on.spec branch_on draft.timestamp txs) draft.left t)) was stops in
@@ -447,12 +447,12 @@ pub same-test : (t : Transaction) (known : List ℕ → Bool) (hash : List ℕ) 
 same-test t known hash test same answered = ap (λ (it : List ℕ). is_cellbase t || known it) (sym same) ∙ answered
 
 -- by the tests in the order of the code
-module _ (stored : List Stored) (on : ContextValue) (so_far : Assembly) (draft : DraftValue) (is : IsSoFar stored on so_far draft) (fits : Fits draft) (t : Transaction) where
+module _ (stored : List Stored) (on : ContextValue) (so_far : Assembly) (draft : DraftValue) (is : IsDraftSoFar stored on so_far draft) (fits : Fits draft) (t : Transaction) where
   abbrev after_branch : List Block
   after_branch = branch (blocks_of stored) on.parent
 
   pub repeated-so-far : (is_cellbase t || draft.has_hash (transaction_hash t)) ≡ true
-      → IsSoFar stored on (pool.take_transaction on.spec after_branch so_far t) (with_line draft (Refused 16))
+      → IsDraftSoFar stored on (pool.take_transaction on.spec after_branch so_far t) (with_line draft (Refused 16))
   repeated-so-far repeats = so-far-answered stored on so_far _ draft (Refused 16)
       (take-is stored on so_far draft is fits t ∙ ap (λ (test : Bool). cond test (pool.with_line so_far (Refused 16))
       (cond (not (is_proposed on.spec after_branch t)) (pool.propose on.spec so_far t)
@@ -487,7 +487,7 @@ unfolding most_items
 few-items n few = few
 
 -- what bytes encode has as many as these
-pub canonical-size : (bytes : List ℕ) (t : Transaction) → ((v : Transaction) × IsA transaction bytes v) → ((v : Transaction) → IsA transaction bytes v → t ≡ v)
+pub canonical-size : (bytes : List ℕ) (t : Transaction) → ((v : Transaction) × IsEncoding transaction bytes v) → ((v : Transaction) → IsEncoding transaction bytes v → t ≡ v)
     → length (encoded transaction t) ≡ length bytes
 canonical-size bytes t its exact =
     ap (λ (v : Transaction). length (encoded transaction v)) (exact its.0 its.1) ∙ sym (ap length its.1.encoding)

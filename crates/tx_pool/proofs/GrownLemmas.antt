@@ -18,7 +18,7 @@ use Rattle.rule_defs.specs.Capacity.{interest}
 use Rattle.rule_defs.specs.Field.{freed_by, freed_from, interest_from}
 use Rattle.block_judge.specs.Appending.{SoFarValue, SeesSoFar}
 use Rattle.block_judge.specs.Progress.{AreMoved}
-use Rattle.block_judge.specs.Standing.{ContextValue, StandsFor}
+use Rattle.block_judge.specs.Standing.{ContextValue, ContextStandsFor}
 use Rattle.block_judge.proofs.ChangeLemmas.{row_after-nil, row_after-append, row_after-same}
 use Rattle.block_judge.proofs.SiteLemmas.{branch-some}
 use Rattle.pool_defs.specs.Assembly.{with_transaction, with_proposal, next_site}
@@ -211,7 +211,7 @@ sees-push stored on before t e after placed last sees put = record { stands = se
         ∙ ap (λ (all : List Event). row_after (length on.entries) all on.rows o) (sym (events-push 0 so_far t height ∙ at_end))
 
 -- before any transaction
-pub sees-none : (stored : List Stored) (on : ContextValue) (timestamp : ℕ) (rows : OutPoint → Option Row) → StandsFor stored on
+pub sees-none : (stored : List Stored) (on : ContextValue) (timestamp : ℕ) (rows : OutPoint → Option Row) → ContextStandsFor stored on
     → ((o : OutPoint) → rows o ≡ on.rows o) → SeesSoFar stored on (record { timestamp = timestamp; transactions = []; rows = rows })
 sees-none stored on timestamp rows stands same = record {
   stands = stands;

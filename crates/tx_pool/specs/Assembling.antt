@@ -1,7 +1,7 @@
 -- What is assembled, as the code answers it.
 use Rattle.std.specs.Prelude.{◌≡◌, ℕ, ◌≤◌, List, length, Some, is_some, if◌then◌else◌}
 use Rattle.std.specs.List.{All}
-use Rattle.chain_defs.specs.Shape.{IsA, encoded}
+use Rattle.chain_defs.specs.Shape.{IsEncoding, encoded}
 use Rattle.chain_defs.specs.Schema as schema
 use Rattle.chain_defs.specs.Schema.{Block, CellbaseWitness}
 use Rattle.chain_defs.specs.Specification.{Specification}
@@ -29,7 +29,7 @@ pub record IsAssembled (all : pool.Assembled) (made : Assembled) : Type 0 where
 -- Lines and the bytes of a block are what the items came to after a branch.
 pub record IsMade (spec : Specification) (on : List Block) (all : pool.Assembly) (lines : List Line) (bytes : List ℕ) : Type 0 where
   pub lines_are : lines ≡ all.lines
-  pub block_is : IsA schema.block bytes (sealed spec on all.block)
+  pub block_is : IsEncoding schema.block bytes (sealed spec on all.block)
 
 abbrev pub chain_on : Specification → List Block → Chain
 chain_on spec blocks = record { spec = spec; blocks = blocks }

@@ -108,7 +108,7 @@ abbrev pub so_far_in : DraftValue → List Transaction → SoFarValue
 so_far_in draft transactions = record { timestamp = draft.timestamp; transactions = transactions; rows = draft.rows }
 
 -- Over kept blocks for which the context stands, the draft is what the items came to so far after the parent's branch.
-pub record IsSoFar (stored : List Stored) (on : ContextValue) (so_far : Assembly) (draft : DraftValue) : Type 0 where
+pub record IsDraftSoFar (stored : List Stored) (on : ContextValue) (so_far : Assembly) (draft : DraftValue) : Type 0 where
   pub timestamp_is : draft.timestamp ≡ so_far.block.header.timestamp
   pub sees : SeesSoFar stored on (so_far_in draft so_far.block.transactions)
   pub fills : Fills on.spec (branch (blocks_of stored) on.parent) so_far.block draft.transactions draft.proposals

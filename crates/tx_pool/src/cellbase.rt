@@ -2,7 +2,7 @@
 ghost use Rattle.std.specs.Prelude.{◌≡◌, ◌<◌, ◌^◌, List, [], length, Some, Err, IfOk, IfErr};
 ghost use Rattle.outside.specs.declared.disk.Damage.{Damage};
 ghost use Rattle.outside.specs.declared.disk.ReadStop.TheVariants.{Damaged, NoMemory as no_memory};
-ghost use Rattle.chain_defs.specs.Shape.{IsA, encoded};
+ghost use Rattle.chain_defs.specs.Shape.{IsEncoding, encoded};
 ghost use Rattle.chain_defs.specs.Schema as schema;
 ghost use Rattle.chain_defs.specs.Kept.{block_at};
 ghost use Rattle.chain_defs.specs.Branch.{branch};
@@ -14,7 +14,6 @@ ghost use Rattle.rewards.specs.Own.{HaveOwnFees};
 ghost use Rattle.pool_defs.specs.Start as start;
 
 use block_judge::lock_of;
-use cell_model::occupied;
 use chain_tree::{Blocks, Tree};
 use epochs::Spec;
 use mol_schema::{BlockView, CellbaseWitnessView, ScriptView};
@@ -22,6 +21,7 @@ use outside::{NoMemory, ReadStop};
 use pool_rows::{cellbase_alone, cellbase_paying};
 use rewards::reward;
 use std::alloc::Global;
+use view_hashes::occupied;
 
 /// The cellbase at a height, where a reward of so many shannons is owed to a lock.
 fn cellbase_to(
@@ -32,7 +32,7 @@ fn cellbase_to(
     witness: &CellbaseWitnessView<'_>,
 ) -> Result<Vec<u8>, NoMemory>
     requires witness { length (encoded schema.cellbase_witness witness.now) < 2 ^ 28 }
-    ensures cellbase { IfOk result (λ bytes. IsA schema.transaction bytes.items
+    ensures cellbase { IfOk result (λ bytes. IsEncoding schema.transaction bytes.items
         (start.cellbase_with height (start.owed_outputs (payment.owed_to (Some lock.now) reward)) witness.now)) }
     ensures size { IfOk result (λ bytes. length bytes.items < 2 ^ 30) }
 {
@@ -51,7 +51,7 @@ fn cellbase_for(
     witness: &CellbaseWitnessView<'_>,
 ) -> Result<Vec<u8>, NoMemory>
     requires witness { length (encoded schema.cellbase_witness witness.now) < 2 ^ 28 }
-    ensures cellbase { IfOk result (λ bytes. IsA schema.transaction bytes.items
+    ensures cellbase { IfOk result (λ bytes. IsEncoding schema.transaction bytes.items
         (start.cellbase_with height (start.owed_outputs (payment.owed_to (payment.lock_of (Some paid.now)) reward)) witness.now)) }
     ensures size { IfOk result (λ bytes. length bytes.items < 2 ^ 30) }
 {
@@ -73,9 +73,9 @@ fn cellbase_at<B: Blocks>(
     requires within { place < B.count blocks.old }
     requires witness { length (encoded schema.cellbase_witness witness.now) < 2 ^ 28 }
     ensures read { HasRead B.told B.count B.loans_of B.faults B.damages blocks.old blocks.new (stop_of result) }
-    ensures canonical { IfOk result (λ bytes. (t : schema.Transaction) × IsA schema.transaction bytes.items t) }
+    ensures canonical { IfOk result (λ bytes. (t : schema.Transaction) × IsEncoding schema.transaction bytes.items t) }
     ensures size { IfOk result (λ bytes. length bytes.items < 2 ^ 30) }
-    ensures cellbase { (stored : List Stored) → B.told blocks.old ≡ Some stored → IfOk result (λ bytes. IsA schema.transaction bytes.items
+    ensures cellbase { (stored : List Stored) → B.told blocks.old ≡ Some stored → IfOk result (λ bytes. IsEncoding schema.transaction bytes.items
         (start.cellbase_with height (start.owed_outputs (payment.owed_to (payment.lock_of (block_at (blocks_of stored) place)) reward)) witness.now)) }
     ensures undamaged { (stored : List Stored) → B.told blocks.old ≡ Some stored → (damage : Damage) → result ≡ Err (Damaged damage) → ⊥ }
 {
@@ -92,7 +92,7 @@ fn cellbase_at<B: Blocks>(
 /// The same with no output.
 fn alone(alloc: Global, height: u64, witness: &CellbaseWitnessView<'_>) -> Result<Vec<u8>, ReadStop>
     requires witness { length (encoded schema.cellbase_witness witness.now) < 2 ^ 28 }
-    ensures cellbase { IfOk result (λ bytes. IsA schema.transaction bytes.items (start.cellbase_with height [] witness.now)) }
+    ensures cellbase { IfOk result (λ bytes. IsEncoding schema.transaction bytes.items (start.cellbase_with height [] witness.now)) }
     ensures size { IfOk result (λ bytes. length bytes.items < 2 ^ 30) }
     ensures stop { IfErr result (λ stop. stop ≡ no_memory) }
 {
@@ -116,11 +116,11 @@ pub(crate) fn cellbase_after<B: Blocks>(
     requires counts { B.count blocks.old ≡ length tree.now.entries }
     requires witness { length (encoded schema.cellbase_witness witness.now) < 2 ^ 28 }
     ensures read { HasRead B.told B.count B.loans_of B.faults B.damages blocks.old blocks.new (stop_of result) }
-    ensures canonical { IfOk result (λ bytes. (t : schema.Transaction) × IsA schema.transaction bytes.items t) }
+    ensures canonical { IfOk result (λ bytes. (t : schema.Transaction) × IsEncoding schema.transaction bytes.items t) }
     ensures size { IfOk result (λ bytes. length bytes.items < 2 ^ 30) }
     ensures cellbase { (stored : List Stored) → B.told blocks.old ≡ Some stored → IndexesBlocks (blocks_of stored) tree.now.entries
         → HaveOwnFees spec.now stored
-        → IfOk result (λ bytes. IsA schema.transaction bytes.items (start.cellbase spec.now (branch (blocks_of stored) parent) witness.now)) }
+        → IfOk result (λ bytes. IsEncoding schema.transaction bytes.items (start.cellbase spec.now (branch (blocks_of stored) parent) witness.now)) }
     ensures undamaged { (stored : List Stored) → B.told blocks.old ≡ Some stored → IndexesBlocks (blocks_of stored) tree.now.entries
         → HaveOwnFees spec.now stored → (damage : Damage) → result ≡ Err (Damaged damage) → ⊥ }
 {

@@ -7,7 +7,7 @@ ghost use Rattle.chain_defs.specs.First.{first_failing};
 ghost use Rattle.chain_defs.specs.Fold.{keep};
 ghost use Rattle.outside.specs.declared.disk.Damage.{Damage};
 ghost use Rattle.outside.specs.declared.disk.ReadStop.TheVariants.{Damaged};
-ghost use Rattle.chain_defs.specs.Shape.{IsA, encoded};
+ghost use Rattle.chain_defs.specs.Shape.{IsEncoding, encoded};
 ghost use Rattle.chain_defs.specs.Schema as schema;
 ghost use Rattle.chain_defs.specs.Branch.{branch};
 ghost use Rattle.chain_defs.specs.Hashes as hashes;
@@ -20,17 +20,17 @@ ghost use Rattle.verdict_defs.specs.Transactions.{is_proposed, transaction_rules
 ghost use Rattle.verdict_defs.specs.Judged.{passed_at};
 ghost use Rattle.block_judge.specs.Answers.{IsPassed};
 ghost use Rattle.block_judge.specs.Progress.{AreProposed, CanMove};
-ghost use Rattle.block_judge.specs.Standing.{StandsFor, seen};
+ghost use Rattle.block_judge.specs.Standing.{ContextStandsFor, seen};
 ghost use Rattle.pool_defs.specs.Start as start;
 ghost use Rattle.pool_defs.specs.Assembly as pool;
 ghost use Rattle.pool_defs.specs.Size.{most_items, most_bytes};
-ghost use Rattle.tx_pool.specs.Draft.{Fits, IsEmpty, IsPut, IsSoFar, draft_of, with_line};
+ghost use Rattle.tx_pool.specs.Draft.{Fits, IsEmpty, IsPut, IsDraftSoFar, draft_of, with_line};
 
 use crate::sealing::timestamp_on;
 use block_judge::{
     BlockCells, BlockSoFar, Context, JudgeStop, PassedTransaction, is_cellbase, judge_appended,
 };
-use cell_model::{Cells, proposal_id, tx_hash};
+use cell_model::Cells;
 use chain_tree::Blocks;
 use mol_schema::TxView;
 use outside::{NoMemory, ReadStop};
@@ -38,6 +38,7 @@ use pool_defs::Line;
 use proposal_window::Proposed;
 use std::alloc::Global;
 use std::collections::HashSet;
+use view_hashes::{proposal_id, transaction_hash};
 
 /// The bytes of a block with no transaction and no proposal id.
 const EMPTY_LENGTH: u64 = 240;
@@ -88,19 +89,19 @@ impl<'c, 'a, C: Cells> Draft<'c, 'a, C> {
         cellbase: &'a [u8],
     ) -> Result<Draft<'c, 'a, C>, NoMemory>
         requires parent { context.now.parent < length context.now.tree.now.entries }
-        requires canonical { (t : schema.Transaction) × IsA schema.transaction cellbase.now t }
+        requires canonical { (t : schema.Transaction) × IsEncoding schema.transaction cellbase.now t }
         requires size { length cellbase.now < 2 ^ 30 }
         ensures fits { IfOk result (λ draft. Fits (draft_of C.rows draft)) }
         ensures lines { IfOk result (λ draft. draft.lines.items ≡ []) }
-        ensures started { (stored : List Stored) (witness : schema.CellbaseWitness) → StandsFor stored (seen C.rows context.now)
-            → IsA schema.transaction cellbase.now (start.cellbase context.now.spec.now (branch (blocks_of stored) context.now.parent) witness)
-            → IfOk result (λ draft. IsSoFar stored (seen C.rows context.now)
+        ensures started { (stored : List Stored) (witness : schema.CellbaseWitness) → ContextStandsFor stored (seen C.rows context.now)
+            → IsEncoding schema.transaction cellbase.now (start.cellbase context.now.spec.now (branch (blocks_of stored) context.now.parent) witness)
+            → IfOk result (λ draft. IsDraftSoFar stored (seen C.rows context.now)
             (pool.start context.now.spec.now (branch (blocks_of stored) context.now.parent) witness) (draft_of C.rows draft)) }
     {
         let timestamp = timestamp_on(context.tree, context.parent);
         let mut draft = Draft::empty(alloc, context, timestamp);
         let tx = TxView::from_encoding(cellbase);
-        let hash = tx_hash(&tx);
+        let hash = transaction_hash(&tx);
         let e = context.tree.len();
         match draft.put(&tx, &hash, e) {
             Ok(()) => Ok(draft),
@@ -133,9 +134,9 @@ impl<'c, 'a, C: Cells> Draft<'c, 'a, C> {
         requires fits { Fits (draft_of C.rows self.old) }
         ensures fits { IfOk result (λ line. Fits (with_line (draft_of C.rows self.new) line)) }
         ensures lines { IfOk result (λ _. self.new.lines.items ≡ self.old.lines.items) }
-        ensures proposed { (stored : List Stored) (so_far : pool.Assembly) → IsSoFar stored (seen C.rows context.now) so_far (draft_of C.rows self.old)
+        ensures proposed { (stored : List Stored) (so_far : pool.Assembly) → IsDraftSoFar stored (seen C.rows context.now) so_far (draft_of C.rows self.old)
             → (t : schema.Transaction) → id.now ≡ hashes.proposal_id t
-            → IfOk result (λ line. IsSoFar stored (seen C.rows context.now) (pool.propose context.now.spec.now so_far t) (with_line (draft_of C.rows self.new) line)) }
+            → IfOk result (λ line. IsDraftSoFar stored (seen C.rows context.now) (pool.propose context.now.spec.now so_far t) (with_line (draft_of C.rows self.new) line)) }
     {
         let spec = context.spec;
         let count = self.proposals.len() as u64 + 1;
@@ -168,11 +169,11 @@ impl<'c, 'a, C: Cells> Draft<'c, 'a, C> {
         requires moves { CanMove 1 passed.now.interest passed.now.freed }
         ensures fits { IfOk result (λ line. Fits (with_line (draft_of C.rows self.new) line)) }
         ensures lines { IfOk result (λ _. self.new.lines.items ≡ self.old.lines.items) }
-        ensures committed { (stored : List Stored) (so_far : pool.Assembly) → IsSoFar stored (seen C.rows context.now) so_far (draft_of C.rows self.old)
+        ensures committed { (stored : List Stored) (so_far : pool.Assembly) → IsDraftSoFar stored (seen C.rows context.now) so_far (draft_of C.rows self.old)
             → IsTrue (has_cellbase (pool.with_transaction so_far.block tx.now))
             → IsPassed (blocks_of stored) context.now.parent
             (passed_at (pool.next_site context.now.spec.now (branch (blocks_of stored) context.now.parent) so_far.block) so_far.left tx.now) passed.now
-            → IfOk result (λ line. IsSoFar stored (seen C.rows context.now)
+            → IfOk result (λ line. IsDraftSoFar stored (seen C.rows context.now)
             (pool.commit context.now.spec.now (branch (blocks_of stored) context.now.parent) so_far tx.now) (with_line (draft_of C.rows self.new) line)) }
     {
         let spec = context.spec;
@@ -207,15 +208,15 @@ impl<'c, 'a, C: Cells> Draft<'c, 'a, C> {
         ensures fits { IfOk result (λ line. Fits (with_line (draft_of C.rows self.new) line)) }
         ensures lines { IfOk result (λ _. self.new.lines.items ≡ self.old.lines.items) }
         ensures judged { (stored : List Stored) (so_far : pool.Assembly) → B.told blocks.old ≡ Some stored
-            → IsSoFar stored (seen C.rows context.now) so_far (draft_of C.rows self.old)
+            → IsDraftSoFar stored (seen C.rows context.now) so_far (draft_of C.rows self.old)
             → IsTrue (has_cellbase (pool.with_transaction so_far.block tx.now))
             → IsTrue (is_proposed context.now.spec.now (branch (blocks_of stored) context.now.parent) tx.now)
-            → IfOk result (λ line. IsSoFar stored (seen C.rows context.now)
+            → IfOk result (λ line. IsDraftSoFar stored (seen C.rows context.now)
             (pool.judge context.now.spec.now (branch (blocks_of stored) context.now.parent) so_far tx.now
             (first_failing (transaction_rules (pool.next_site context.now.spec.now (branch (blocks_of stored) context.now.parent) so_far.block) so_far.left tx.now)))
             (with_line (draft_of C.rows self.new) line)) }
         ensures undamaged { (stored : List Stored) (so_far : pool.Assembly) → B.told blocks.old ≡ Some stored
-            → IsSoFar stored (seen C.rows context.now) so_far (draft_of C.rows self.old) → (damage : Damage) → result ≡ Err (Damaged damage) → ⊥ }
+            → IsDraftSoFar stored (seen C.rows context.now) so_far (draft_of C.rows self.old) → (damage : Damage) → result ≡ Err (Damaged damage) → ⊥ }
     {
         let so_far = BlockSoFar {
             timestamp: self.timestamp,
@@ -260,13 +261,13 @@ impl<'c, 'a, C: Cells> Draft<'c, 'a, C> {
         ensures lines { IfOk result (λ _. self.new.lines.items ≡ self.old.lines.items) }
         ensures taken { (stored : List Stored) (so_far : pool.Assembly) → B.told blocks.old ≡ Some stored
             → AreProposed context.now.spec.now (branch (blocks_of stored) context.now.parent) proposed.now
-            → IsSoFar stored (seen C.rows context.now) so_far (draft_of C.rows self.old)
-            → IfOk result (λ line. IsSoFar stored (seen C.rows context.now)
+            → IsDraftSoFar stored (seen C.rows context.now) so_far (draft_of C.rows self.old)
+            → IfOk result (λ line. IsDraftSoFar stored (seen C.rows context.now)
             (pool.take_transaction context.now.spec.now (branch (blocks_of stored) context.now.parent) so_far tx.now) (with_line (draft_of C.rows self.new) line)) }
         ensures undamaged { (stored : List Stored) (so_far : pool.Assembly) → B.told blocks.old ≡ Some stored
-            → IsSoFar stored (seen C.rows context.now) so_far (draft_of C.rows self.old) → (damage : Damage) → result ≡ Err (Damaged damage) → ⊥ }
+            → IsDraftSoFar stored (seen C.rows context.now) so_far (draft_of C.rows self.old) → (damage : Damage) → result ≡ Err (Damaged damage) → ⊥ }
     {
-        let hash = tx_hash(tx);
+        let hash = transaction_hash(tx);
         if self.breaks_j16(tx, &hash) {
             return Ok(Line::Refused(16));
         }
@@ -300,11 +301,11 @@ impl<'c, 'a, C: Cells> Draft<'c, 'a, C> {
         ensures lines { IfOk result (λ _. self.new.lines.items ≡ self.old.lines.items) }
         ensures taken { (stored : List Stored) (so_far : pool.Assembly) → B.told blocks.old ≡ Some stored
             → AreProposed context.now.spec.now (branch (blocks_of stored) context.now.parent) proposed.now
-            → IsSoFar stored (seen C.rows context.now) so_far (draft_of C.rows self.old)
-            → IfOk result (λ line. IsSoFar stored (seen C.rows context.now)
+            → IsDraftSoFar stored (seen C.rows context.now) so_far (draft_of C.rows self.old)
+            → IfOk result (λ line. IsDraftSoFar stored (seen C.rows context.now)
             (pool.take_item context.now.spec.now (branch (blocks_of stored) context.now.parent) so_far item.now) (with_line (draft_of C.rows self.new) line)) }
         ensures undamaged { (stored : List Stored) (so_far : pool.Assembly) → B.told blocks.old ≡ Some stored
-            → IsSoFar stored (seen C.rows context.now) so_far (draft_of C.rows self.old) → (damage : Damage) → result ≡ Err (Damaged damage) → ⊥ }
+            → IsDraftSoFar stored (seen C.rows context.now) so_far (draft_of C.rows self.old) → (damage : Damage) → result ≡ Err (Damaged damage) → ⊥ }
     {
         match TxView::read(item) {
             None => Ok(Line::Refused(1)),
@@ -331,11 +332,11 @@ impl<'c, 'a, C: Cells> Draft<'c, 'a, C> {
         ensures lines { OnOk result (length self.new.lines.items ≡ length self.old.lines.items + 1) }
         ensures taken { (stored : List Stored) (so_far : pool.Assembly) → B.told blocks.old ≡ Some stored
             → AreProposed context.now.spec.now (branch (blocks_of stored) context.now.parent) proposed.now
-            → IsSoFar stored (seen C.rows context.now) so_far (draft_of C.rows self.old)
-            → OnOk result (IsSoFar stored (seen C.rows context.now)
+            → IsDraftSoFar stored (seen C.rows context.now) so_far (draft_of C.rows self.old)
+            → OnOk result (IsDraftSoFar stored (seen C.rows context.now)
             (pool.take_item context.now.spec.now (branch (blocks_of stored) context.now.parent) so_far item.now) (draft_of C.rows self.new)) }
         ensures undamaged { (stored : List Stored) (so_far : pool.Assembly) → B.told blocks.old ≡ Some stored
-            → IsSoFar stored (seen C.rows context.now) so_far (draft_of C.rows self.old) → (damage : Damage) → result ≡ Err (Damaged damage) → ⊥ }
+            → IsDraftSoFar stored (seen C.rows context.now) so_far (draft_of C.rows self.old) → (damage : Damage) → result ≡ Err (Damaged damage) → ⊥ }
     {
         let line = match self.take_bytes(alloc, context, blocks, proposed, item) {
             Ok(line) => line,
@@ -367,12 +368,12 @@ impl<'c, 'a, C: Cells> Draft<'c, 'a, C> {
         ensures lines { OnOk result (length self.new.lines.items ≡ length items.now) }
         ensures taken { (stored : List Stored) (so_far : pool.Assembly) → B.told blocks.old ≡ Some stored
             → AreProposed context.now.spec.now (branch (blocks_of stored) context.now.parent) proposed.now
-            → IsSoFar stored (seen C.rows context.now) so_far (draft_of C.rows self.old)
-            → OnOk result (IsSoFar stored (seen C.rows context.now)
+            → IsDraftSoFar stored (seen C.rows context.now) so_far (draft_of C.rows self.old)
+            → OnOk result (IsDraftSoFar stored (seen C.rows context.now)
             (keep (pool.take_item context.now.spec.now (branch (blocks_of stored) context.now.parent)) so_far (map (λ item. item.items) items.now)) (draft_of C.rows self.new)) }
         ensures undamaged { (stored : List Stored) (so_far : pool.Assembly) → B.told blocks.old ≡ Some stored
             → AreProposed context.now.spec.now (branch (blocks_of stored) context.now.parent) proposed.now
-            → IsSoFar stored (seen C.rows context.now) so_far (draft_of C.rows self.old) → (damage : Damage) → result ≡ Err (Damaged damage) → ⊥ }
+            → IsDraftSoFar stored (seen C.rows context.now) so_far (draft_of C.rows self.old) → (damage : Damage) → result ≡ Err (Damaged damage) → ⊥ }
     {
         'items: for i in 0..items.len() {
             match self.take_item(alloc, context, blocks, proposed, &items[i]) {

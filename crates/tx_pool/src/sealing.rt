@@ -1,6 +1,6 @@
 // The bytes of a block, whose header commits to what was put into it.
 ghost use Rattle.std.specs.Prelude.{◌≡◌, ◌<◌, ◌^◌, List, length, IfOk};
-ghost use Rattle.chain_defs.specs.Shape.{IsA};
+ghost use Rattle.chain_defs.specs.Shape.{IsEncoding};
 ghost use Rattle.chain_defs.specs.Schema as schema;
 ghost use Rattle.chain_defs.specs.Branch.{branch};
 ghost use Rattle.chain_defs.specs.Median.{median_time};
@@ -113,9 +113,9 @@ fn header_after(
 ) -> Result<Vec<u8>, NoMemory>
     requires parent { parent < length tree.now.entries }
     requires few { length tree.now.entries < 2 ^ 24 }
-    ensures canonical { IfOk result (λ bytes. (h : schema.Header) × IsA schema.header bytes.items h) }
+    ensures canonical { IfOk result (λ bytes. (h : schema.Header) × IsEncoding schema.header bytes.items h) }
     ensures header { (kept : List schema.Block) → IndexesBlocks kept tree.now.entries
-        → IfOk result (λ bytes. IsA schema.header bytes.items (header_on spec.now (branch kept parent) commitments.now)) }
+        → IfOk result (λ bytes. IsEncoding schema.header bytes.items (header_on spec.now (branch kept parent) commitments.now)) }
     ensures size { IfOk result (λ bytes. length bytes.items ≡ 208) }
 {
     let before = tree.entry(parent);
@@ -146,11 +146,11 @@ pub(crate) fn sealed<C>(
 ) -> Result<Vec<u8>, NoMemory>
     requires placed { IsParent context.now.tree.now.entries context.now.parent }
     requires size { size_with transactions.now ids.now < 2 ^ 32 }
-    ensures canonical { IfOk result (λ bytes. (b : schema.Block) × IsA schema.block bytes.items b) }
+    ensures canonical { IfOk result (λ bytes. (b : schema.Block) × IsEncoding schema.block bytes.items b) }
     ensures sealed { (kept : List schema.Block) (b : schema.Block) → IndexesBlocks kept context.now.tree.now.entries
         → Fills context.now.spec.now (branch kept context.now.parent) b transactions.now ids.now
         → AreMoved context.now.spec.now (branch kept context.now.parent) b interest freed
-        → IfOk result (λ bytes. IsA schema.block bytes.items (start.sealed context.now.spec.now (branch kept context.now.parent) b)) }
+        → IfOk result (λ bytes. IsEncoding schema.block bytes.items (start.sealed context.now.spec.now (branch kept context.now.parent) b)) }
 {
     let header = header_after(alloc, context.spec, context.tree, context.parent, &NOTHING)?;
     let open = block_row(alloc, &header, transactions, ids)?;

@@ -5,7 +5,7 @@ use Rattle.chain_tree.specs.Blocks.{IndexesBlocks}
 use Rattle.chain_tree.specs.Told.{Stored, blocks_of}
 use Rattle.chain_tree.specs.Reading.{HasRead}
 use Rattle.cell_state.specs.Moves.{IsPathUp, IsOnTheWay, AreOnTheWay}
-use Rattle.cell_index.specs.Index.{StandsFor}
+use Rattle.cell_index.specs.Index.{IndexesBranch}
 use Rattle.cell_index.specs.Follow.{CanBeFollowed}
 use Rattle.cell_index.proofs.following.go_down.Given as goal
 
@@ -20,7 +20,7 @@ invariant-down g l = record {
   way : (kept : List Block) → IndexesBlocks kept l.tree.entries → (place : ℕ) → IsOnTheWay kept l.low l.high place → IsOnTheWay kept l.from l.to place;
   on_way : (kept : List Block) → IndexesBlocks kept l.tree.entries → AreOnTheWay kept l.from l.to l.up.items;
   stands : (stored : List Stored) → g.B.Blocks.told l.fn.blocks ≡ Some stored → IndexesBlocks (blocks_of stored) l.tree.entries → CanBeFollowed stored l.from l.to
-      → StandsFor (blocks_of stored) l.from l.fn.index → StandsFor (blocks_of stored) l.low l.index;
+      → IndexesBranch (blocks_of stored) l.from l.fn.index → IndexesBranch (blocks_of stored) l.low l.index;
 }
 
 abbrev pub decreases-down : goal.decreases-down

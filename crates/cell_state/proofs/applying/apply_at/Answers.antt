@@ -36,8 +36,8 @@ returns-in-Err-reserve g c = record {
   most = omega arith;
 }
 
-pub returns-in-Err-tx_hashes : goal.returns-in-Err-tx_hashes
-returns-in-Err-tx_hashes g c = record {
+pub returns-in-Err-transaction_hashes : goal.returns-in-Err-transaction_hashes
+returns-in-Err-transaction_hashes g c = record {
   read = read_short c.in-Ok.ensures.read;
   rows = λ stored b tells there. tt;
   below = λ end less are. tt;

@@ -19,8 +19,8 @@ returns-in-Err g c = record {
   undamaged = λ stored tells damage same. c.in-Err.ensures.undamaged (is_told _ stored tells) damage (handed c.in-Err.stop _ same);
 }
 
-pub returns-in-Err-tx_hashes : goal.returns-in-Err-tx_hashes
-returns-in-Err-tx_hashes g c = record {
+pub returns-in-Err-transaction_hashes : goal.returns-in-Err-transaction_hashes
+returns-in-Err-transaction_hashes g c = record {
   read = read_short c.in-Ok.ensures.read;
   rows = λ stored tells indexes. tt;
   below = tt;

@@ -6,7 +6,7 @@ use Rattle.chain_tree.specs.Blocks.{IndexesBlocks}
 use Rattle.chain_tree.specs.Told.{Stored, blocks_of}
 use Rattle.chain_tree.specs.Reading.{HasRead}
 use Rattle.cell_state.specs.State.{rows}
-use Rattle.cell_state.specs.Moves.{CanGoDown, AreBelow, AreOf, IsPathUp, IsOnTheWay, AreOnTheWay, is_on_branch}
+use Rattle.cell_state.specs.Moves.{CanGoDown, AreRowsBelow, AreRowsOfBranch, IsPathUp, IsOnTheWay, AreOnTheWay, is_on_branch}
 use Rattle.cell_state.proofs.moving.go_down.Given as goal
 
 -- The rows are those of the branch of the lower place, and the higher one is below those that were gone down from. What was taken back, with
@@ -20,14 +20,14 @@ invariant-down g l = record {
   up_to : (i place : ℕ) → slice_get l.up.items i ≡ Some place → place ≤ l.to;
   lower : l.low ≤ l.from;
   higher : l.high ≤ l.to;
-  below : (end : ℕ) → l.from < end → AreBelow end (rows l.fn.state) → AreBelow end (rows l.state);
+  below : (end : ℕ) → l.from < end → AreRowsBelow end (rows l.fn.state) → AreRowsBelow end (rows l.state);
   within : (i place : ℕ) → slice_get l.up.items i ≡ Some place → place < length l.tree.entries;
   path : (kept : List Block) → IndexesBlocks kept l.tree.entries → IsPathUp kept l.to l.up.items l.high;
   way : (kept : List Block) → IndexesBlocks kept l.tree.entries → (place : ℕ) → IsOnTheWay kept l.low l.high place → IsOnTheWay kept l.from l.to place;
   down : (kept : List Block) → IndexesBlocks kept l.tree.entries → (place : ℕ) → is_on_branch kept l.low place ≡ true → is_on_branch kept l.from place ≡ true;
   on_way : (kept : List Block) → IndexesBlocks kept l.tree.entries → AreOnTheWay kept l.from l.to l.up.items;
   rows : (stored : List Stored) → g.B.Blocks.told l.fn.blocks ≡ Some stored → IndexesBlocks (blocks_of stored) l.tree.entries → CanGoDown stored l.from l.to
-      → AreOf (blocks_of stored) l.from (rows l.fn.state) → AreOf (blocks_of stored) l.low (rows l.state);
+      → AreRowsOfBranch (blocks_of stored) l.from (rows l.fn.state) → AreRowsOfBranch (blocks_of stored) l.low (rows l.state);
   steps : (kept : List Block) → IndexesBlocks kept l.tree.entries
       → l.steps + length l.up.items + distance kept l.low l.high ≡ l.fn.steps + distance kept l.from l.to;
 }

@@ -17,10 +17,10 @@ hash_there transactions j transaction hash there is = slice_get-map transaction_
 pub returns-then-not-branch : goal.returns-then-not-branch
 returns-then-not-branch c =
     let transactions : List Transaction = c.args.block.now.transactions in
-    let hash = c.hash_of-hash.result in
+    let hash = c.transaction_hash-hash.result in
     let keeps = c.later.invariant in
     let next : c.later.i - 1 + 1 ≡ c.later.i = omega (arith, c.later-test.true) in
-    let there = hash_there transactions (c.later.i - 1) c.transactions_item.result hash c.transactions_item.ensures c.hash_of-hash.ensures in
+    let there = hash_there transactions (c.later.i - 1) c.transactions_item.result hash c.transactions_item.ensures c.transaction_hash-hash.ensures in
     let old : contains bytes_eq c.later.seen hash ≡ true = not-false (contains bytes_eq c.later.seen hash) (search rules) in
     sym (and_right (ltb 0 (length transactions)) (are_distinct (map transaction_hash transactions))
     (distinct_twice (map transaction_hash transactions) (c.later.i - 1) c.later.i hash next there (sym (keeps.2 hash) ∙ old)))
@@ -28,10 +28,10 @@ returns-then-not-branch c =
 pub later-preserved : goal.later-preserved
 later-preserved c =
     let transactions : List Transaction = c.args.block.now.transactions in
-    let hash = c.hash_of-hash.result in
+    let hash = c.transaction_hash-hash.result in
     let keeps = c.later.invariant in
     let next : c.later.i - 1 + 1 ≡ c.later.i = omega (arith, c.later-test.true) in
-    let there = hash_there transactions (c.later.i - 1) c.transactions_item.result hash c.transactions_item.ensures c.hash_of-hash.ensures in
+    let there = hash_there transactions (c.later.i - 1) c.transactions_item.result hash c.transactions_item.ensures c.transaction_hash-hash.ensures in
     let new : contains bytes_eq c.later.seen hash ≡ false = not-true (contains bytes_eq c.later.seen hash) (search rules) in
     let updates = c.in_ok-insert.ensures.updates in (
       omega (arith, keeps.0),

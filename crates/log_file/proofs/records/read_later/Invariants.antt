@@ -4,7 +4,7 @@ use Rattle.outside.specs.Disk.{IsAsBefore}
 use Rattle.chain_defs.specs.Kept.{kept_limit}
 use Rattle.chain_defs.specs.Specification.{Specification}
 use Rattle.log_file.specs.Grammar.{AreBlocks, read_with, edition_room}
-use Rattle.log_file.specs.Opening.{HasRead}
+use Rattle.log_file.specs.Opening.{HasReadLog}
 use Rattle.log_file.proofs.records.read_later.Given as goal
 
 abbrev pub decreases-records : goal.decreases-records
@@ -17,6 +17,6 @@ invariant-records g l = record {
   place : l.initial.reader.at + 14 ≤ 2 ^ 33 * (length (g.V.Visitor.visited l.initial.visitor) + 1) → l.reader.at + edition_room l.edition ≤ 2 ^ 33 * (length (g.V.Visitor.visited l.visitor) + 1);
   blocks : AreBlocks (g.V.Visitor.visited l.visitor) l.tree.entries;
   told : (spec : Specification) → IfSome (g.D.Disk.reads_as l.initial.disk) (λ image.
-      HasRead image.log spec l.initial.reader (read_with (g.V.Visitor.visited l.initial.visitor) l.initial.tree.entries None)
-      → HasRead image.log spec l.reader (read_with (g.V.Visitor.visited l.visitor) l.tree.entries l.edition));
+      HasReadLog image.log spec l.initial.reader (read_with (g.V.Visitor.visited l.initial.visitor) l.initial.tree.entries None)
+      → HasReadLog image.log spec l.reader (read_with (g.V.Visitor.visited l.visitor) l.tree.entries l.edition));
 }

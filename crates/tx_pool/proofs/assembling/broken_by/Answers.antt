@@ -15,28 +15,28 @@ use Rattle.tx_pool.proofs.assembling.broken_by.Goals as goal
 
 pub returns-then-is_some-clause-broken : goal.returns-then-is_some-clause-broken
 returns-then-is_some-clause-broken g c stored tells stands =
-    breaks-2 _ _ (known-as (blocks_of stored) c.args.block.now c.hash_of.result c.find.result true
-    (c.find.ensures.of_blocks (blocks_of stored) stands.stands.indexed) c.hash_of.ensures (sym c.is_some.ensures ∙ c.if-is_some.true))
+    breaks-2 _ _ (known-as (blocks_of stored) c.args.block.now c.block_hash.result c.find.result true
+    (c.find.ensures.of_blocks (blocks_of stored) stands.stands.indexed) c.block_hash.ensures (sym c.is_some.ensures ∙ c.if-is_some.true))
 
 pub returns-in-Err-Broken-clause-broken : goal.returns-in-Err-Broken-clause-broken
 returns-in-Err-Broken-clause-broken g c stored tells stands =
-    after-2 _ _ _ (known-as (blocks_of stored) c.args.block.now c.hash_of.result c.find.result false
-    (c.find.ensures.of_blocks (blocks_of stored) stands.stands.indexed) c.hash_of.ensures (sym c.is_some.ensures ∙ c.if-is_some.false))
+    after-2 _ _ _ (known-as (blocks_of stored) c.args.block.now c.block_hash.result c.find.result false
+    (c.find.ensures.of_blocks (blocks_of stored) stands.stands.indexed) c.block_hash.ensures (sym c.is_some.ensures ∙ c.if-is_some.false))
     (ap Some (c.number.ensures ∙ ap rule_number c.in-Err-Broken.rule-is)
     ∙ sym (first-at-sight c.args.context.now.spec.now (branch (blocks_of stored) c.args.context.now.parent) c.args.block.now (rule_number c.in-Err-Broken.rule)
     (c.in-Err-Broken.ensures.broken (blocks_of stored) stands.stands.indexed stands.uncles c.in-Err-Broken.rule (ap Err c.in-Err-Broken.field-0-is))))
 
 pub returns-in-Ok-judge-clause-broken : goal.returns-in-Ok-judge-clause-broken
 returns-in-Ok-judge-clause-broken g c stored tells stands =
-    after-2 _ _ _ (known-as (blocks_of stored) c.args.block.now c.hash_of.result c.find.result false
-    (c.find.ensures.of_blocks (blocks_of stored) stands.stands.indexed) c.hash_of.ensures (sym c.is_some.ensures ∙ c.if-is_some.false))
+    after-2 _ _ _ (known-as (blocks_of stored) c.args.block.now c.block_hash.result c.find.result false
+    (c.find.ensures.of_blocks (blocks_of stored) stands.stands.indexed) c.block_hash.ensures (sym c.is_some.ensures ∙ c.if-is_some.false))
     (sym (block-passes-by c.args.context.now.spec.now (blocks_of stored) c.args.context.now.parent c.args.block.now _
     ((c.in-Ok-judge.ensures.exact stored tells stands).all (c.in-Ok.ensures.unbroken (blocks_of stored) stands.stands.indexed stands.uncles))).0)
 
 pub returns-in-Err-Broken-judge-clause-broken : goal.returns-in-Err-Broken-judge-clause-broken
 returns-in-Err-Broken-judge-clause-broken g c stored tells stands =
-    after-2 _ _ _ (known-as (blocks_of stored) c.args.block.now c.hash_of.result c.find.result false
-    (c.find.ensures.of_blocks (blocks_of stored) stands.stands.indexed) c.hash_of.ensures (sym c.is_some.ensures ∙ c.if-is_some.false))
+    after-2 _ _ _ (known-as (blocks_of stored) c.args.block.now c.block_hash.result c.find.result false
+    (c.find.ensures.of_blocks (blocks_of stored) stands.stands.indexed) c.block_hash.ensures (sym c.is_some.ensures ∙ c.if-is_some.false))
     (ap Some (c.number-in-Err-Broken-judge.ensures ∙ ap rule_number c.in-Err-Broken-judge.rule-is)
     ∙ sym (block-breaks-first c.args.context.now.spec.now (blocks_of stored) c.args.context.now.parent c.args.block.now (rule_number c.in-Err-Broken-judge.rule)
     (subst (StopsAs (judged_block c.args.context.now.spec.now (blocks_of stored) c.args.context.now.parent c.args.block.now))

@@ -1,5 +1,5 @@
 use Rattle.std.proofs.Common.{◌≡◌, ℕ, ◌+◌, ◌-◌, ◌<◌, length, sym, ap, ◌∙◌, subst, arith}
-use Rattle.chain_defs.specs.Shape.{IsA}
+use Rattle.chain_defs.specs.Shape.{IsEncoding}
 use Rattle.chain_defs.specs.Schema.{Transaction, transaction}
 use Rattle.chain_defs.specs.Specification.{Specification}
 use Rattle.chain_defs.specs.Branch.{branch}
@@ -16,7 +16,7 @@ returns-then-height-delay-clause-cellbase g c stored tells indexes own =
     let long = branch-long (blocks_of stored) c.args.tree.now.entries c.args.parent c.entry.result.now indexes c.entry.ensures.entry in
     let far : c.spec.inside.w_far ≡ c.args.spec.now.w_far = ap (λ (spec : Specification). spec.w_far) c.spec.view_is in
     of-value c.alone.result
-    (λ bytes is. subst (λ (t : Transaction). IsA transaction bytes.items t) (cellbase-early c.args.spec.now (branch (blocks_of stored) c.args.parent) (c.entry.result.now.number + 1) c.args.witness.now long
+    (λ bytes is. subst (λ (t : Transaction). IsEncoding transaction bytes.items t) (cellbase-early c.args.spec.now (branch (blocks_of stored) c.args.parent) (c.entry.result.now.number + 1) c.args.witness.now long
     (omega (arith, long, far, c.if-height-delay.true, c.from-delay.ensures))) is) c.alone.ensures.cellbase
 
 pub returns-in-Ok-Some-clause-cellbase : goal.returns-in-Ok-Some-clause-cellbase
@@ -27,7 +27,7 @@ returns-in-Ok-Some-clause-cellbase g c stored tells indexes own =
     let late : c.args.spec.now.w_far + 1 < length (branch (blocks_of stored) c.args.parent) = omega (arith, long, far, c.if-height-delay.false, c.from-delay.ensures) in
     let at : target ≡ length (branch (blocks_of stored) c.args.parent) - (c.args.spec.now.w_far + 1) = omega (arith, long, far, c.from-delay.ensures) in
     of-value c.cellbase_at.result
-    (λ bytes is. subst (λ (t : Transaction). IsA transaction bytes.items t)
+    (λ bytes is. subst (λ (t : Transaction). IsEncoding transaction bytes.items t)
     (cellbase-found c.args.spec.now (branch (blocks_of stored) c.args.parent) (c.entry.result.now.number + 1) target c.in-Ok-Some.reward _ c.args.witness.now long late at
     (sym c.in-Ok-Some.field-0-is ∙ c.in-Ok-Some.ensures.reward stored tells indexes own)
     (block-up (blocks_of stored) c.args.tree.now.entries c.args.parent target c.ancestor.result indexes c.requires.placed.parent (c.ancestor.ensures.of_blocks (blocks_of stored) indexes))) is)
@@ -39,7 +39,7 @@ returns-in-Ok-None-clause-cellbase g c stored tells indexes own =
     let far : c.spec.inside.w_far ≡ c.args.spec.now.w_far = ap (λ (spec : Specification). spec.w_far) c.spec.view_is in
     let target : ℕ = c.entry.result.now.number + 1 - (c.from-delay.result + 1) in
     of-value c.alone-in-Ok-None.result
-    (λ bytes is. subst (λ (t : Transaction). IsA transaction bytes.items t)
+    (λ bytes is. subst (λ (t : Transaction). IsEncoding transaction bytes.items t)
     (cellbase-none c.args.spec.now (branch (blocks_of stored) c.args.parent) (c.entry.result.now.number + 1) target c.args.witness.now long
     (omega (arith, long, far, c.if-height-delay.false, c.from-delay.ensures)) (omega (arith, long, far, c.from-delay.ensures))
     (sym c.in-Ok-None.field-0-is ∙ c.in-Ok-None.ensures.reward stored tells indexes own)) is) c.alone-in-Ok-None.ensures.cellbase

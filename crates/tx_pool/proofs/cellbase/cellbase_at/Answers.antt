@@ -1,5 +1,5 @@
 use Rattle.std.proofs.Common.{◌≡◌, ◌<◌, length, Option, Some, sym, ◌∙◌, subst, arith}
-use Rattle.chain_defs.specs.Shape.{IsA}
+use Rattle.chain_defs.specs.Shape.{IsEncoding}
 use Rattle.chain_defs.specs.Schema.{Block, transaction}
 use Rattle.chain_defs.specs.Kept.{block_at}
 use Rattle.chain_tree.specs.Told.{blocks_of}
@@ -14,5 +14,5 @@ returns-in-Ok-cellbase_for-clause-cellbase g c stored tells =
     let within : c.args.place < length stored = omega (arith, c.requires.within, all) in
     let here : block_at (blocks_of stored) c.args.place ≡ Some c.block.result =
     block-brought stored c.args.place c.block.result _ _ (c.in-Ok.ensures.read.told ∙ tells) c.in-Ok.ensures.taken within c.block.ensures in
-    subst (λ (paid : Option Block). IsA transaction c.in-Ok-cellbase_for.bytes.items (cellbase_with c.args.height (owed_outputs (owed_to (lock_of paid) c.args.reward)) c.args.witness.now))
+    subst (λ (paid : Option Block). IsEncoding transaction c.in-Ok-cellbase_for.bytes.items (cellbase_with c.args.height (owed_outputs (owed_to (lock_of paid) c.args.reward)) c.args.witness.now))
     (sym here) c.in-Ok-cellbase_for.ensures.cellbase

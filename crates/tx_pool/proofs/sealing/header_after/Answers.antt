@@ -1,5 +1,5 @@
 use Rattle.std.proofs.Common.{◌+◌, ap, ◌∙◌, subst}
-use Rattle.chain_defs.specs.Shape.{IsA}
+use Rattle.chain_defs.specs.Shape.{IsEncoding}
 use Rattle.chain_defs.specs.Schema.{Header, header}
 use Rattle.chain_defs.specs.Specification.{Specification}
 use Rattle.chain_defs.specs.Branch.{branch}
@@ -20,7 +20,7 @@ returns-clause-header c kept indexes =
     (branch kept c.args.parent) c.field-epoch.ensures.value c.epoch_of.ensures.number c.epoch_of.ensures.index c.epoch_of.ensures.length
     (ap (λ (spec : Specification). spec.epoch_length) c.spec.view_is) high in
     of-value c.header_row.result
-    (λ row is. subst (λ (h : Header). IsA header row.items h)
+    (λ row is. subst (λ (h : Header). IsEncoding header row.items h)
     (header-same c.args.spec.now kept c.args.tree.now.entries c.args.parent c.entry-before.result.now c.args.commitments.now c.spec.inside.compact_target
     c.timestamp_on-timestamp.result (c.entry-before.result.now.number + 1) c.field-epoch.result indexes there (ap (λ (spec : Specification). spec.compact_target) c.spec.view_is)
     (c.timestamp_on-timestamp.ensures kept indexes) high epoch) is)

@@ -1,7 +1,7 @@
 use Rattle.std.proofs.Common.{◌≡◌, List, ℕ, replicate, refl, ◌∙◌, subst}
 use Rattle.std.specs.Int.{w128}
 use Rattle.std.proofs.lemmas.Int.{to_z-of_z}
-use Rattle.chain_defs.specs.Shape.{IsA}
+use Rattle.chain_defs.specs.Shape.{IsEncoding}
 use Rattle.chain_defs.specs.Schema.{Block, header, block}
 use Rattle.chain_defs.specs.Branch.{branch}
 use Rattle.pool_rows.specs.declared.header.Commitments.{Commitments}
@@ -32,6 +32,6 @@ returns-clause-sealed g c kept b indexes fills moved =
     (moved-as c.args.context.now.spec.now on b c.from_encoding-block.result c.args.interest _ c.args.freed (to_z-of_z w128 c.args.interest c.ranges.interest) same moved) in
     let second = seen-as header _ c.deref-3.result.now _ c.deref-3.ensures.value (c.in_ok-header-2.ensures.header kept indexes) in
     of-value c.block_row-2.result
-    (λ bytes is. subst (λ (it : Block). IsA block bytes.items it)
+    (λ bytes is. subst (λ (it : Block). IsEncoding block bytes.items it)
     (sealed-same c.args.context.now.spec.now on b c.args.transactions.now c.args.ids.now fills c.from_encoding-block.result _ same commits) is)
     (c.block_row-2.ensures _ second)

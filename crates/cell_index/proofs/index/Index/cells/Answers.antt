@@ -8,7 +8,7 @@ use Rattle.std.proofs.lemmas.Map.Iter.{iter_end}
 use Rattle.chain_defs.specs.Schema.{OutPoint}
 use Rattle.cell_defs.specs.Row.{Row}
 use Rattle.cell_defs.specs.ByLock.{IsByLock}
-use Rattle.cell_index.specs.Index.{Key, IndexValue, StandsFor, key_cmp}
+use Rattle.cell_index.specs.Index.{Key, IndexValue, IndexesBranch, key_cmp}
 use Rattle.cell_index.proofs.ListedLemmas.{row_by, least_of, range-forward, range-listed, lists-cells}
 use Rattle.cell_index.proofs.index.Index.cells.Goals as goal
 
@@ -28,4 +28,4 @@ returns c kept place stands =
     ∙ range-listed entries lock c.self.invariant.own in
     subst (λ (l : List (OutPoint × Row)). IsByLock kept place lock l) (sym (c.cells.invariant ∙ ap (map row_by) whole ∙ shown))
     (lists-cells kept place (record { entries = entries; totals = c.self.inside.totals.entries }) lock c.self.invariant.ordered
-    (subst (λ (v : IndexValue). StandsFor kept place v) (sym c.self.view_is) stands))
+    (subst (λ (v : IndexValue). IndexesBranch kept place v) (sym c.self.view_is) stands))

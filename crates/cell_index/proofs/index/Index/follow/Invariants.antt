@@ -5,7 +5,7 @@ use Rattle.chain_tree.specs.Blocks.{IndexesBlocks}
 use Rattle.chain_tree.specs.Told.{Stored, blocks_of}
 use Rattle.chain_tree.specs.Reading.{HasRead}
 use Rattle.cell_state.proofs.PathLemmas.{height_after}
-use Rattle.cell_index.specs.Index.{StandsFor}
+use Rattle.cell_index.specs.Index.{IndexesBranch}
 use Rattle.cell_index.specs.Follow.{CanBeFollowed}
 use Rattle.cell_index.proofs.index.Index.follow.Given as goal
 
@@ -15,7 +15,7 @@ invariant-up g l = record {
   read : HasRead g.B.Blocks.told g.B.Blocks.count g.B.Blocks.loans_of g.B.Blocks.faults g.B.Blocks.damages l.fn.blocks l.blocks None;
   most : l.i ≤ length l.up.items;
   stands : (stored : List Stored) → g.B.Blocks.told l.fn.blocks ≡ Some stored → IndexesBlocks (blocks_of stored) l.tree.entries → CanBeFollowed stored l.from l.to
-      → StandsFor (blocks_of stored) l.from l.fn.self → (place : ℕ)
+      → IndexesBranch (blocks_of stored) l.from l.fn.self → (place : ℕ)
       → slice_get (branch_places (blocks_of stored) l.to) (height_after (blocks_of stored) l.to l.up.items l.i) ≡ Some place
-      → StandsFor (blocks_of stored) place l.index;
+      → IndexesBranch (blocks_of stored) place l.index;
 }

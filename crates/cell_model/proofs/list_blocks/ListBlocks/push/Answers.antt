@@ -2,14 +2,14 @@ use Rattle.std.proofs.Common.{◌≡◌, ◌++◌, ◌∷◌, [], List, Vec, Glo
 use Rattle.std.proofs.lemmas.List.{length_push}
 use Rattle.chain_defs.specs.Shape.{decoded}
 use Rattle.chain_defs.specs.Schema.{block}
-use Rattle.chain_defs.proofs.ShapeLaws.{IsA-decoded}
+use Rattle.chain_defs.proofs.ShapeLaws.{IsEncoding-decoded}
 use Rattle.cell_model.specs.ListBlocks.{ListBlocksValue, contents, stored_from, ids_of}
 use Rattle.cell_model.proofs.ListLemmas.{as_many, canonical-decoded, hand-more, seen-push, kept_more, ids_more}
 use Rattle.cell_model.proofs.list_blocks.ListBlocks.push.Goals as goal
 use Rattle.cell_model.proofs.list_blocks.ListBlocks.push.Goals.{After-push_reserved-2}
 
 pub from_encoding-requires : goal.from_encoding-requires
-from_encoding-requires c = (_, IsA-decoded block c.deref.result.now _ (ap (decoded block) c.deref.ensures.value ∙ canonical-decoded c.args.block.items c.requires.canonical))
+from_encoding-requires c = (_, IsEncoding-decoded block c.deref.result.now _ (ap (decoded block) c.deref.ensures.value ∙ canonical-decoded c.args.block.items c.requires.canonical))
 
 blocks-more : (c : After-push_reserved-2) → c.push_reserved.new.self.items ≡ c.self.inside.blocks.items ++ c.args.block ∷ []
 blocks-more c = c.push_reserved.ensures.items ∙ ap (λ (l : List (Vec ℕ Global)). l ++ c.args.block ∷ []) c.in_ok-reserve-2.ensures.items
@@ -24,7 +24,7 @@ pub invariant_of-self-2 : goal.invariant_of-self-2
 invariant_of-self-2 c =
     let here = c.self.inside in
     let view_is : c.from_encoding.result ≡ block.decoding c.args.block.items =
-    c.from_encoding.ensures _ (IsA-decoded block c.deref.result.now _ (ap (decoded block) c.deref.ensures.value ∙ canonical-decoded c.args.block.items c.requires.canonical)) in (
+    c.from_encoding.ensures _ (IsEncoding-decoded block c.deref.result.now _ (ap (decoded block) c.deref.ensures.value ∙ canonical-decoded c.args.block.items c.requires.canonical)) in (
       kept_more
           here.blocks.items
           here.exts.items

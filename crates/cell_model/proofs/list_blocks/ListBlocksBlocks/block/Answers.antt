@@ -1,6 +1,6 @@
 use Rattle.std.proofs.Common.{◌≡◌, ◌<◌, ℕ, Some, length, ap, sym, ◌∙◌, arith, rules}
 use Rattle.chain_defs.specs.Schema.{block}
-use Rattle.chain_defs.proofs.ShapeLaws.{IsA-decoded}
+use Rattle.chain_defs.proofs.ShapeLaws.{IsEncoding-decoded}
 use Rattle.chain_tree.specs.Told.{Stored}
 use Rattle.cell_model.specs.ListBlocks.{ListBlocksValue}
 use Rattle.cell_model.proofs.ListLemmas.{as_many, read_at, entry_at, by_hand, canonical_at}
@@ -13,7 +13,7 @@ from_encoding-requires c =
     let within : e < length here.blocks.items = search rules in
     let encoded = canonical_at here.blocks.items here.exts.items e c.deref.result.now c.self.invariant.0 within
     (c.deref.ensures.value ∙ read_at here.blocks.items e c.index.result.now within c.index.ensures) in
-    (_, IsA-decoded block c.deref.result.now _ encoded)
+    (_, IsEncoding-decoded block c.deref.result.now _ encoded)
 
 pub returns : goal.returns
 returns c =
@@ -34,4 +34,4 @@ returns c =
     hand
     (omega (arith, within, as_many here.blocks.items here.exts.items it.stored kept stored))
     (entry_at here.blocks.items here.exts.items it.stored e kept stored within)
-    (c.from_encoding.ensures _ (IsA-decoded block c.deref.result.now _ encoded))
+    (c.from_encoding.ensures _ (IsEncoding-decoded block c.deref.result.now _ encoded))

@@ -6,7 +6,7 @@ use Rattle.chain_tree.specs.Reading.{HasRead}
 use Rattle.block_judge.specs.Progress.{AreProposed}
 use Rattle.block_judge.specs.Standing.{seen}
 use Rattle.pool_defs.specs.Assembly as pool
-use Rattle.tx_pool.specs.Draft.{Fits, IsSoFar, draft_of}
+use Rattle.tx_pool.specs.Draft.{Fits, IsDraftSoFar, draft_of}
 use Rattle.tx_pool.proofs.draft.Draft.take_items.Given as goal
 
 -- the draft is what the items so far came to, with a line for each; the source of blocks was read to a good end
@@ -18,8 +18,8 @@ invariant-items g l = record {
   within : l.i ≤ length l.items;
   taken : (stored : List Stored) (so_far : pool.Assembly) → g.B.Blocks.told l.fn.blocks ≡ Some stored
       → AreProposed l.context.spec.now (branch (blocks_of stored) l.context.parent) l.proposed
-      → IsSoFar stored (seen g.C.Cells.rows l.context) so_far (draft_of g.C.Cells.rows l.fn.self)
-      → IsSoFar stored (seen g.C.Cells.rows l.context)
+      → IsDraftSoFar stored (seen g.C.Cells.rows l.context) so_far (draft_of g.C.Cells.rows l.fn.self)
+      → IsDraftSoFar stored (seen g.C.Cells.rows l.context)
       (keep (pool.take_item l.context.spec.now (branch (blocks_of stored) l.context.parent)) so_far (map (λ item. item.items) (take l.i l.items)))
       (draft_of g.C.Cells.rows l.self);
 }
