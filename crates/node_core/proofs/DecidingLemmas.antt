@@ -44,8 +44,8 @@ use Rattle.store_defs.proofs.TypedLaws.{typed-cells-hold-their-own}
 use Rattle.node_store.specs.declared.decision.Joining.{Joining}
 use Rattle.node_store.specs.declared.decision.Decision.{Decision}
 use Rattle.node_store.specs.declared.decision.Decision.TheVariants.{Joins, Stays}
-use Rattle.cell_state.specs.Moves.{AreOf}
-use Rattle.node_store.specs.Kept.{KeptValue, kept_of, AreKept, AreOfTip}
+use Rattle.cell_state.specs.Moves.{AreRowsOfBranch}
+use Rattle.node_store.specs.Kept.{KeptValue, kept_of, AreKept, AreRowsOfTip}
 use Rattle.node_core.proofs.OwnLemmas.{have-own-fees}
 use Rattle.node_core.proofs.SightLemmas.{header-at-sight, wants-passed}
 use Rattle.node_store.specs.Judging.{IsEntryOn, HasPassed, IsJudged, IsDecidedBlock, IsDecided, MayBeKept, IsReadyBlock, IsReadyItem}
@@ -70,14 +70,14 @@ stands-on spec stored entries parent found joined indexed below live = record {
 
 -- those of the tip
 pub stands-tip : (spec : Specification) (stored : List Stored) (entries : List Entry) (index : UnclesValue) (found : OutPoint → Option Row) (tip : ℕ)
-    → AreKept stored entries index → AreOfTip (blocks_of stored) found → IsJoined (record { spec = spec; blocks = blocks_of stored })
+    → AreKept stored entries index → AreRowsOfTip (blocks_of stored) found → IsJoined (record { spec = spec; blocks = blocks_of stored })
     → tip_place (blocks_of stored) ≡ Some tip → tip < length entries → Stands stored entries tip found
 stands-tip spec stored entries index found tip are live joined is below = stands-on spec stored entries tip found joined are.indexed below (live tip is)
 
 -- all that a block is judged over, where the rows are those of its parent's branch
 pub whole-at-hand : (spec : Specification) (stored : List Stored) (entries : List Entry) (index : UnclesValue) (state : StateValue) (kept : KeptValue) (b : Block)
     (entry : Entry) → kept_of spec stored entries ≡ kept → AreKept stored entries index → IsEntryOn kept.chain.blocks b entry → AreJoined kept.chain kept.exts
-    → AreOf kept.chain.blocks entry.parent (rows state) → StandsWhole spec stored entries entry.parent (rows state) index
+    → AreRowsOfBranch kept.chain.blocks entry.parent (rows state) → StandsWhole spec stored entries entry.parent (rows state) index
 whole-at-hand spec stored entries index state kept b entry whole are on joined live =
     let seen : blocks_of stored ≡ kept.chain.blocks = ap (λ (k : KeptValue). k.chain.blocks) whole in
     let before : AreJoined (kept_of spec stored entries).chain (kept_of spec stored entries).exts = subst (λ (k : KeptValue). AreJoined k.chain k.exts) (sym whole) joined in
@@ -85,7 +85,7 @@ whole-at-hand spec stored entries index state kept b entry whole are on joined l
       stands = stands-on spec stored entries entry.parent (rows state) before.joined are.indexed
           (within-entries (blocks_of stored) kept.chain.blocks entries entry.parent seen are.indexed
           (place_of-below kept.chain.blocks b.header.parent_hash entry.parent on.on_kept))
-          (subst (λ (blocks : List Block). AreOf blocks entry.parent (rows state)) (sym seen) live);
+          (subst (λ (blocks : List Block). AreRowsOfBranch blocks entry.parent (rows state)) (sym seen) live);
       uncles = are.uncles;
       fees = have-own-fees spec stored before are.counted;
     }

@@ -9,7 +9,7 @@ ghost use Rattle.block_judge.specs.Stops.{read_stop_of};
 ghost use Rattle.block_judge.specs.declared.stop.JudgeStop.TheVariants.{Broken, Read};
 ghost use Rattle.verdict_defs.specs.Trial.{trial_on};
 ghost use Rattle.verdict_defs.specs.declared.trial.Trial.TheVariants.{Passes, Refused};
-ghost use Rattle.node_store.specs.Node.{IsItsOwn, IsSoundOn, LeavesAll};
+ghost use Rattle.node_store.specs.Node.{IsOwnDiskWhereTold, IsSoundWhereTold, LeavesAll};
 
 use crate::over_disk;
 use block_judge::JudgeStop;
@@ -25,13 +25,13 @@ pub fn check<D: Disk>(
     node: &mut Node,
     tx: &TxView<'_>,
 ) -> Result<(u64, u64), JudgeStop>
-    requires own { IsItsOwn node.old (D.reads_as disk.old) (D.images disk.old) }
+    requires own { IsOwnDiskWhereTold node.old (D.reads_as disk.old) (D.images disk.old) }
     ensures left { LeavesAll D.content_of D.reads_as D.images D.faults disk.old disk.new node.old node.new (read_stop_of result) }
-    ensures passes { IsSoundOn node.old (D.reads_as disk.old)
+    ensures passes { IsSoundWhereTold node.old (D.reads_as disk.old)
         → IfOk result (λ it. trial_on node.old.chain.spec (best_branch node.old.chain.blocks) tx.now ≡ Passes it.0 it.1) }
-    ensures broken { IsSoundOn node.old (D.reads_as disk.old) → (rule : Rule) → result ≡ Err (Broken rule)
+    ensures broken { IsSoundWhereTold node.old (D.reads_as disk.old) → (rule : Rule) → result ≡ Err (Broken rule)
         → trial_on node.old.chain.spec (best_branch node.old.chain.blocks) tx.now ≡ Refused (rule_number rule) }
-    ensures undamaged { IsSoundOn node.old (D.reads_as disk.old) → (damage : Damage) → result ≡ Err (Read (Damaged damage)) → ⊥ }
+    ensures undamaged { IsSoundWhereTold node.old (D.reads_as disk.old) → (damage : Damage) → result ≡ Err (Read (Damaged damage)) → ⊥ }
 {
     over_disk::check(alloc, disk, &mut node.cache, &node.kept, &node.state, tx)
 }

@@ -12,12 +12,12 @@ ghost use Rattle.rule_defs.specs.declared.rule.Rule.{Rule};
 ghost use Rattle.block_judge.specs.declared.stop.JudgeStop.TheVariants.{Broken, Read};
 ghost use Rattle.verdict_defs.specs.Trial.{trial_on};
 ghost use Rattle.verdict_defs.specs.declared.trial.Trial.TheVariants.{Passes, Refused};
-ghost use Rattle.node_store.specs.Steps.{moves_on, moves_of_block};
+ghost use Rattle.node_store.specs.Steps.{moves_on, moves_of_block, moves_until};
 ghost use Rattle.cell_state.specs.State.{rows};
-ghost use Rattle.cell_state.specs.Moves.{AreOf};
+ghost use Rattle.cell_state.specs.Moves.{AreRowsOfBranch};
 ghost use Rattle.chain_tree.specs.Reading.{HasRead, stop_of};
 ghost use Rattle.block_judge.specs.Stops.{read_stop_of};
-ghost use Rattle.node_store.specs.Kept.{HoldsJoined, AreOfFound, AreOfTip, AreOfKept};
+ghost use Rattle.node_store.specs.Kept.{HoldsJoined, AreRowsOfFound, AreRowsOfTip, AreRowsOfKept};
 ghost use Rattle.node_store.specs.Judging.{IsEntryOn, IsOnParent, HasPassed, IsDecidedBlock, IsReadyBlock, WantsMemory, becomes_tip, place_for};
 
 use crate::entry::{entry_on, parent_hash};
@@ -25,11 +25,12 @@ use block_judge::{Context, JudgeStop, NoCells, dry_run, judge, judge_at_sight};
 use cell_state::State;
 use chain_tree::{Blocks, Entry};
 use mol_schema::{BlockView, TxView};
-use node_store::{Decision, Joining, Judging, Kept, hash_of, is_above_tip};
+use node_store::{Decision, Joining, Judging, Kept, is_above_tip};
 use outside::{ReadStop, Steps};
 use std::alloc::Global;
 use std::sync::ledger::Ledger;
 use verdict_defs::Verdict;
+use view_hashes::block_hash;
 
 /// The most kept blocks, genesis included.
 const KEPT_LIMIT: u32 = 1_000_000;
@@ -87,9 +88,9 @@ fn judge_on<B: Blocks>(
     ensures read { HasRead B.told B.count B.loans_of B.faults B.damages blocks.old blocks.new (stop_of result) }
     ensures ready { IfOk result (IsReadyBlock kept.now.chain candidate.now.block.now) }
     ensures on { IfOk result (IsOnParent candidate.now.entry.parent) }
-    ensures decided { HoldsJoined kept.now (B.told blocks.old) → AreOf kept.now.chain.blocks candidate.now.entry.parent (rows state.now)
+    ensures decided { HoldsJoined kept.now (B.told blocks.old) → AreRowsOfBranch kept.now.chain.blocks candidate.now.entry.parent (rows state.now)
         → IfOk result (IsDecidedBlock kept.now.chain candidate.now.block.now) }
-    ensures undamaged { HoldsJoined kept.now (B.told blocks.old) → AreOf kept.now.chain.blocks candidate.now.entry.parent (rows state.now)
+    ensures undamaged { HoldsJoined kept.now (B.told blocks.old) → AreRowsOfBranch kept.now.chain.blocks candidate.now.entry.parent (rows state.now)
         → (damage : Damage) → result ≡ Err (Damaged damage) → ⊥ }
 {
     let block = candidate.block;
@@ -138,14 +139,16 @@ fn decide_on<B: Blocks, L: Ledger>(
     requires counts { B.count blocks.old ≡ length kept.now.chain.blocks }
     ensures read { HasRead B.told B.count B.loans_of B.faults B.damages blocks.old blocks.new (stop_of result) }
     ensures ready { IfOk result (λ it. IsReadyBlock kept.now.chain candidate.now.block.now it.1) }
-    ensures cells { HoldsJoined kept.now (B.told blocks.old) → AreOfTip kept.now.chain.blocks (rows state)
-        → IfOk result (λ it. AreOfFound kept.now.chain.blocks (place_for kept.now.chain.blocks it.1) (rows it.0)) }
-    ensures below { AreOfKept kept.now.chain.blocks (rows state) → IfOk result (λ it. AreOfKept kept.now.chain.blocks (rows it.0)) }
-    ensures decided { HoldsJoined kept.now (B.told blocks.old) → AreOfTip kept.now.chain.blocks (rows state)
+    ensures cells { HoldsJoined kept.now (B.told blocks.old) → AreRowsOfTip kept.now.chain.blocks (rows state)
+        → IfOk result (λ it. AreRowsOfFound kept.now.chain.blocks (place_for kept.now.chain.blocks it.1) (rows it.0)) }
+    ensures below { AreRowsOfKept kept.now.chain.blocks (rows state) → IfOk result (λ it. AreRowsOfKept kept.now.chain.blocks (rows it.0)) }
+    ensures decided { HoldsJoined kept.now (B.told blocks.old) → AreRowsOfTip kept.now.chain.blocks (rows state)
         → IfOk result (λ it. IsDecidedBlock kept.now.chain candidate.now.block.now it.1) }
-    ensures undamaged { HoldsJoined kept.now (B.told blocks.old) → AreOfTip kept.now.chain.blocks (rows state)
+    ensures undamaged { HoldsJoined kept.now (B.told blocks.old) → AreRowsOfTip kept.now.chain.blocks (rows state)
         → (damage : Damage) → result ≡ Err (Damaged damage) → ⊥ }
     ensures asked { result ≡ Err NoMemory → WantsMemory kept.now.chain candidate.now.block.now }
+    ensures exactly { IfOk result (λ it. steps.new ≡ steps.old + moves_until kept.now.chain.blocks
+        (moves_on kept.now.chain candidate.now.block.now (Some candidate.now.entry.parent)) it.1) }
     ensures most { steps.new ≤ steps.old + (moves_on kept.now.chain candidate.now.block.now (Some candidate.now.entry.parent) - 1) }
     ensures sight { moves_on kept.now.chain candidate.now.block.now (Some candidate.now.entry.parent) ≡ 0 → blocks.new ≡ blocks.old }
 {
@@ -196,18 +199,19 @@ fn decide_block<B: Blocks, L: Ledger>(
     requires counts { B.count blocks.old ≡ length kept.now.chain.blocks }
     ensures read { HasRead B.told B.count B.loans_of B.faults B.damages blocks.old blocks.new (stop_of result) }
     ensures ready { IfOk result (λ it. IsReadyBlock kept.now.chain block.now it.1) }
-    ensures cells { HoldsJoined kept.now (B.told blocks.old) → AreOfTip kept.now.chain.blocks (rows state)
-        → IfOk result (λ it. AreOfFound kept.now.chain.blocks (place_for kept.now.chain.blocks it.1) (rows it.0)) }
-    ensures below { AreOfKept kept.now.chain.blocks (rows state) → IfOk result (λ it. AreOfKept kept.now.chain.blocks (rows it.0)) }
-    ensures decided { HoldsJoined kept.now (B.told blocks.old) → AreOfTip kept.now.chain.blocks (rows state)
+    ensures cells { HoldsJoined kept.now (B.told blocks.old) → AreRowsOfTip kept.now.chain.blocks (rows state)
+        → IfOk result (λ it. AreRowsOfFound kept.now.chain.blocks (place_for kept.now.chain.blocks it.1) (rows it.0)) }
+    ensures below { AreRowsOfKept kept.now.chain.blocks (rows state) → IfOk result (λ it. AreRowsOfKept kept.now.chain.blocks (rows it.0)) }
+    ensures decided { HoldsJoined kept.now (B.told blocks.old) → AreRowsOfTip kept.now.chain.blocks (rows state)
         → IfOk result (λ it. IsDecidedBlock kept.now.chain block.now it.1) }
-    ensures undamaged { HoldsJoined kept.now (B.told blocks.old) → AreOfTip kept.now.chain.blocks (rows state)
+    ensures undamaged { HoldsJoined kept.now (B.told blocks.old) → AreRowsOfTip kept.now.chain.blocks (rows state)
         → (damage : Damage) → result ≡ Err (Damaged damage) → ⊥ }
     ensures asked { result ≡ Err NoMemory → WantsMemory kept.now.chain block.now }
+    ensures exactly { IfOk result (λ it. steps.new ≡ steps.old + moves_until kept.now.chain.blocks (moves_of_block kept.now.chain block.now) it.1) }
     ensures most { steps.new ≤ steps.old + (moves_of_block kept.now.chain block.now - 1) }
     ensures sight { moves_of_block kept.now.chain block.now ≡ 0 → blocks.new ≡ blocks.old }
 {
-    let hash = hash_of(block);
+    let hash = block_hash(block);
     if kept.tree.find(&hash).is_some() {
         return Ok((state, Decision::Stays(Verdict::Known(hash))));
     }
@@ -251,10 +255,10 @@ pub(crate) fn check<B: Blocks>(
 ) -> Result<(u64, u64), JudgeStop>
     requires counts { B.count blocks.old ≡ length kept.now.chain.blocks }
     ensures read { HasRead B.told B.count B.loans_of B.faults B.damages blocks.old blocks.new (read_stop_of result) }
-    ensures passes { HoldsJoined kept.now (B.told blocks.old) → AreOfTip kept.now.chain.blocks (rows state.now) → IfOk result (λ it. trial_on kept.now.chain.spec (best_branch kept.now.chain.blocks) tx.now ≡ Passes it.0 it.1) }
-    ensures broken { HoldsJoined kept.now (B.told blocks.old) → AreOfTip kept.now.chain.blocks (rows state.now) → (rule : Rule) → result ≡ Err (Broken rule)
+    ensures passes { HoldsJoined kept.now (B.told blocks.old) → AreRowsOfTip kept.now.chain.blocks (rows state.now) → IfOk result (λ it. trial_on kept.now.chain.spec (best_branch kept.now.chain.blocks) tx.now ≡ Passes it.0 it.1) }
+    ensures broken { HoldsJoined kept.now (B.told blocks.old) → AreRowsOfTip kept.now.chain.blocks (rows state.now) → (rule : Rule) → result ≡ Err (Broken rule)
         → trial_on kept.now.chain.spec (best_branch kept.now.chain.blocks) tx.now ≡ Refused (rule_number rule) }
-    ensures undamaged { HoldsJoined kept.now (B.told blocks.old) → AreOfTip kept.now.chain.blocks (rows state.now) → (damage : Damage) → result ≡ Err (Read (Damaged damage)) → ⊥ }
+    ensures undamaged { HoldsJoined kept.now (B.told blocks.old) → AreRowsOfTip kept.now.chain.blocks (rows state.now) → (damage : Damage) → result ≡ Err (Read (Damaged damage)) → ⊥ }
 {
     let context = Context {
         spec: &kept.spec,

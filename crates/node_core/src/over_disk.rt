@@ -11,8 +11,8 @@ ghost use Rattle.block_judge.specs.declared.stop.JudgeStop.TheVariants.{Broken, 
 ghost use Rattle.verdict_defs.specs.Trial.{trial_on};
 ghost use Rattle.verdict_defs.specs.declared.trial.Trial.TheVariants.{Passes, Refused};
 ghost use Rattle.store_defs.specs.Store.{AreJoined};
-ghost use Rattle.node_store.specs.Node.{IsReadBy, HasOnlyRead};
-ghost use Rattle.node_store.specs.Kept.{AreOfTip};
+ghost use Rattle.node_store.specs.Node.{LogHoldsKept, HasOnlyRead};
+ghost use Rattle.node_store.specs.Kept.{AreRowsOfTip};
 
 use crate::deciding;
 use block_judge::JudgeStop;
@@ -31,13 +31,13 @@ pub(crate) fn check<D: Disk>(
     state: &State,
     tx: &TxView<'_>,
 ) -> Result<(u64, u64), JudgeStop>
-    requires own { IfSome (D.reads_as disk.old) (IsReadBy kept.now cache.old.held) }
+    requires own { IfSome (D.reads_as disk.old) (LogHoldsKept kept.now cache.old.held) }
     ensures looked { HasOnlyRead D.content_of D.reads_as D.faults disk.old disk.new kept.now cache.old cache.new (read_stop_of result) }
-    ensures passes { IsSome (D.reads_as disk.old) → AreJoined kept.now.chain kept.now.exts → AreOfTip kept.now.chain.blocks (rows state.now)
+    ensures passes { IsSome (D.reads_as disk.old) → AreJoined kept.now.chain kept.now.exts → AreRowsOfTip kept.now.chain.blocks (rows state.now)
         → IfOk result (λ it. trial_on kept.now.chain.spec (best_branch kept.now.chain.blocks) tx.now ≡ Passes it.0 it.1) }
-    ensures broken { IsSome (D.reads_as disk.old) → AreJoined kept.now.chain kept.now.exts → AreOfTip kept.now.chain.blocks (rows state.now)
+    ensures broken { IsSome (D.reads_as disk.old) → AreJoined kept.now.chain kept.now.exts → AreRowsOfTip kept.now.chain.blocks (rows state.now)
         → (rule : Rule) → result ≡ Err (Broken rule) → trial_on kept.now.chain.spec (best_branch kept.now.chain.blocks) tx.now ≡ Refused (rule_number rule) }
-    ensures undamaged { IsSome (D.reads_as disk.old) → AreJoined kept.now.chain kept.now.exts → AreOfTip kept.now.chain.blocks (rows state.now)
+    ensures undamaged { IsSome (D.reads_as disk.old) → AreJoined kept.now.chain kept.now.exts → AreRowsOfTip kept.now.chain.blocks (rows state.now)
         → (damage : a_damage) → result ≡ Err (Read (Damaged damage)) → ⊥ }
 {
     let mut store = Store::new(alloc, disk, &kept.tree, cache);

@@ -9,7 +9,7 @@ use Rattle.outside.specs.Image.{Image, with_content}
 use Rattle.outside.specs.declared.disk.Area.TheVariants.{Log}
 use Rattle.chain_defs.specs.Shape.{encoded, decoded}
 use Rattle.chain_defs.specs.Schema.{Block, block}
-use Rattle.chain_defs.proofs.ShapeLaws.{IsA-decoded}
+use Rattle.chain_defs.proofs.ShapeLaws.{IsEncoding-decoded}
 use Rattle.chain_defs.specs.Specification.{Specification}
 use Rattle.cell_defs.specs.Ext.{is_ext}
 use Rattle.cell_state.specs.State.{StateValue}
@@ -19,18 +19,20 @@ use Rattle.chain_tree.specs.Blocks.{IndexesBlocks}
 use Rattle.chain_tree.proofs.BlockLemmas.{len-same}
 use Rattle.disk_defs.specs.Log.{Record, records_of, of_blocks, edition_of, end_of_log}
 use Rattle.disk_defs.specs.LogLaws.{HasFittingBody}
-use Rattle.disk_defs.specs.Rest.{IsSettled}
+use Rattle.disk_defs.specs.Rest.{IsSettled, HasAppended}
 use Rattle.disk_defs.proofs.Contents.{editions_are_kept, blocks_of_more}
 use Rattle.log_file.specs.Pieces.{block_record, Names}
 use Rattle.log_file.specs.Grammar.{record_of}
 use Rattle.log_file.specs.Opening.{NameBodies, kept_records}
 use Rattle.log_file.specs.declared.log.Rec.{Rec}
+use Rattle.snapshots.specs.Writing.{HasAnyArea}
+use Rattle.node_store.proofs.KeepingLemmas.{no-some}
 use Rattle.node_store.specs.Held.{CacheValue, held_at, OnlyAdds, AgreesWith}
 use Rattle.node_store.specs.Stored.{later_record, CanBeKept}
 use Rattle.node_store.proofs.LogLemmas.{follows_the_log, adds_a_record}
 use Rattle.node_store.proofs.AgreeLemmas.{keeps_after_append}
 use Rattle.node_store.specs.Kept.{paired, KeptValue, kept_of, kept_with, stored_of}
-use Rattle.node_store.specs.Node.{NodeValue, node_of, IsReadBy, IsOf, IsItsOwn}
+use Rattle.node_store.specs.Node.{NodeValue, node_of, LogHoldsKept, IsOwnDisk, IsOwnDiskWhereTold}
 
 -- ---- What is kept, with one more
 
@@ -75,7 +77,7 @@ module _ (kept next : KeptValue) (b : Block) (item ext : List ℕ) (entry : Entr
   one_more = record { block = b; ext = ext }
 
   bytes_are : item ≡ encoded block b
-  bytes_are = (IsA-decoded block item b canonical).encoding
+  bytes_are = (IsEncoding-decoded block item b canonical).encoding
 
   record_is : block_record item ext ≡ later_record one_more
   record_is = ap (λ (bytes : List ℕ). block_record bytes ext) bytes_are
@@ -94,7 +96,7 @@ module _ (kept next : KeptValue) (b : Block) (item ext : List ℕ) (entry : Entr
       ap (λ (r : Record). kept_records (stored_of kept) ++ r ∷ []) record_is
       ∙ sym (adds_a_record (stored_of kept) one_more stored_some).0 ∙ ap kept_records (sym stored_is)
 
-  module _ (image now : Image) (read : IsReadBy kept cache.held image) (ends : end_of_log image.log ≡ place)
+  module _ (image now : Image) (read : LogHoldsKept kept cache.held image) (ends : end_of_log image.log ≡ place)
       (holds : records_of (drop 8 now.log) ≡ (record_of 1 read.specification ∷ read.records) ++ block_record item ext ∷ []) where
     keeps_next : of_blocks (read.records ++ block_record item ext ∷ []) ≡ kept_records (stored_of next)
     keeps_next =
@@ -124,7 +126,7 @@ module _ (kept next : KeptValue) (b : Block) (item ext : List ℕ) (entry : Entr
         (subst (λ (n : ℕ). OnlyAdds n one_more cache.held later.held) (sym stored_many) adds))
 
     -- LOG has what is kept then
-    read_next : IsReadBy next later.held now
+    read_next : LogHoldsKept next later.held now
     read_next = record {
       specification = read.specification;
       records = read.records ++ block_record item ext ∷ [];
@@ -137,11 +139,11 @@ module _ (kept next : KeptValue) (b : Block) (item ext : List ℕ) (entry : Entr
 
   module _ (cells cells1 : StateValue) (end : ℕ) (reads reads1 : Option Image) (images images1 : Image → Type 0)
       (after : (records : List Record) → IsSettled place records reads images → IsSettled end (records ++ block_record item ext ∷ []) reads1 images1) where
-    settled_then : (of : IsOf (node_of kept place cells cache) reads images)
+    settled_then : (of : IsOwnDisk (node_of kept place cells cache) reads images)
         → IsSettled end ((record_of 1 of.read.specification ∷ of.read.records) ++ block_record item ext ∷ []) reads1 images1
     settled_then of = after (record_of 1 of.read.specification ∷ of.read.records) of.settled
 
-    of_next : IsOf (node_of kept place cells cache) reads images → IsOf (node_of next end cells1 later) reads1 images1
+    of_next : IsOwnDisk (node_of kept place cells cache) reads images → IsOwnDisk (node_of next end cells1 later) reads1 images1
     unfolding read_next
     of_next of =
         let then = settled_then of in
@@ -152,29 +154,38 @@ module _ (kept next : KeptValue) (b : Block) (item ext : List ℕ) (entry : Entr
           settled = then;
         }
       where
-        ends_there : (there : IsOf (node_of kept place cells cache) reads images) → end_of_log there.now.log ≡ place
+        ends_there : (there : IsOwnDisk (node_of kept place cells cache) reads images) → end_of_log there.now.log ≡ place
         ends_there there =
             subst (λ (image : Image). end_of_log image.log ≡ place) (same_Some there.settled.now there.now (sym there.settled.told ∙ there.told))
             there.settled.rest.ends
 
     -- so the disk is its own then
-    pub own_next : IsItsOwn (node_of kept place cells cache) reads images → OthersRead Log reads reads1 → IsItsOwn (node_of next end cells1 later) reads1 images1
+    pub own_next : IsOwnDiskWhereTold (node_of kept place cells cache) reads images → OthersRead Log reads reads1 → IsOwnDiskWhereTold (node_of next end cells1 later) reads1 images1
     own_next own others = by_read reads refl
       where
-        by_read : (found : Option Image) → reads ≡ found → IsItsOwn (node_of next end cells1 later) reads1 images1
+        by_read : (found : Option Image) → reads ≡ found → IsOwnDiskWhereTold (node_of next end cells1 later) reads1 images1
         by_read None none =
-            subst (λ (o : Option Image). IsItsOwn (node_of next end cells1 later) o images1) (sym (others.1 ∙ ap (option_map (with_content Log others.0)) none)) tt
+            subst (λ (o : Option Image). IsOwnDiskWhereTold (node_of next end cells1 later) o images1) (sym (others.1 ∙ ap (option_map (with_content Log others.0)) none)) tt
         by_read (Some image) told =
-            let of = of_next (subst (λ (o : Option Image). IfSome o (λ _. IsOf (node_of kept place cells cache) reads images)) told own) in
-            subst (λ (o : Option Image). IfSome o (λ _. IsOf (node_of next end cells1 later) reads1 images1)) (sym of.told) of
+            let of = of_next (subst (λ (o : Option Image). IfSome o (λ _. IsOwnDisk (node_of kept place cells cache) reads images)) told own) in
+            subst (λ (o : Option Image). IfSome o (λ _. IsOwnDisk (node_of next end cells1 later) reads1 images1)) (sym of.told) of
 
 -- what a disk has of a node where it tells
-pub of_told : (node : NodeValue) (reads : Option Image) (images : Image → Type 0) (image : Image) → reads ≡ Some image → IsItsOwn node reads images
-    → IsOf node reads images
-of_told node reads images image told own = subst (λ (o : Option Image). IfSome o (λ _. IsOf node reads images)) told own
+pub of_told : (node : NodeValue) (reads : Option Image) (images : Image → Type 0) (image : Image) → reads ≡ Some image → IsOwnDiskWhereTold node reads images
+    → IsOwnDisk node reads images
+of_told node reads images image told own = subst (λ (o : Option Image). IfSome o (λ _. IsOwnDisk node reads images)) told own
+
+pub of_some : (node : NodeValue) (reads : Option Image) (images : Image → Type 0) → IsSome reads → IsOwnDiskWhereTold node reads images → IsOwnDisk node reads images
+of_some node None images told own = absurd (no-some told)
+of_some node (Some image) images told own = own
+
+-- while a record is put after the others, the areas of snapshots are as they were
+pub appended-beside : (place : ℕ) (records : List Record) (r : Record) (images : Image → Type 0) (image : Image) → HasAppended place records r images image
+    → HasAnyArea Log images image
+appended-beside place records r images image (before, left, (bytes, appended, is)) = (before, left, (bytes, tt, is))
 
 -- a byte stands where its records end
-pub own_there : (node : NodeValue) (reads : Option Image) (images : Image → Type 0) → IsItsOwn node reads images
+pub own_there : (node : NodeValue) (reads : Option Image) (images : Image → Type 0) → IsOwnDiskWhereTold node reads images
     → IfSome reads (λ image. node.place < length image.log)
 own_there node None images own = tt
 own_there node (Some image) images own =

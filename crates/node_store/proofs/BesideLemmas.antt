@@ -21,7 +21,7 @@ use Rattle.log_file.specs.Opening.{kept_records}
 use Rattle.node_store.specs.StoredLaws.{NamesTheLog}
 use Rattle.disk_defs.specs.Snapshot.{area_of}
 use Rattle.store_defs.specs.Store.{StandsFor}
-use Rattle.node_store.specs.Node.{NodeValue, kept_in, IsOf, IsItsOwn, IsOn, IsOnlyImage, IsLeftByImport, IsSettledAfter, AreRecordsWith}
+use Rattle.node_store.specs.Node.{NodeValue, kept_in, IsOwnDisk, IsOwnDiskWhereTold, StandsOnDisk, IsOnlyImage, IsLeftByImport, IsSettledAfter, AreRecordsWith}
 use Rattle.node_store.specs.Kept.{stored_of}
 use Rattle.node_store.specs.Snapshot.{OnlySnapshotReads, OthersReadBut, IsSettledWith, with_log_and}
 use Rattle.node_store.proofs.OpenLemmas.{not_ok}
@@ -84,7 +84,7 @@ module _ {D : Type 0} (reads_as : D → Option Image) (images : D → Image → 
         durable = λ image left. let it = from-mid image left in it.2 ∙ settled.durable it.0 it.1 ∙ sym at.log;
       }
 
-  pub of-beside : (node : NodeValue) → IsOf node (reads_as mid) (images mid) → IsOf node (reads_as new) (images new)
+  pub of-beside : (node : NodeValue) → IsOwnDisk node (reads_as mid) (images mid) → IsOwnDisk node (reads_as new) (images new)
   of-beside node of =
       let at : HasLogOf (reads_as new) of.now = log-told due (reads_as mid) (reads_as new) of.now others of.told in
       record {
@@ -102,16 +102,16 @@ module _ {D : Type 0} (reads_as : D → Option Image) (images : D → Image → 
         settled = settled-beside node.place _ of.settled;
       }
 
-  pub own-beside : (node : NodeValue) → IsItsOwn node (reads_as mid) (images mid) → IsItsOwn node (reads_as new) (images new)
+  pub own-beside : (node : NodeValue) → IsOwnDiskWhereTold node (reads_as mid) (images mid) → IsOwnDiskWhereTold node (reads_as new) (images new)
   own-beside node own = by (reads_as mid) refl own
     where
-      by : (found : Option Image) → reads_as mid ≡ found → IfSome found (λ _. IsOf node (reads_as mid) (images mid)) → IsItsOwn node (reads_as new) (images new)
-      by None none own = subst (λ (o : Option Image). IfSome o (λ _. IsOf node (reads_as new) (images new))) (sym (log-untold due (reads_as mid) (reads_as new) others none)) tt
+      by : (found : Option Image) → reads_as mid ≡ found → IfSome found (λ _. IsOwnDisk node (reads_as mid) (images mid)) → IsOwnDiskWhereTold node (reads_as new) (images new)
+      by None none own = subst (λ (o : Option Image). IfSome o (λ _. IsOwnDisk node (reads_as new) (images new))) (sym (log-untold due (reads_as mid) (reads_as new) others none)) tt
       by (Some now) told own =
           let at : HasLogOf (reads_as new) now = log-told due (reads_as mid) (reads_as new) now others told in
-          subst (λ (o : Option Image). IfSome o (λ _. IsOf node (reads_as new) (images new))) (sym at.told) (of-beside node own)
+          subst (λ (o : Option Image). IfSome o (λ _. IsOwnDisk node (reads_as new) (images new))) (sym at.told) (of-beside node own)
 
-  pub on-beside : (node : NodeValue) → IsOn node (reads_as mid) (images mid) → IsOnlyImage node.chain (reads_as new) (images new) → IsOn node (reads_as new) (images new)
+  pub on-beside : (node : NodeValue) → StandsOnDisk node (reads_as mid) (images mid) → IsOnlyImage node.chain (reads_as new) (images new) → StandsOnDisk node (reads_as new) (images new)
   on-beside node on image = record { image = image; of = of-beside node on.of; sound = on.sound }
 
   pub after-beside : (records : List Record) (item : List ℕ) (verdict : Verdict) (place : ℕ) → IsSettledAfter records item verdict place (reads_as mid) (images mid)

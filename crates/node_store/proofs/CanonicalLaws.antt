@@ -6,7 +6,7 @@ use Rattle.std.specs.Str.{bytes_eq}
 use Rattle.std.proofs.lemmas.Option.{same_Some}
 use Rattle.chain_defs.specs.Shape.{decoded}
 use Rattle.chain_defs.specs.Schema.{Block, block}
-use Rattle.chain_defs.proofs.ShapeLaws.{IsA-decoded}
+use Rattle.chain_defs.proofs.ShapeLaws.{IsEncoding-decoded}
 use Rattle.chain_defs.specs.Specification.{Specification}
 use Rattle.chain_defs.specs.Kept.{block_list, blocks_of_item}
 use Rattle.cell_defs.specs.Ext.{is_ext}
@@ -20,7 +20,7 @@ use Rattle.node_store.specs.ReorgLaws.{KeptAreCanonical, StoredAreCanonical}
 -- ---- Items
 
 read-is : (item : List ℕ) (b : Block) → decoded block item ≡ Some b → IsCanonical b
-read-is item b found = (IsA-decoded block item b found).fits
+read-is item b found = (IsEncoding-decoded block item b found).fits
 
 one-is : (b : Block) → IsCanonical b → AreCanonical (b ∷ [])
 one-is b canonical zero other there = subst IsCanonical (same_Some b other there) canonical

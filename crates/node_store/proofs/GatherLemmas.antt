@@ -12,7 +12,7 @@ use Rattle.chain_defs.specs.Kept.{block_at, kept_limit}
 use Rattle.chain_defs.proofs.KeptLaws.{slice_get-below, slice_get-before, slice_get-push, slice_get-pushed}
 use Rattle.cell_defs.specs.Ext.{count_at, row_size, are_rows, is_ext}
 use Rattle.cell_state.specs.State.{StateValue, rows}
-use Rattle.cell_state.specs.Moves.{AreOf}
+use Rattle.cell_state.specs.Moves.{AreRowsOfBranch}
 use Rattle.cell_state.proofs.RowLemmas.{live_row-genesis}
 use Rattle.chain_tree.specs.declared.entry.Entry.{Entry}
 use Rattle.chain_tree.specs.Blocks.{IndexesBlocks, AreRated}
@@ -239,7 +239,7 @@ some-cells stored entries count uncles cells unfit gathered indexed some none =
 
 pub cells-left : (stored : List Stored) (entries : List Entry) (count : ℕ) (uncles : UnclesValue) (cells : Option StateValue) (unfit : Option ℕ) (state : StateValue)
     → IsGathered stored count uncles cells unfit → IndexesBlocks (blocks_of stored) entries → 0 < length entries → cells ≡ Some state
-    → AreOf (blocks_of stored) 0 (rows state)
+    → AreRowsOfBranch (blocks_of stored) 0 (rows state)
 cells-left stored entries count uncles cells unfit state gathered indexed some is o =
     let first = first-of stored entries indexed some in
     subst (AreLeftBy first.0) is (gathered.left first.0 first.1) o ∙ sym (live_row-genesis (blocks_of stored) first.0 o first.1)

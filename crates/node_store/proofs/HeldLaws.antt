@@ -10,7 +10,7 @@ use Rattle.std.proofs.lemmas.Option.{slice_get_within, same_Some}
 use Rattle.std.proofs.lemmas.Slice.Eq.{bytes_eq-Decides}
 use Rattle.chain_defs.specs.Shape.{Shape, Encoding, encoded, decoded, all_fit, u64, bytes, option, dynvec, table}
 use Rattle.chain_defs.specs.Schema.{Script, script, OutPoint, CellOutput, cell_output, Transaction, transaction, RawTransaction, raw_transaction, CellbaseWitness, cellbase_witness, Block}
-use Rattle.chain_defs.proofs.ShapeLaws.{IsA-decoded, decoded-is}
+use Rattle.chain_defs.proofs.ShapeLaws.{IsEncoding-decoded, decoded-is}
 use Rattle.chain_defs.proofs.RowLaws.{script-check}
 use Rattle.chain_defs.specs.Dao.{occupied_capacity}
 use Rattle.chain_defs.specs.Specification.{Specification}
@@ -100,7 +100,7 @@ named-fits t lock is = by_bytes (slice_get t.witnesses 0) is
         → (script.encoding lock).fits ≡ true
     by_witness bytes None has is = absurd (cc)
     by_witness bytes (Some w) has is =
-        subst (λ (s : Script). (script.encoding s).fits ≡ true) (same_Some w.lock lock is) (witness-lock-fits w (IsA-decoded cellbase_witness bytes w has).fits)
+        subst (λ (s : Script). (script.encoding s).fits ≡ true) (same_Some w.lock lock is) (witness-lock-fits w (IsEncoding-decoded cellbase_witness bytes w has).fits)
 
     by_bytes : (found : Option (List ℕ)) → option_map (λ witness. witness.lock) (option_and_then (decoded cellbase_witness) found) ≡ Some lock
         → (script.encoding lock).fits ≡ true

@@ -4,14 +4,14 @@ use Rattle.std.specs.Prelude.{Result, Ok, Err, IfOk, IfSome, IsTrue, IsSomeAnd, 
 use Rattle.std.proofs.lemmas.Bool.Decides.{Decides-eqb}
 use Rattle.std.proofs.lemmas.List.{append-nil, append_assoc, length_push, length-map, map-append}
 use Rattle.std.proofs.lemmas.Option.{slice_get_within, same_Some}
-use Rattle.chain_defs.specs.Shape.{IsA, decoded}
+use Rattle.chain_defs.specs.Shape.{IsEncoding, decoded}
 use Rattle.chain_defs.specs.Schema.{OutPoint, Block, block}
 use Rattle.chain_defs.specs.Specification.{Specification}
 use Rattle.chain_defs.specs.Kept.{block_hash, block_at, StandsOn, IsKept, follows, kept_limit}
 use Rattle.chain_defs.specs.Branch.{branch}
 use Rattle.std.specs.Option.{option_and_then}
 use Rattle.chain_defs.specs.Tip.{tip, tip_place}
-use Rattle.chain_defs.proofs.ShapeLaws.{IsA-decoded}
+use Rattle.chain_defs.proofs.ShapeLaws.{IsEncoding-decoded}
 use Rattle.chain_defs.proofs.KeptLaws.{slice_get-below, slice_get-pushed, place_of-below, place_of-there, IsKept-push}
 use Rattle.chain_defs.proofs.BranchLaws.{branch-last}
 use Rattle.chain_defs.proofs.TipLaws.{tip_place-there, tip_place-below, tip_place-push}
@@ -39,11 +39,11 @@ use Rattle.verdict_defs.proofs.VerdictLaws.{parent_of-branch}
 use Rattle.store_defs.proofs.FitLaws.{what-joins-fits}
 use Rattle.node_store.specs.declared.decision.Joining.{Joining}
 use Rattle.cell_defs.specs.FitLaws.{AreCanonical}
-use Rattle.cell_state.specs.Moves.{AreOf}
+use Rattle.cell_state.specs.Moves.{AreRowsOfBranch}
 use Rattle.node_store.specs.declared.decision.Decision.TheVariants.{Joins, Stays}
 use Rattle.node_store.specs.declared.decision.Decision.{Decision}
 use Rattle.node_store.proofs.MovingLemmas.{canonical-push}
-use Rattle.node_store.specs.Kept.{exts_of, KeptValue, kept_of, kept_with, CountFees, AreKept, AreOfFound, AreOfTip}
+use Rattle.node_store.specs.Kept.{exts_of, KeptValue, kept_of, kept_with, CountFees, AreKept, AreRowsOfFound, AreRowsOfTip}
 use Rattle.node_store.specs.Judging.{IsReady, IsOnParent, is_above, becomes_tip, parent_of_joining, place_for}
 
 -- ---- A block that is ready
@@ -74,30 +74,30 @@ is_kept-ready kept b joining is_kept ready = IsKept-push kept b is_kept (stands-
 
 -- the rows that it goes on from, where it becomes the tip
 pub joining-cells : (kept : List Block) (joining : Joining) (found : OutPoint → Option Row) → becomes_tip kept (Joins joining) ≡ true
-    → AreOfFound kept (place_for kept (Joins joining)) found → AreOf kept joining.entry.parent found
+    → AreRowsOfFound kept (place_for kept (Joins joining)) found → AreRowsOfBranch kept joining.entry.parent found
 joining-cells kept joining found high live =
     live joining.entry.parent (ap (λ (t : Bool). cond t (Some joining.entry.parent) (tip_place kept)) high)
 
 -- and where it does not
 pub staying-cells : (kept : List Block) (joining : Joining) (found : OutPoint → Option Row) → becomes_tip kept (Joins joining) ≡ false
-    → AreOfFound kept (place_for kept (Joins joining)) found → AreOfTip kept found
+    → AreRowsOfFound kept (place_for kept (Joins joining)) found → AreRowsOfTip kept found
 staying-cells kept joining found low live tip is =
     live tip (ap (λ (t : Bool). cond t (Some joining.entry.parent) (tip_place kept)) low ∙ is)
 
 -- where the cells stand once a decision is made: at the parent of a block that becomes the tip
 pub at-parent : (kept : List Block) (parent : ℕ) (decision : Decision) (found : OutPoint → Option Row) → IsOnParent parent decision
-    → becomes_tip kept decision ≡ true → AreOf kept parent found → AreOfFound kept (place_for kept decision) found
+    → becomes_tip kept decision ≡ true → AreRowsOfBranch kept parent found → AreRowsOfFound kept (place_for kept decision) found
 at-parent kept parent (Joins joining) found on high live place is =
     let there : Some joining.entry.parent ≡ Some place = sym (ap (λ (t : Bool). cond t (Some joining.entry.parent) (tip_place kept)) high) ∙ is in
-    subst (λ (p : ℕ). AreOf kept p found) (sym on ∙ same_Some joining.entry.parent place there) live
+    subst (λ (p : ℕ). AreRowsOfBranch kept p found) (sym on ∙ same_Some joining.entry.parent place there) live
 at-parent kept parent (Stays verdict) found on high live place is = absurd (cc)
 
 -- and at the tip else
 pub at-tip : (kept : List Block) (at : ℕ) (decision : Decision) (found : OutPoint → Option Row) → tip_place kept ≡ Some at
-    → becomes_tip kept decision ≡ false → AreOf kept at found → AreOfFound kept (place_for kept decision) found
+    → becomes_tip kept decision ≡ false → AreRowsOfBranch kept at found → AreRowsOfFound kept (place_for kept decision) found
 at-tip kept at decision found tip_is low live place is =
     let there : tip_place kept ≡ Some place = sym (ap (λ (t : Bool). cond t (parent_of_joining decision) (tip_place kept)) low) ∙ is in
-    subst (λ (p : ℕ). AreOf kept p found) (same_Some at place (sym tip_is ∙ there)) live
+    subst (λ (p : ℕ). AreRowsOfBranch kept p found) (same_Some at place (sym tip_is ∙ there)) live
 
 -- its events fit other rows that are the same
 pub fits-parent : (kept : List Block) (height : ℕ) (b : Block) (parent : ℕ) (cells : StateValue)
@@ -131,7 +131,7 @@ module _ (kept : List Block) (b : Block) (at : ℕ) (top : Block) (found : tip_p
       tip_place-push kept b at top found there ∙ ap (λ (x : Bool). Some (cond x (length kept) at)) test
 
   -- the rows of a tip that stays
-  stays_at : (cells : OutPoint → Option Row) → becomes_tip kept (Joins joining) ≡ false → AreOfTip kept cells → AreOfTip (kept ++ b ∷ []) cells
+  stays_at : (cells : OutPoint → Option Row) → becomes_tip kept (Joins joining) ≡ false → AreRowsOfTip kept cells → AreRowsOfTip (kept ++ b ∷ []) cells
   stays_at cells low live place now o =
       let same : at ≡ place = same_Some at place (sym (next_tip false low) ∙ now) in
       subst (λ (p : ℕ). cells o ≡ live_row (kept ++ b ∷ []) p o) same
@@ -139,7 +139,7 @@ module _ (kept : List Block) (b : Block) (at : ℕ) (top : Block) (found : tip_p
 
   -- those of a block that becomes the tip
   moves_to : (place : ℕ) (cells next : StateValue) → IsKept kept → place ≡ length kept → becomes_tip kept (Joins joining) ≡ true
-      → AreOf kept joining.entry.parent (rows cells) → Grows b place cells next → AreOfTip (kept ++ b ∷ []) (rows next)
+      → AreRowsOfBranch kept joining.entry.parent (rows cells) → Grows b place cells next → AreRowsOfTip (kept ++ b ∷ []) (rows next)
   moves_to place cells next is_kept long high same grows other now o =
       let is : place ≡ other = long ∙ same_Some (length kept) other (sym (next_tip true high) ∙ now) in
       subst (λ (p : ℕ). rows next o ≡ live_row (kept ++ b ∷ []) p o) is
@@ -154,14 +154,14 @@ some-tip kept b joining ready =
     (at.0, top.0, at.1, top.1)
 
 pub rows-stay : (kept : List Block) (b : Block) (joining : Joining) (cells : OutPoint → Option Row) → IsReady kept b joining
-    → becomes_tip kept (Joins joining) ≡ false → AreOfTip kept cells → AreOfTip (kept ++ b ∷ []) cells
+    → becomes_tip kept (Joins joining) ≡ false → AreRowsOfTip kept cells → AreRowsOfTip (kept ++ b ∷ []) cells
 rows-stay kept b joining cells ready low live =
     let top = some-tip kept b joining ready in
     stays_at kept b top.0 top.1 top.2 top.3 joining ready cells low live
 
 pub move-else : {E : Type 0} (kept : List Block) (b : Block) (joining : Joining) (place : ℕ) (cells : StateValue) (result : Result StateValue E)
-    → IsKept kept → IsReady kept b joining → place ≡ length kept → becomes_tip kept (Joins joining) ≡ true → AreOf kept joining.entry.parent (rows cells)
-    → IfOk result (λ next. Grows b place cells next) → IfOk result (λ next. AreOfTip (kept ++ b ∷ []) (rows next))
+    → IsKept kept → IsReady kept b joining → place ≡ length kept → becomes_tip kept (Joins joining) ≡ true → AreRowsOfBranch kept joining.entry.parent (rows cells)
+    → IfOk result (λ next. Grows b place cells next) → IfOk result (λ next. AreRowsOfTip (kept ++ b ∷ []) (rows next))
 move-else kept b joining place cells (Ok next) is_kept ready long high same grows =
     let top = some-tip kept b joining ready in
     moves_to kept b top.0 top.1 top.2 top.3 joining ready place cells next is_kept long high same grows
@@ -257,8 +257,8 @@ ready-for kept item b joining (x, is, ready) found = subst (λ (y : Block). IsRe
 
 -- and what is seen of it is that block
 pub seen-block : (kept : List Block) (item : List ℕ) (seen : Block) (joining : Joining) → ((x : Block) × (decoded block item ≡ Some x) × IsReady kept x joining)
-    → ((x : Block) → IsA block item x → seen ≡ x) → decoded block item ≡ Some seen
-seen-block kept item seen joining (x, is, ready) same = is ∙ ap Some (sym (same x (IsA-decoded block item x is)))
+    → ((x : Block) → IsEncoding block item x → seen ≡ x) → decoded block item ≡ Some seen
+seen-block kept item seen joining (x, is, ready) same = is ∙ ap Some (sym (same x (IsEncoding-decoded block item x is)))
 
 -- an entry with the record's name
 pub describes-named : (b : Block) (entry named : Entry) → Describes b entry → named.hash ≡ entry.hash → named.number ≡ entry.number

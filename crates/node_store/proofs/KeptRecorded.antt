@@ -1,7 +1,7 @@
 -- What is remembered of the kept blocks, each block with the ext beside it.
 use Rattle.std.proofs.Common.{◌≡◌, ℕ, List, [], ◌∷◌, ◌++◌, length, Option, Some, refl, sym, ap, ◌∙◌, subst, arith}
 use Rattle.std.specs.Prelude.{IfSome}
-use Rattle.chain_defs.specs.Shape.{IsA}
+use Rattle.chain_defs.specs.Shape.{IsEncoding}
 use Rattle.chain_defs.specs.Schema.{Block, block}
 use Rattle.chain_defs.proofs.ShapeLaws.{decoded-is}
 use Rattle.chain_defs.proofs.RowLaws.{block-check}
@@ -40,7 +40,7 @@ blocks-told kept told count tells many counts =
 
 -- one more, of the bytes of a block
 pub one-remembered : (blocks exts more later : List (List ℕ)) (bytes ext : List ℕ) (b : Block) (before : RecordedValue) → length exts ≡ length blocks
-    → record { stored = stored_from blocks exts } ≡ before → more ≡ blocks ++ bytes ∷ [] → later ≡ exts ++ ext ∷ [] → IsA block bytes b
+    → record { stored = stored_from blocks exts } ≡ before → more ≡ blocks ++ bytes ∷ [] → later ≡ exts ++ ext ∷ [] → IsEncoding block bytes b
     → stored_from more later ≡ before.stored ++ record { block = b; ext = ext } ∷ []
 one-remembered blocks exts more later bytes ext b before same whole grown beside is =
     let of_bytes : block.decoding bytes ≡ b = decoding-is bytes b (decoded-is block block-check bytes b is) in

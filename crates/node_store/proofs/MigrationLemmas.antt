@@ -34,7 +34,7 @@ use Rattle.store_defs.specs.declared.moved.Moved.{Moved}
 use Rattle.store_defs.specs.declared.moved.Moved.TheVariants.{Done, TooEarly, Already}
 use Rattle.node_store.specs.Held.{CacheValue}
 use Rattle.node_store.specs.Kept.{KeptValue}
-use Rattle.node_store.specs.Node.{NodeValue, node_of, IsOf, IsItsOwn, IsSoundNode, IsSoundOn, IsOnlyImage, IsOn, IsBounded}
+use Rattle.node_store.specs.Node.{NodeValue, node_of, IsOwnDisk, IsOwnDiskWhereTold, IsSoundNode, IsSoundWhereTold, IsOnlyImage, StandsOnDisk, IsBounded}
 use Rattle.store_defs.specs.Migration.{moved_at, moved_from, migration, is_done, chain_moved}
 use Rattle.node_store.specs.Migration.{kept_edited, IsEdited, IsMigrated, LeavesMigration}
 
@@ -43,7 +43,7 @@ use Rattle.node_store.specs.Migration.{kept_edited, IsEdited, IsMigrated, Leaves
 module _ (kept : KeptValue) (place end epoch : ℕ) (cells : StateValue) (cache : CacheValue) (reads reads1 : Option Image) (images images1 : Image → Type 0)
     (none : kept.chain.spec.second_from ≡ None) (fits : epoch < 2 ^ 64)
     (after : (records : List Record) → IsSettled place records reads images → IsSettled end (records ++ edition_record epoch ∷ []) reads1 images1) where
-  of_edited : IsOf (node_of kept place cells cache) reads images → IsOf (node_of (kept_edited kept epoch) end cells cache) reads1 images1
+  of_edited : IsOwnDisk (node_of kept place cells cache) reads images → IsOwnDisk (node_of (kept_edited kept epoch) end cells cache) reads1 images1
   of_edited of =
       let next = after (record_of 1 of.read.specification ∷ of.read.records) of.settled in
       record {
@@ -64,17 +64,17 @@ module _ (kept : KeptValue) (place end epoch : ℕ) (cells : StateValue) (cache 
         settled = next;
       }
 
-  pub own_edited : IsItsOwn (node_of kept place cells cache) reads images → OthersRead Log reads reads1
-      → IsItsOwn (node_of (kept_edited kept epoch) end cells cache) reads1 images1
+  pub own_edited : IsOwnDiskWhereTold (node_of kept place cells cache) reads images → OthersRead Log reads reads1
+      → IsOwnDiskWhereTold (node_of (kept_edited kept epoch) end cells cache) reads1 images1
   own_edited own others = by_read reads refl
     where
-      by_read : (found : Option Image) → reads ≡ found → IsItsOwn (node_of (kept_edited kept epoch) end cells cache) reads1 images1
+      by_read : (found : Option Image) → reads ≡ found → IsOwnDiskWhereTold (node_of (kept_edited kept epoch) end cells cache) reads1 images1
       by_read None nothing =
-          subst (λ (o : Option Image). IsItsOwn (node_of (kept_edited kept epoch) end cells cache) o images1)
+          subst (λ (o : Option Image). IsOwnDiskWhereTold (node_of (kept_edited kept epoch) end cells cache) o images1)
           (sym (others.1 ∙ ap (option_map (with_content Log others.0)) nothing)) tt
       by_read (Some image) told =
-          let of = of_edited (subst (λ (o : Option Image). IfSome o (λ _. IsOf (node_of kept place cells cache) reads images)) told own) in
-          subst (λ (o : Option Image). IfSome o (λ _. IsOf (node_of (kept_edited kept epoch) end cells cache) reads1 images1)) (sym of.told) of
+          let of = of_edited (subst (λ (o : Option Image). IfSome o (λ _. IsOwnDisk (node_of kept place cells cache) reads images)) told own) in
+          subst (λ (o : Option Image). IfSome o (λ _. IsOwnDisk (node_of (kept_edited kept epoch) end cells cache) reads1 images1)) (sym of.told) of
 
 -- before the first call the log is as it was
 pub appended_none : {D : Type 0} (moment : D → ℕ) (left_since : D → ℕ → Image → Type 0) (images : D → Image → Type 0)
@@ -98,7 +98,7 @@ stands_before moment left_since images only_now chain later reads disk only =
 pub edited_moments : (node : NodeValue) (epoch : ℕ) (reads : Option Image) (images : Image → Type 0) (Leaves : (Image → Type 0) → Type 0)
     → ((P Q : Image → Type 0) → Leaves P → ((image : Image) → P image → Q image) → Leaves Q)
     → ((records : List Record) → IsSettled node.place records reads images → Leaves (HasAppended node.place records (edition_record epoch) images))
-    → IsItsOwn node reads images → node.chain.spec.second_from ≡ None → epoch < 2 ^ 64 → AllStandBefore epoch node.chain → IsOnlyImage node.chain reads images
+    → IsOwnDiskWhereTold node reads images → node.chain.spec.second_from ≡ None → epoch < 2 ^ 64 → AllStandBefore epoch node.chain → IsOnlyImage node.chain reads images
     → Leaves (λ image. StandsFor node.chain image ⊎ StandsFor (edited_chain node.chain epoch) image)
 edited_moments node epoch reads images Leaves also keeps own none fits all only =
     let of = of_told node reads images only.now only.told own in
@@ -177,7 +177,7 @@ module _ (before after : NodeValue) (epoch : ℕ) (reads_old reads_new : Option 
     live = sound.live;
   })
 
-  on_edited : IsOn before reads_old old → IsOn after reads_new new
+  on_edited : StandsOnDisk before reads_old old → StandsOnDisk after reads_new new
   on_edited on =
       let image = it.image (all_before before.chain epoch on.sound.joined.joined done) on.image in
       record { image = image; of = of_told after reads_new new image.now image.told it.own; sound = sound_edited on.sound }
@@ -194,7 +194,7 @@ module _ (before after : NodeValue) (epoch : ℕ) (reads_old reads_new : Option 
 
 -- where nothing is done
 pub migrated_still : (node : NodeValue) (epoch : ℕ) (moved : Moved) (reads : Option Image) (images : Image → Type 0) → moved ≡ migration node.chain epoch
-    → is_done moved ≡ false → IsItsOwn node reads images → IsMigrated node node epoch moved reads reads images images
+    → is_done moved ≡ false → IsOwnDiskWhereTold node reads images → IsMigrated node node epoch moved reads reads images images
 migrated_still node epoch moved reads images is still own = record {
   answer = is;
   same = ap (λ (t : Bool). record node { chain = if t then edited_chain node.chain epoch else node.chain }) (sym still);

@@ -5,7 +5,7 @@ use Rattle.std.proofs.lemmas.List.{length_push}
 use Rattle.std.proofs.lemmas.Option.{slice_get_within}
 use Rattle.chain_defs.specs.Shape.{decoded}
 use Rattle.chain_defs.specs.Schema.{Block, block}
-use Rattle.chain_defs.proofs.ShapeLaws.{IsA-decoded}
+use Rattle.chain_defs.proofs.ShapeLaws.{IsEncoding-decoded}
 use Rattle.chain_defs.specs.Kept.{block_at}
 use Rattle.chain_defs.proofs.KeptLaws.{slice_get-pushed, slice_get-before}
 use Rattle.chain_defs.specs.Specification.{Specification}
@@ -23,7 +23,7 @@ use Rattle.node_store.specs.Kept.{KeptValue, kept_of, AreKept}
 -- ---- Canonical blocks
 
 pub canonical-read : (item : List ℕ) (b : Block) → decoded block item ≡ Some b → IsCanonical b
-canonical-read item b is = (IsA-decoded block item b is).fits
+canonical-read item b is = (IsEncoding-decoded block item b is).fits
 
 pub canonical-push : (kept : List Block) (b : Block) (item : List ℕ) → AreCanonical kept → decoded block item ≡ Some b → AreCanonical (kept ++ b ∷ [])
 canonical-push kept b item canonical is place other there = by_place (slice_get-pushed kept b place other there)

@@ -10,7 +10,7 @@ use Rattle.outside.proofs.Images.{own_content}
 use Rattle.outside.proofs.Moments.{started, goes_on}
 use Rattle.outside.proofs.Torn.{cut_same}
 use Rattle.chain_defs.specs.Shape.{decoded}
-use Rattle.chain_defs.specs.Schema.{block}
+use Rattle.chain_defs.specs.Schema.{Block, block}
 use Rattle.rule_defs.specs.Genesis.{broken_by, broken_genesis_rule}
 use Rattle.disk_defs.specs.Log.{first_records, new_log}
 use Rattle.disk_defs.specs.Rest.{IsAtRest, IsSettled, HasNoLonger}
@@ -19,9 +19,13 @@ use Rattle.store_defs.proofs.StoreLemmas.{stands_for_the_genesis}
 use Rattle.node_store.specs.Node.{AreJudged, IsNew, KeepsLog, HasOldLogOrNoSnapshots}
 use Rattle.node_store.proofs.RecordedLemmas.{same_image}
 
-pub no_genesis : (item : List ℕ) → decoded block item ≡ None → broken_genesis_rule item ≡ Some 1
+-- what an item breaks as a genesis is what the block breaks that it is
+pub broken-of : (item : List ℕ) (b : Option Block) (rule : Option ℕ) → decoded block item ≡ b → rule ≡ broken_by b → broken_genesis_rule item ≡ rule
 unfolding broken_genesis_rule
-no_genesis item is = ap broken_by is
+broken-of item b rule is broken = ap broken_by is ∙ sym broken
+
+pub no_genesis : (item : List ℕ) → decoded block item ≡ None → broken_genesis_rule item ≡ Some 1
+no_genesis item is = broken-of item None (Some 1) is refl
 
 -- ---- An area that is cleared
 

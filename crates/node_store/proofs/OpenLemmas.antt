@@ -13,7 +13,7 @@ use Rattle.outside.specs.Disk.{NoneNew, IsDurable, HasOneImage, OthersRead, Leav
 use Rattle.outside.proofs.Moments.{leaves_also, leaves_then, now_too}
 use Rattle.chain_defs.specs.Kept.{kept_limit}
 use Rattle.cell_state.specs.State.{StateValue, rows}
-use Rattle.cell_state.specs.Moves.{AreOf}
+use Rattle.cell_state.specs.Moves.{AreRowsOfBranch}
 use Rattle.chain_defs.specs.Specification.{Specification}
 use Rattle.verdict_defs.specs.Chain.{Chain}
 use Rattle.disk_defs.specs.Log.{Record, LogContent, of_blocks, edition_of, content_of_records, log_of, records_of, end_of_log, IsNoLogFrom}
@@ -30,10 +30,10 @@ use Rattle.log_file.specs.Opening.{IsOpened, NameBodies, kept_records}
 use Rattle.log_file.proofs.Settling.{others_kept, others_on}
 use Rattle.node_store.specs.Held.{CacheValue, Holds, AgreesWith}
 use Rattle.node_store.specs.Stored.{CanBeKept}
-use Rattle.node_store.specs.Kept.{KeptValue, kept_of, stored_of, CountFees, AreOfTip, AreOfKept}
-use Rattle.node_store.specs.Node.{NodeValue, node_of, IsWithin, IsBounded, IsReadBy, IsOf, IsItsOwn, IsSoundNode, IsOnlyImage, IsOn, IsLeftByOpening}
+use Rattle.node_store.specs.Kept.{KeptValue, kept_of, stored_of, CountFees, AreRowsOfTip, AreRowsOfKept}
+use Rattle.node_store.specs.Node.{NodeValue, node_of, IsWithin, IsBounded, LogHoldsKept, IsOwnDisk, IsOwnDiskWhereTold, IsSoundNode, IsOnlyImage, StandsOnDisk, IsLeftByOpening}
 use Rattle.node_store.specs.Gathering.{IsBodyOfUnfit}
-use Rattle.node_store.specs.Opening.{NameItsBodies, IsOfCells, IsNoneFrom, IsNoStoreAt, SaysTheSame, LeavesStore, IsReadFrom, HasNewestOf}
+use Rattle.node_store.specs.Opening.{NameItsBodies, IsOfCells, IsNoneFrom, IsNoStoreAt, SaysTheSame, LeavesStore, IsReadFrom, HasNewestOf, HaveNumbers}
 use Rattle.store_defs.specs.SnapshotLaws.{HasSoundAreas}
 use Rattle.chain_defs.specs.Schema.{Block}
 use Rattle.node_store.specs.Snapshot.{number_in, area_with, newest}
@@ -78,7 +78,7 @@ Opened spec stored entries now = (log : LogContent) × IsOpened now.log log spec
 
 -- what a node asks of its chain, its place and its live cells
 pub is_bounded : (kept : KeptValue) (spec : Specification) (stored : List Stored) (entries : List Entry) (place : ℕ) (cells : StateValue)
-    → kept ≡ kept_of spec stored entries → length stored ≤ kept_limit → place + edition_room spec.second_from ≤ 2 ^ 33 * (length stored + 1) → AreOfKept kept.chain.blocks (rows cells)
+    → kept ≡ kept_of spec stored entries → length stored ≤ kept_limit → place + edition_room spec.second_from ≤ 2 ^ 33 * (length stored + 1) → AreRowsOfKept kept.chain.blocks (rows cells)
     → IsBounded kept place cells
 is_bounded kept spec stored entries place cells of few within below =
     let many : length stored ≡ length kept.chain.blocks =
@@ -107,7 +107,7 @@ module _ (now : Image) (log : LogContent) (kept : KeptValue) (spec : Specificati
   all_records : records_of (drop 8 now.log) ≡ record_of 1 log.specification ∷ record_of 2 log.genesis ∷ log.records
   all_records = records-are (records_of (drop 8 now.log)) log is.says
 
-  read_by : (place : ℕ) (image : Image) → IsAtRest place (records_of (drop 8 now.log)) image.log → IsReadBy kept cache.held image
+  read_by : (place : ℕ) (image : Image) → IsAtRest place (records_of (drop 8 now.log)) image.log → LogHoldsKept kept cache.held image
   read_by place image rest = record {
     specification = log.specification;
     records = record_of 2 log.genesis ∷ log.records;
@@ -397,11 +397,11 @@ module _ {D : Type 0} (reads_as : D → Option Image) (images : D → Image → 
   }
 
   -- what is held in memory may be other then
-  of_still : (kept : KeptValue) (place : ℕ) (cells next : StateValue) (cache later : CacheValue) → IsOf (node_of kept place cells cache) (reads_as mid) (images mid)
-      → IfSome (reads_as new) (IsReadBy kept later.held) → IsOf (node_of kept place next later) (reads_as new) (images new)
+  of_still : (kept : KeptValue) (place : ℕ) (cells next : StateValue) (cache later : CacheValue) → IsOwnDisk (node_of kept place cells cache) (reads_as mid) (images mid)
+      → IfSome (reads_as new) (LogHoldsKept kept later.held) → IsOwnDisk (node_of kept place next later) (reads_as new) (images new)
   of_still kept place cells next cache later of read =
       let told : reads_as new ≡ Some of.now = rests.reads ∙ of.told in
-      let now = at_some (IsReadBy kept later.held) (reads_as new) of.now told read in
+      let now = at_some (LogHoldsKept kept later.held) (reads_as new) of.now told read in
       record {
         now = of.now;
         told = told;
@@ -444,20 +444,20 @@ moves_same kept now bytes = by (number_in now.snap_a) (number_in now.snap_b)
 module _ {D : Type 0} (reads_as : D → Option Image) (images : D → Image → Type 0) (old mid : D)
     (kept : KeptValue) (place : ℕ) (cells : StateValue) (cache : CacheValue) (node : NodeValue) (is : node_of kept place cells cache ≡ node)
     (others : OthersRead Log (reads_as old) (reads_as mid)) (read : IfSome (reads_as old) (IsReadFrom node (reads_as mid) (images mid)))
-    (first : AreOf node.chain.blocks 0 (rows node.cells)) where
+    (first : AreRowsOfBranch node.chain.blocks 0 (rows node.cells)) where
   from_at : (now : Image) → reads_as old ≡ Some now → IsReadFrom (node_of kept place cells cache) (reads_as mid) (images mid) now
   from_at now told = subst (λ (n : NodeValue). IsReadFrom n (reads_as mid) (images mid) now) (sym is)
       (at_some (IsReadFrom node (reads_as mid) (images mid)) (reads_as old) now told read)
 
-  first_at : AreOf kept.chain.blocks 0 (rows cells)
-  first_at = subst (λ (n : NodeValue). AreOf n.chain.blocks 0 (rows n.cells)) (sym is) first
+  first_at : AreRowsOfBranch kept.chain.blocks 0 (rows cells)
+  first_at = subst (λ (n : NodeValue). AreRowsOfBranch n.chain.blocks 0 (rows n.cells)) (sym is) first
 
   -- what is asked of the disk to read blocks there
-  pub own_read : IfSome (reads_as mid) (IsReadBy kept cache.held)
-  own_read = if_told (IsReadBy kept cache.held) (reads_as mid) (λ now told.
+  pub own_read : IfSome (reads_as mid) (LogHoldsKept kept cache.held)
+  own_read = if_told (LogHoldsKept kept cache.held) (reads_as mid) (λ now told.
       let was = told_before (reads_as old) (reads_as mid) others (subst IsSome (sym told) refl) in
       let from = from_at was.0 was.1 in
-      subst (IsReadBy kept cache.held) (same_Some from.of.now now (sym from.of.told ∙ told)) from.of.read)
+      subst (LogHoldsKept kept cache.held) (same_Some from.of.now now (sym from.of.told ∙ told)) from.of.read)
 
   pub keeps_led : IfSome (reads_as old) (λ now. store_of now ≡ Keeps kept.chain)
   keeps_led = if_told (λ now. store_of now ≡ Keeps kept.chain) (reads_as old) (λ now told. (from_at now told).keeps)
@@ -474,6 +474,17 @@ module _ {D : Type 0} (reads_as : D → Option Image) (images : D → Image → 
       subst (λ (s : Store). after ≤ before + moves_over now s) (sym (from_at now told).keeps)
       (subst (λ (n : ℕ). after ≤ before + n) (moves_same kept.chain.blocks now others.0) (most (with_content Log others.0 now) (told_mid now told)))
 
+  pub moved_exactly : (before after : ℕ)
+      → ((there : Image) → reads_as mid ≡ Some there → after ≡ before + moves_by kept.chain.blocks there (newest there))
+      → (now : Image) → reads_as old ≡ Some now → after ≡ before + moves_to_open now
+  moved_exactly before after each now told =
+      subst (λ (s : Store). after ≡ before + moves_over now s) (sym (from_at now told).keeps)
+      (subst (λ (n : ℕ). after ≡ before + n) (moves_same kept.chain.blocks now others.0) (each (with_content Log others.0 now) (told_mid now told)))
+
+  -- a number was read after each open gate
+  pub numbers_led : ((there : Image) → reads_as mid ≡ Some there → HaveNumbers there) → IfSome (reads_as old) HaveNumbers
+  numbers_led has = if_told HaveNumbers (reads_as old) (λ now told. has (with_content Log others.0 now) (told_mid now told))
+
   -- the snapshot that was loaded is there
   pub whole_led : ((there : Image) → reads_as mid ≡ Some there → HasNewestOf kept.entries there) → IfSome (reads_as old) (HasNewestOf kept.entries)
   whole_led has = if_told (HasNewestOf kept.entries) (reads_as old) (λ now told.
@@ -487,7 +498,7 @@ module _ {D : Type 0} (reads_as : D → Option Image) (images : D → Image → 
 
   -- where the blocks do not fit, the image is not sound
   pub not_led : ((there : Image) → reads_as mid ≡ Some there → HasSoundAreas kept.chain.blocks there → AreJoined kept.chain kept.exts
-      → AreOf kept.chain.blocks 0 (rows cells) → ⊥) → IfSome (reads_as old) (λ now. IsSound now → ⊥)
+      → AreRowsOfBranch kept.chain.blocks 0 (rows cells) → ⊥) → IfSome (reads_as old) (λ now. IsSound now → ⊥)
   not_led never = if_told (λ now. IsSound now → ⊥) (reads_as old) (λ now told sound.
       never (with_content Log others.0 now) (told_mid now told) (areas_there now told sound) ((from_at now told).joined sound) first_at)
 
@@ -510,14 +521,14 @@ module _ {D : Type 0} (reads_as : D → Option Image) (images : D → Image → 
     settled_led = if_told (λ now. IsSettled place (records_of (drop 8 now.log)) (reads_as new) (images new)) (reads_as old) (λ now told.
         settled_still reads_as images moment left_since mid new rests place (records_of (drop 8 now.log)) (from_at now told).settled)
 
-    pub own_led : IfSome (reads_as new) (IsReadBy kept later.held) → IsItsOwn (node_of kept place next later) (reads_as new) (images new)
-    own_led agrees = if_told (λ _. IsOf (node_of kept place next later) (reads_as new) (images new)) (reads_as new) (λ now told.
+    pub own_led : IfSome (reads_as new) (LogHoldsKept kept later.held) → IsOwnDiskWhereTold (node_of kept place next later) (reads_as new) (images new)
+    own_led agrees = if_told (λ _. IsOwnDisk (node_of kept place next later) (reads_as new) (images new)) (reads_as new) (λ now told.
         let was = told_before (reads_as old) (reads_as mid) others (subst IsSome (sym (sym rests.reads ∙ told)) refl) in
         of_still reads_as images moment left_since mid new rests kept place cells next cache later (from_at was.0 was.1).of agrees)
 
     -- where the blocks of its image have joined
     module _ (moved : (there : Image) → reads_as mid ≡ Some there → HasSoundAreas kept.chain.blocks there → AreJoined kept.chain kept.exts
-        → AreOf kept.chain.blocks 0 (rows cells) → AreOfTip kept.chain.blocks (rows next)) where
+        → AreRowsOfBranch kept.chain.blocks 0 (rows cells) → AreRowsOfTip kept.chain.blocks (rows next)) where
       pub sound_led : (now : Image) → reads_as old ≡ Some now → IsSound now → IsSoundNode (node_of kept place next later)
       sound_led now told sound =
           let joined = (from_at now told).joined sound in
@@ -527,9 +538,9 @@ module _ {D : Type 0} (reads_as : D → Option Image) (images : D → Image → 
           }
 
       pub on_led : IfSome (reads_as old) (images old) → ((image : Image) → images old image → IsSound image)
-          → IfSome (reads_as old) (λ _. IsOnlyImage node.chain (reads_as mid) (images mid)) → IfSome (reads_as new) (IsReadBy kept later.held)
-          → IfSome (reads_as old) (λ _. IsOn (node_of kept place next later) (reads_as new) (images new))
-      on_led here sound only agrees = if_told (λ _. IsOn (node_of kept place next later) (reads_as new) (images new)) (reads_as old) (λ now told. record {
+          → IfSome (reads_as old) (λ _. IsOnlyImage node.chain (reads_as mid) (images mid)) → IfSome (reads_as new) (LogHoldsKept kept later.held)
+          → IfSome (reads_as old) (λ _. StandsOnDisk (node_of kept place next later) (reads_as new) (images new))
+      on_led here sound only agrees = if_told (λ _. StandsOnDisk (node_of kept place next later) (reads_as new) (images new)) (reads_as old) (λ now told. record {
         image = only_still reads_as images moment left_since mid new rests kept.chain
             (subst (λ (n : NodeValue). IsOnlyImage n.chain (reads_as mid) (images mid)) (sym is)
             (at_some (λ _. IsOnlyImage node.chain (reads_as mid) (images mid)) (reads_as old) now told only));

@@ -25,7 +25,7 @@ use Rattle.cell_defs.proofs.OutputLaws.{cells-are-outputs}
 use Rattle.cell_model.specs.Copies.{NamesOutput}
 use Rattle.cell_model.proofs.CopyLemmas.{in-hand}
 use Rattle.node_store.proofs.BranchLemmas.{PlaceOfHeight, place-of-height, branch-long, branch-block, number-on-branch}
-use Rattle.node_store.specs.Kept.{AreOfTip, AreOfKept}
+use Rattle.node_store.specs.Kept.{AreRowsOfTip, AreRowsOfKept}
 use Rattle.node_store.specs.Queries.{LiveValue, IsLiveRow, IsLiveCell}
 
 abbrev branch_at : List Block → Option ℕ → List Block
@@ -128,7 +128,7 @@ made-at stored entries tip o cell row indexed below live its_row =
     kept = stored-at stored row.block made.0 there
 
 module _ (kept : List Block) (found : OutPoint → Option Row) (tip : ℕ)
-    (live : AreOfTip kept found) (is : tip_place kept ≡ Some tip) (o : OutPoint) where
+    (live : AreRowsOfTip kept found) (is : tip_place kept ≡ Some tip) (o : OutPoint) where
   by-cell : (cell : Option Cell) → live_cell (branch kept tip) o ≡ cell → found o ≡ option_map (row_on kept tip) cell
   unfolding live_row
   by-cell cell at = live tip is o ∙ ap (option_map (row_on kept tip)) at
@@ -163,7 +163,7 @@ unfolding cell_after events last_naming
 none-made o = refl
 
 -- Where the rows are those of the tip's branch, no cell is live with an out-point that has no row,
-pub no-live : (kept : List Block) (found : OutPoint → Option Row) → AreOfTip kept found → (o : OutPoint) → found o ≡ None
+pub no-live : (kept : List Block) (found : OutPoint → Option Row) → AreRowsOfTip kept found → (o : OutPoint) → found o ≡ None
     → live_cell (best_branch kept) o ≡ None
 no-live kept found live o none = by_tip (tip_place kept) refl
   where
@@ -172,7 +172,7 @@ no-live kept found live o none = by_tip (tip_place kept) refl
     by_tip (Some tip) is = no-cell kept found tip live is o none
 
 -- and a row of a kept block is that of a cell that is live.
-pub some-live : (kept : List Block) (found : OutPoint → Option Row) → AreOfTip kept found → AreOfKept kept found
+pub some-live : (kept : List Block) (found : OutPoint → Option Row) → AreRowsOfTip kept found → AreRowsOfKept kept found
     → (o : OutPoint) (row : Row) → found o ≡ Some row → (cell : Cell) × IsLiveRow kept o cell row
 some-live kept found live of_kept o row some =
     let below = of_kept o row some in

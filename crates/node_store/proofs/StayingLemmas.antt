@@ -17,9 +17,9 @@ use Rattle.log_file.proofs.Settling.{others_kept, others_on}
 use Rattle.store_defs.specs.Store.{StandsFor, IsJoined, HaveOwnExts}
 use Rattle.store_defs.proofs.JoinedLemmas.{joined_after}
 use Rattle.node_store.specs.Held.{CacheValue}
-use Rattle.node_store.specs.Kept.{KeptValue, AreOfTip}
+use Rattle.node_store.specs.Kept.{KeptValue, AreRowsOfTip}
 use Rattle.node_store.specs.Import.{LeavesEither}
-use Rattle.node_store.specs.Node.{NodeValue, node_of, IsReadBy, IsOf, IsItsOwn, IsSoundNode, IsSoundOn, IsOnlyImage, IsOn, IsLeftByImport}
+use Rattle.node_store.specs.Node.{NodeValue, node_of, LogHoldsKept, IsOwnDisk, IsOwnDiskWhereTold, IsSoundNode, IsSoundWhereTold, IsOnlyImage, StandsOnDisk, IsLeftByImport}
 use Rattle.node_store.proofs.KeepingLemmas.{left_there}
 
 -- ---- A disk that reads as it did, with the same images
@@ -42,10 +42,10 @@ module _ (before after : Option Image) (old new : Image → Type 0) (same : afte
   }
 
   -- it stays a node's own, whatever its live cells are, with what is held in memory
-  of-same : (kept : KeptValue) (place : ℕ) (cells next : StateValue) (cache later : CacheValue) → IsOf (node_of kept place cells cache) before old
-      → IfSome after (IsReadBy kept later.held) → IsOf (node_of kept place next later) after new
+  of-same : (kept : KeptValue) (place : ℕ) (cells next : StateValue) (cache later : CacheValue) → IsOwnDisk (node_of kept place cells cache) before old
+      → IfSome after (LogHoldsKept kept later.held) → IsOwnDisk (node_of kept place next later) after new
   of-same kept place cells next cache later of read =
-      let here : IsReadBy kept later.held of.now = subst (λ (o : Option Image). IfSome o (IsReadBy kept later.held)) (same ∙ of.told) read in
+      let here : LogHoldsKept kept later.held of.now = subst (λ (o : Option Image). IfSome o (LogHoldsKept kept later.held)) (same ∙ of.told) read in
       record {
         now = of.now;
         told = same ∙ of.told;
@@ -54,12 +54,12 @@ module _ (before after : Option Image) (old new : Image → Type 0) (same : afte
       }
 
 own-same : (before after : Option Image) (old new : Image → Type 0) → after ≡ before → SameImages old new
-    → (kept : KeptValue) (place : ℕ) (cells next : StateValue) (cache later : CacheValue) → IsItsOwn (node_of kept place cells cache) before old
-    → IfSome after (IsReadBy kept later.held) → IsItsOwn (node_of kept place next later) after new
+    → (kept : KeptValue) (place : ℕ) (cells next : StateValue) (cache later : CacheValue) → IsOwnDiskWhereTold (node_of kept place cells cache) before old
+    → IfSome after (LogHoldsKept kept later.held) → IsOwnDiskWhereTold (node_of kept place next later) after new
 own-same None after old new same images kept place cells next cache later own read =
-    subst (λ (reads : Option Image). IfSome reads (λ _. IsOf (node_of kept place next later) after new)) (sym same) tt
+    subst (λ (reads : Option Image). IfSome reads (λ _. IsOwnDisk (node_of kept place next later) after new)) (sym same) tt
 own-same (Some image) after old new same images kept place cells next cache later own read =
-    subst (λ (reads : Option Image). IfSome reads (λ _. IsOf (node_of kept place next later) after new)) (sym same)
+    subst (λ (reads : Option Image). IfSome reads (λ _. IsOwnDisk (node_of kept place next later) after new)) (sym same)
     (of-same (Some image) after old new same images kept place cells next cache later own read)
 
 -- ---- Why a call was stopped
@@ -79,23 +79,23 @@ stopped-counts before now stop fault counts = record {
 -- ---- The disk of a node
 
 -- where it tells what it reads as
-pub of-told : (node : NodeValue) (chain : Chain) (reads : Option Image) (images : Image → Type 0) → IsOnlyImage chain reads images → IsItsOwn node reads images
-    → IsOf node reads images
-of-told node chain reads images only own = subst (λ (o : Option Image). IfSome o (λ _. IsOf node reads images)) only.told own
+pub of-told : (node : NodeValue) (chain : Chain) (reads : Option Image) (images : Image → Type 0) → IsOnlyImage chain reads images → IsOwnDiskWhereTold node reads images
+    → IsOwnDisk node reads images
+of-told node chain reads images only own = subst (λ (o : Option Image). IfSome o (λ _. IsOwnDisk node reads images)) only.told own
 
-pub sound-on : (node : NodeValue) (reads : Option Image) (images : Image → Type 0) → IsOn node reads images → IsSoundOn node reads
+pub sound-on : (node : NodeValue) (reads : Option Image) (images : Image → Type 0) → StandsOnDisk node reads images → IsSoundWhereTold node reads
 sound-on node reads images on = record { sound = on.sound; told = subst IsSome (sym on.image.told) refl }
 
 -- what a crash leaves of a node that is on its disk, while an item is imported
 pub moments-on : {S : Type 0} {reads_as : S → Option Image} {images : S → Image → Type 0} {moment : S → ℕ} {left_since : S → ℕ → Image → Type 0} {old new : S}
-    (node : NodeValue) (item : List ℕ) → LeavesEither reads_as images moment left_since old new (IsSoundOn node (reads_as old)) node item
-    → IsOn node (reads_as old) (images old)
+    (node : NodeValue) (item : List ℕ) → LeavesEither reads_as images moment left_since old new (IsSoundWhereTold node (reads_as old)) node item
+    → StandsOnDisk node (reads_as old) (images old)
     → LeavesOnly moment left_since old new (λ image. StandsFor node.chain image ⊎ StandsFor (chain_after node.chain item) image)
 moments-on {reads_as = reads_as} {images = images} {old = old} node item left on = left.moments (sound-on node (reads_as old) (images old) on) on.image
 
 -- a node with one more block
 pub sound-joined : (chain : Chain) (item : List ℕ) (next : NodeValue) → next.chain ≡ chain_after chain item → IsJoined chain → HaveOwnExts next.chain next.exts
-    → AreOfTip next.chain.blocks (rows next.cells) → IsSoundNode next
+    → AreRowsOfTip next.chain.blocks (rows next.cells) → IsSoundNode next
 sound-joined chain item next after joined own live = record {
   joined = record { joined = subst IsJoined (sym after) (joined_after chain item joined); own = own };
   live = live;
@@ -116,13 +116,13 @@ module _ {S C : Type 0} (content_of : S → C) (reads_as : S → Option Image) (
   only-looked = only-same (reads_as old) (reads_as mid) (images old) (images mid) as-before.reads as-before.images
 
   pub own-looked : (kept : KeptValue) (place : ℕ) (cells next : StateValue) (cache later : CacheValue)
-      → IsItsOwn (node_of kept place cells cache) (reads_as old) (images old) → IfSome (reads_as mid) (IsReadBy kept later.held)
-      → IsItsOwn (node_of kept place next later) (reads_as mid) (images mid)
+      → IsOwnDiskWhereTold (node_of kept place cells cache) (reads_as old) (images old) → IfSome (reads_as mid) (LogHoldsKept kept later.held)
+      → IsOwnDiskWhereTold (node_of kept place next later) (reads_as mid) (images mid)
   own-looked = own-same (reads_as old) (reads_as mid) (images old) (images mid) as-before.reads as-before.images
 
   pub on-looked : (kept : KeptValue) (place : ℕ) (cells next : StateValue) (cache later : CacheValue)
-      → IsOn (node_of kept place cells cache) (reads_as old) (images old) → IfSome (reads_as mid) (IsReadBy kept later.held) → AreOfTip kept.chain.blocks (rows next)
-      → IsOn (node_of kept place next later) (reads_as mid) (images mid)
+      → StandsOnDisk (node_of kept place cells cache) (reads_as old) (images old) → IfSome (reads_as mid) (LogHoldsKept kept later.held) → AreRowsOfTip kept.chain.blocks (rows next)
+      → StandsOnDisk (node_of kept place next later) (reads_as mid) (images mid)
   on-looked kept place cells next cache later on read live = record {
     image = only-looked kept.chain on.image;
     of = of-same (reads_as old) (reads_as mid) (images old) (images mid) as-before.reads as-before.images kept place cells next cache later on.of read;

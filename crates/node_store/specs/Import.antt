@@ -1,6 +1,6 @@
 -- What an import of an item leaves, in four records: the verdict with the node after it, the moments, the log with the other areas, and the steps;
 -- and what each of its two parts leaves, the decision on an item and the joining of a block.
-use Rattle.std.specs.Prelude.{◌≡◌, ◌≢◌, ◌⊎◌, ℕ, ◌+◌, ◌-◌, ◌^◌, ◌<◌, ◌≤◌, true, false, List, [], ◌∷◌, ◌++◌, length, Option, Some, IfSome, IsSome, IsTrue, Result, IfOk, IfErr}
+use Rattle.std.specs.Prelude.{◌≡◌, ◌≢◌, ◌⊎◌, ℕ, ◌+◌, ◌-◌, ◌^◌, ◌<◌, ◌≤◌, true, false, List, [], ◌∷◌, ◌++◌, length, Option, Some, None, IfSome, IsSome, IsTrue, Result, Ok, Err, IfOk, IfErr}
 use Rattle.outside.specs.Disk.{OthersRead, LeavesOnly}
 use Rattle.outside.specs.Image.{Image}
 use Rattle.outside.specs.declared.disk.ReadStop.{ReadStop}
@@ -24,20 +24,20 @@ use Rattle.node_store.specs.declared.decision.Decision.TheVariants.{Joins}
 use Rattle.node_store.specs.declared.decision.Joining.{Joining}
 use Rattle.node_store.specs.Held.{held_at}
 use Rattle.node_store.specs.Judging.{IsReadyItem, IsDecided, place_for}
-use Rattle.node_store.specs.Kept.{AreOfFound, AreOfTip}
-use Rattle.node_store.specs.Node.{NodeValue, IsItsOwn, IsSoundNode, IsSoundOn, IsOnlyImage, IsOn, IsLeftByImport, IsSettledAfter}
+use Rattle.node_store.specs.Kept.{AreRowsOfFound, AreRowsOfTip}
+use Rattle.node_store.specs.Node.{NodeValue, IsOwnDiskWhereTold, IsSoundNode, IsSoundWhereTold, IsOnlyImage, StandsOnDisk, IsLeftByImport, IsSettledAfter}
 use Rattle.node_store.specs.Snapshot.{snapshot_at, OthersReadBut, HasSnapshot, LacksSnapshot}
-use Rattle.node_store.specs.Steps.{moves_for}
+use Rattle.node_store.specs.Steps.{moves_for, moves_with}
 
 -- ---- An import
 
 -- The verdict on an item over a node, and the node after it.
 pub record IsImported (before after : NodeValue) (item : List ℕ) (answer : Verdict) (reads_old reads_new : Option Image) (old new : Image → Type 0) : Type 0 where
-  pub own : IsItsOwn after reads_new new
-  pub verdict : IsSoundOn before reads_old → answer ≡ verdict_over before.chain item
-  pub kept : IsSoundOn before reads_old → after.chain ≡ chain_after before.chain item
-  pub sound : IsSoundOn before reads_old → IsSoundNode after
-  pub on : IsOn before reads_old old → IsOn after reads_new new
+  pub own : IsOwnDiskWhereTold after reads_new new
+  pub verdict : IsSoundWhereTold before reads_old → answer ≡ verdict_over before.chain item
+  pub kept : IsSoundWhereTold before reads_old → after.chain ≡ chain_after before.chain item
+  pub sound : IsSoundWhereTold before reads_old → IsSoundNode after
+  pub on : StandsOnDisk before reads_old old → StandsOnDisk after reads_new new
   pub spec : after.chain.spec ≡ before.chain.spec
   pub holds : joins answer ≡ true → IsSome (held_at after.held (length before.chain.blocks))
   pub room : after.most ≡ before.most
@@ -60,15 +60,23 @@ pub record IsLogged {C : Type 0} (node : NodeValue) (item : List ℕ) (result : 
   pub settled : (records : List Record) → IsSettled node.place records reads_old old
       → IfOk result (λ answer. IsSettledAfter records item answer.1 answer.0.place reads_new new)
   pub others : OthersReadBut (snapshot_at (length node.chain.blocks)) reads_old reads_new
-  pub snapshot : (number : ℕ) → IsSoundOn node reads_old → joins (verdict_over node.chain item) ≡ true → snapshot_at (length node.chain.blocks) ≡ Some number
+  pub snapshot : (number : ℕ) → IsSoundWhereTold node reads_old → joins (verdict_over node.chain item) ≡ true → snapshot_at (length node.chain.blocks) ≡ Some number
       → IfOk result (λ answer. IfSome reads_new (HasSnapshot answer.0.chain.blocks number))
-  pub still : IsSoundOn node reads_old → joins (verdict_over node.chain item) ≡ false → content_new ≡ content_old
+  pub still : IsSoundWhereTold node reads_old → joins (verdict_over node.chain item) ≡ false → content_new ≡ content_old
   pub unwritten : IfOk result (λ answer. joins answer.1 ≡ false → content_new ≡ content_old)
   pub untouched : IfErr result (λ stop. stop ≢ DiskFault → (content_new ≡ content_old)
       ⊎ LacksSnapshot (length node.chain.blocks) node.place item stop reads_old reads_new old new)
 
--- How many steps the live cells took: one for a block on the tip, and one less where it stays out.
+-- No snapshot was begun: none is due, or the item stays out, or memory was out, or something is damaged.
+abbrev pub BeginsNone : Option ℕ → Result (NodeValue × Verdict) ReadStop → Type 0
+BeginsNone None result = Unit {0}
+BeginsNone (Some number) (Ok answer) = joins answer.1 ≡ false
+BeginsNone (Some number) (Err stop) = stop ≢ DiskFault
+
+-- How many steps the live cells took: those that its verdict says, where there is one; one at most for a block on the tip, and one less where it stays
+-- out.
 pub record TakesSteps (node : NodeValue) (item : List ℕ) (result : Result (NodeValue × Verdict) ReadStop) (before after : ℕ) : Type 0 where
+  pub exactly : IfOk result (λ answer. after ≡ before + moves_with node.chain item answer.1)
   pub steps : (b : Block) → decoded block item ≡ Some b → place_of node.chain.blocks b.header.parent_hash ≡ tip_place node.chain.blocks → after ≤ before + 1
   pub most : after ≤ before + moves_for node.chain item
   pub stays : IfOk result (λ answer. joins answer.1 ≡ false → after ≤ before + (moves_for node.chain item - 1))
@@ -78,17 +86,17 @@ pub record TakesSteps (node : NodeValue) (item : List ℕ) (result : Result (Nod
 -- An item was decided on over a node: only its live cells and what it holds in memory are others, and the cells stand where the decision says.
 pub record IsDecidedOn (before after : NodeValue) (item : List ℕ) (decision : Decision) (reads_old reads_new : Option Image) (new : Image → Type 0) : Type 0 where
   pub same : after ≡ record before { cells = after.cells; held = after.held }
-  pub own : IsItsOwn after reads_new new
+  pub own : IsOwnDiskWhereTold after reads_new new
   pub ready : IsReadyItem before.chain item decision
-  pub cells : IsSoundOn before reads_old → AreOfFound before.chain.blocks (place_for before.chain.blocks decision) (rows after.cells)
-  pub decided : IsSoundOn before reads_old → IsDecided before.chain item decision
+  pub cells : IsSoundWhereTold before reads_old → AreRowsOfFound before.chain.blocks (place_for before.chain.blocks decision) (rows after.cells)
+  pub decided : IsSoundWhereTold before reads_old → IsDecided before.chain item decision
 
 -- A block that could join has joined a node, whose live cells stood where it goes on from.
 pub record HasJoined (before after : NodeValue) (item : List ℕ) (joining : Joining) (reads_old reads_new : Option Image) (old new : Image → Type 0) : Type 0 where
-  pub own : IsItsOwn after reads_new new
+  pub own : IsOwnDiskWhereTold after reads_new new
   pub kept : IsDecided before.chain item (Joins joining) → after.chain ≡ chain_after before.chain item
   pub exts : IsDecided before.chain item (Joins joining) → HaveOwnExts before.chain before.exts → HaveOwnExts after.chain after.exts
-  pub live : AreOfFound before.chain.blocks (place_for before.chain.blocks (Joins joining)) (rows before.cells) → AreOfTip after.chain.blocks (rows after.cells)
+  pub live : AreRowsOfFound before.chain.blocks (place_for before.chain.blocks (Joins joining)) (rows before.cells) → AreRowsOfTip after.chain.blocks (rows after.cells)
   pub image : IsDecided before.chain item (Joins joining) → IsOnlyImage before.chain reads_old old → IsOnlyImage after.chain reads_new new
   pub settled : (records : List Record) → IsSettled before.place records reads_old old
       → IsSettled after.place (records ++ block_record item (ext_bytes joining.ext) ∷ []) reads_new new

@@ -13,7 +13,7 @@ use Rattle.uncle_rules.specs.Embedded.{UnclesValue, IndexesUncles}
 use Rattle.chain_defs.specs.Specification.{Specification}
 use Rattle.verdict_defs.specs.Chain.{Chain}
 use Rattle.cell_defs.specs.FitLaws.{AreCanonical}
-use Rattle.cell_state.specs.Moves.{AreOf, AreBelow}
+use Rattle.cell_state.specs.Moves.{AreRowsOfBranch, AreRowsBelow}
 use Rattle.store_defs.specs.Store.{AreJoined}
 
 -- the ext beside each kept block
@@ -57,16 +57,16 @@ pub record HoldsJoined (kept : KeptValue) (told : Option (List Stored)) : Type 0
   pub joined : AreJoined kept.chain kept.exts
 
 -- the rows are those of the branch of a place that was found
-abbrev pub AreOfFound : List Block → Option ℕ → (OutPoint → Option Row) → Type 0
-AreOfFound kept found rows = (place : ℕ) → found ≡ Some place → AreOf kept place rows
+abbrev pub AreRowsOfFound : List Block → Option ℕ → (OutPoint → Option Row) → Type 0
+AreRowsOfFound kept found rows = (place : ℕ) → found ≡ Some place → AreRowsOfBranch kept place rows
 
 -- of the tip's branch
-abbrev pub AreOfTip : List Block → (OutPoint → Option Row) → Type 0
-AreOfTip kept rows = AreOfFound kept (tip_place kept) rows
+abbrev pub AreRowsOfTip : List Block → (OutPoint → Option Row) → Type 0
+AreRowsOfTip kept rows = AreRowsOfFound kept (tip_place kept) rows
 
 -- each row is of a kept block
-abbrev pub AreOfKept : List Block → (OutPoint → Option Row) → Type 0
-AreOfKept kept rows = AreBelow (length kept) rows
+abbrev pub AreRowsOfKept : List Block → (OutPoint → Option Row) → Type 0
+AreRowsOfKept kept rows = AreRowsBelow (length kept) rows
 
 -- The ext of each block after the genesis counts a fee for each transaction of the block after the first.
 abbrev pub CountFees : List Stored → Type 0

@@ -9,7 +9,7 @@ use Rattle.store_defs.specs.EditionLaws.{AllStandBefore, edited_chain}
 use Rattle.store_defs.specs.declared.moved.Moved.{Moved}
 use Rattle.store_defs.specs.Migration.{migration, is_done, chain_moved}
 use Rattle.node_store.specs.Kept.{KeptValue}
-use Rattle.node_store.specs.Node.{NodeValue, IsItsOwn, IsSoundNode, IsSoundOn, IsOnlyImage, IsOn}
+use Rattle.node_store.specs.Node.{NodeValue, IsOwnDiskWhereTold, IsSoundNode, IsSoundWhereTold, IsOnlyImage, StandsOnDisk}
 
 -- the records after it
 abbrev pub records_moved : List Record → ℕ → Moved → List Record
@@ -22,7 +22,7 @@ kept_edited kept epoch = record { chain = edited_chain kept.chain epoch; exts = 
 -- A node whose store got an edition: the record stands after the others, and nothing else is another.
 pub record IsEdited (before after : NodeValue) (epoch : ℕ) (reads_old reads_new : Option Image) (old new : Image → Type 0) : Type 0 where
   pub same : after ≡ record before { chain = edited_chain before.chain epoch; place = after.place }
-  pub own : IsItsOwn after reads_new new
+  pub own : IsOwnDiskWhereTold after reads_new new
   pub settled : (records : List Record) → IsSettled before.place records reads_old old
       → IsSettled after.place (records ++ edition_record epoch ∷ []) reads_new new
   pub image : AllStandBefore epoch before.chain → IsOnlyImage before.chain reads_old old → IsOnlyImage after.chain reads_new new
@@ -32,11 +32,11 @@ pub record IsEdited (before after : NodeValue) (epoch : ℕ) (reads_old reads_ne
 pub record IsMigrated (before after : NodeValue) (epoch : ℕ) (moved : Moved) (reads_old reads_new : Option Image) (old new : Image → Type 0) : Type 0 where
   pub answer : moved ≡ migration before.chain epoch
   pub same : after ≡ record before { chain = chain_moved before.chain epoch moved; place = after.place }
-  pub own : IsItsOwn after reads_new new
+  pub own : IsOwnDiskWhereTold after reads_new new
   pub settled : (records : List Record) → IsSettled before.place records reads_old old
       → IsSettled after.place (records_moved records epoch moved) reads_new new
-  pub sound : IsSoundOn before reads_old → IsSoundNode after
-  pub on : IsOn before reads_old old → IsOn after reads_new new
+  pub sound : IsSoundWhereTold before reads_old → IsSoundNode after
+  pub on : StandsOnDisk before reads_old old → StandsOnDisk after reads_new new
 
 -- What a crash leaves at each moment: the chain as it was or as it is after it, where the node is sound; and the records of the log, with that of the
 -- edition or without, whatever they are.

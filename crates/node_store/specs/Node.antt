@@ -29,7 +29,7 @@ use Rattle.rule_defs.specs.Genesis.{broken_genesis_rule}
 use Rattle.disk_defs.specs.Log.{Record, of_blocks, edition_of, log_of}
 use Rattle.disk_defs.specs.Rest.{IsSettled, IsAppended, HasLog}
 use Rattle.store_defs.specs.Store.{StandsFor, AreJoined, HasNoSnapshots, new_image}
-use Rattle.node_store.specs.Kept.{KeptValue, stored_of, AreOfTip, AreOfKept}
+use Rattle.node_store.specs.Kept.{KeptValue, stored_of, AreRowsOfTip, AreRowsOfKept}
 
 -- A node: its chain, the exts of its blocks, and their entries, which say where in LOG each block lies; the offset where the records of its log end;
 -- its live cells; the blocks that it holds in memory, each with its ext, by their places, and how many at most; and the damage that was found as it
@@ -63,7 +63,7 @@ node_of kept place cells cache = record {
 
 -- LOG has what is kept, and just that, after some specification: a log can keep it, the entries name its bodies, and what is held in memory is of it. Its
 -- records tell the edition of the chain, wherever among them that one stands.
-pub record IsReadBy (kept : KeptValue) (held : List (ℕ × Stored)) (image : Image) : Type 0 where
+pub record LogHoldsKept (kept : KeptValue) (held : List (ℕ × Stored)) (image : Image) : Type 0 where
   pub specification : List ℕ
   pub records : List Record
   pub keeps : of_blocks records ≡ kept_records (stored_of kept)
@@ -73,23 +73,23 @@ pub record IsReadBy (kept : KeptValue) (held : List (ℕ × Stored)) (image : Im
   pub agrees : AgreesWith (stored_of kept) held
 
 -- The disk is a node's own: LOG has what the node keeps, its records end at the node's place, and a crash leaves LOG as it reads.
-pub record IsOf (node : NodeValue) (reads : Option Image) (images : Image → Type 0) : Type 0 where
+pub record IsOwnDisk (node : NodeValue) (reads : Option Image) (images : Image → Type 0) : Type 0 where
   pub now : Image
   pub told : reads ≡ Some now
-  pub read : IsReadBy (kept_in node) node.held now
+  pub read : LogHoldsKept (kept_in node) node.held now
   pub settled : IsSettled node.place (record_of 1 read.specification ∷ read.records) reads images
 
 -- so it is where the disk tells what it reads as
-abbrev pub IsItsOwn : NodeValue → Option Image → (Image → Type 0) → Type 0
-IsItsOwn node reads images = IfSome reads (λ _. IsOf node reads images)
+abbrev pub IsOwnDiskWhereTold : NodeValue → Option Image → (Image → Type 0) → Type 0
+IsOwnDiskWhereTold node reads images = IfSome reads (λ _. IsOwnDisk node reads images)
 
 -- A node is sound: what it keeps has joined, each block with its own ext, and its live cells are those of the tip.
 pub record IsSoundNode (node : NodeValue) : Type 0 where
   pub joined : AreJoined node.chain node.exts
-  pub live : AreOfTip node.chain.blocks (rows node.cells)
+  pub live : AreRowsOfTip node.chain.blocks (rows node.cells)
 
 -- It is sound on a disk that tells what it reads as.
-pub record IsSoundOn (node : NodeValue) (reads : Option Image) : Type 0 where
+pub record IsSoundWhereTold (node : NodeValue) (reads : Option Image) : Type 0 where
   pub sound : IsSoundNode node
   pub told : IsSome reads
 
@@ -101,9 +101,9 @@ pub record IsOnlyImage (chain : Chain) (reads : Option Image) (images : Image �
   pub stands : StandsFor chain now
 
 -- A node is on a disk: it is sound, and the disk is its own and has one image, that of its chain.
-pub record IsOn (node : NodeValue) (reads : Option Image) (images : Image → Type 0) : Type 0 where
+pub record StandsOnDisk (node : NodeValue) (reads : Option Image) (images : Image → Type 0) : Type 0 where
   pub image : IsOnlyImage node.chain reads images
-  pub of : IsOf node reads images
+  pub of : IsOwnDisk node reads images
   pub sound : IsSoundNode node
 
 -- What a call leaves that only reads kept blocks on a disk: the disk as it was, in memory what is the disk's, and as much at most as before, damage in
@@ -112,7 +112,7 @@ pub record IsOn (node : NodeValue) (reads : Option Image) (images : Image → Ty
 pub record HasOnlyRead {S C : Type 0} (content_of : S → C) (reads_as : S → Option Image) (faults : S → ℕ) (old new : S) (kept : KeptValue)
     (before after : CacheValue) (stop : Option ReadStop) : Type 0 where
   pub content : content_of new ≡ content_of old
-  pub agrees : IfSome (reads_as new) (IsReadBy kept after.held)
+  pub agrees : IfSome (reads_as new) (LogHoldsKept kept after.held)
   pub most : after.most ≡ before.most
   pub damage : (damage : Damage) → stop ≡ Some (Damaged damage) → damage.area ≡ Log
   pub cause : CountsFault (faults old) (faults new) (stop ≡ Some DiskFault)
@@ -123,7 +123,7 @@ pub record LeavesAll {S C : Type 0} (content_of : S → C) (reads_as : S → Opt
     (before after : NodeValue) (stop : Option ReadStop) : Type 0 where
   pub content : content_of new ≡ content_of old
   pub node : after ≡ record before { held = after.held; damages = after.damages }
-  pub own : IsItsOwn after (reads_as new) (images new)
+  pub own : IsOwnDiskWhereTold after (reads_as new) (images new)
   pub damage : (damage : Damage) → stop ≡ Some (Damaged damage) → damage.area ≡ Log
   pub cause : CountsFault (faults old) (faults new) (stop ≡ Some DiskFault)
   pub found : Finds before.damages after.damages stop
@@ -137,7 +137,7 @@ IsWithin count edition place = place + edition_room edition ≤ 2 ^ 33 * (count 
 pub record IsBounded (kept : KeptValue) (place : ℕ) (cells : StateValue) : Type 0 where
   pub few : length kept.chain.blocks ≤ kept_limit
   pub within : IsWithin (length kept.chain.blocks) kept.chain.spec.second_from place
-  pub below : AreOfKept kept.chain.blocks (rows cells)
+  pub below : AreRowsOfKept kept.chain.blocks (rows cells)
 
 -- a specification and a genesis that keep their rules, as handed in
 pub record NewStoreValue : Type 0 where

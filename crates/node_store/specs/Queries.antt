@@ -1,6 +1,6 @@
 -- What queries answer of a node's chain.
 use Rattle.std.specs.Prelude.{◌≡◌, ℕ, List, Option, Some, None}
-use Rattle.chain_defs.specs.Shape.{encoded, IsA}
+use Rattle.chain_defs.specs.Shape.{encoded, IsEncoding}
 use Rattle.chain_defs.specs.Schema.{OutPoint, Block, block, header}
 use Rattle.chain_defs.specs.Kept.{block_at, block_hash}
 use Rattle.chain_defs.specs.Tip.{tip_place, best_branch}
@@ -33,7 +33,7 @@ IsHeaderAt kept height (Some told) =
 -- what is answered of the block there: its encoding
 abbrev pub IsBlockAt : List Block → ℕ → Option (List ℕ) → Type 0
 IsBlockAt kept height None = block_at (best_branch kept) height ≡ None
-IsBlockAt kept height (Some bytes) = (b : Block) × (block_at (best_branch kept) height ≡ Some b) × IsA block bytes b
+IsBlockAt kept height (Some bytes) = (b : Block) × (block_at (best_branch kept) height ≡ Some b) × IsEncoding block bytes b
 
 -- A cell is live with an out-point on the best branch, and this is its row there.
 pub record IsLiveRow (kept : List Block) (o : OutPoint) (cell : Cell) (row : Row) : Type 0 where

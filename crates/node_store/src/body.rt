@@ -8,12 +8,12 @@ ghost use Rattle.chain_defs.specs.Hashes.{transaction_hash};
 ghost use Rattle.cell_model.specs.ListBlocks.{ids_of, IsCanonical};
 ghost use Rattle.node_store.specs.Stored.{parts_in, stored_in};
 
-use cell_model::{proposal_id, tx_hash};
 use log_file::{ext_form, parts};
 use mol_schema::BlockView;
 use outside::NoMemory;
 use std::alloc::Global;
 use std::marker::Model;
+use view_hashes::{proposal_id, transaction_hash};
 
 /// The body of an entry whose block is canonical, with the proposal ids of its block. Clauses see the block and its
 /// ext; that of the genesis is empty.
@@ -48,7 +48,7 @@ fn proposal_ids(alloc: Global, block: &BlockView<'_>) -> Result<Vec<[u8; 10]>, N
     let count = block.transactions_count();
     let mut ids = Vec::with_capacity(alloc, count.saturating_sub(1))?;
     'later: for i in 1..count {
-        ids.push(proposal_id(&tx_hash(&block.transactions_item(i))))?;
+        ids.push(proposal_id(&transaction_hash(&block.transactions_item(i))))?;
     }
     Ok(ids)
 }

@@ -6,12 +6,11 @@ ghost use Rattle.chain_tree.specs.Blocks.{Describes, AreRated};
 ghost use Rattle.log_file.specs.Grammar.{AreBlocks};
 ghost use Rattle.log_file.specs.Stops.{IsDamage};
 ghost use Rattle.outside.specs.declared.disk.Area.TheVariants.{Log};
-ghost use Rattle.cell_state.specs.Moves.{AreOf};
-ghost use Rattle.node_store.specs.Kept.{kept_of, AreOfKept, CountFees};
+ghost use Rattle.cell_state.specs.Moves.{AreRowsOfBranch};
+ghost use Rattle.node_store.specs.Kept.{kept_of, AreRowsOfKept, CountFees};
 ghost use Rattle.node_store.specs.Gathering.{counts_fees, fits_at, or_unfit, IsBodyOfUnfit, AreLeftBy};
 
 use crate::{Kept, Recorded};
-use block_rules::transaction_hashes;
 use cell_state::State;
 use chain_tree::{Entry, Tree};
 use dao_math::is_rated;
@@ -22,6 +21,7 @@ use outside::{Area, Damage, NoMemory};
 use std::alloc::Global;
 use std::marker::Model;
 use uncle_rules::Uncles;
+use view_hashes::transaction_hashes;
 
 /// What is gathered of the blocks of a log. Clauses see them, each with its ext.
 #[derive(Drop)]
@@ -124,8 +124,8 @@ impl Gathering {
     pub(crate) fn into_kept(self, spec: Spec, tree: Tree) -> Result<(Kept, State), LogStop>
         requires { AreBlocks self.stored tree.entries }
         ensures kept { IfOk result (λ it. it.0 ≡ kept_of spec self.stored tree.entries) }
-        ensures cells { IfOk result (λ it. AreOf it.0.chain.blocks 0 (rows it.1)) }
-        ensures below { IfOk result (λ it. AreOfKept it.0.chain.blocks (rows it.1)) }
+        ensures cells { IfOk result (λ it. AreRowsOfBranch it.0.chain.blocks 0 (rows it.1)) }
+        ensures below { IfOk result (λ it. AreRowsOfKept it.0.chain.blocks (rows it.1)) }
         ensures wrong { OnOk result (AreRated tree.entries × CountFees self.stored) }
         ensures right { AreRated tree.entries → CountFees self.stored → IsOk result }
         ensures stop { IfErr result (IsDamage (λ damage. (damage.area ≡ Log) × IsBodyOfUnfit self.stored tree.entries damage.at)) }

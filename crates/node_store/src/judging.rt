@@ -2,10 +2,10 @@
 ghost use Rattle.std.specs.Prelude.{◌≡◌, ◌≤◌, ◌+◌, ◌-◌, ◌<◌, length, Err, IfOk};
 ghost use Rattle.outside.specs.declared.disk.Damage.{Damage};
 ghost use Rattle.outside.specs.declared.disk.ReadStop.TheVariants.{Damaged, NoMemory};
-ghost use Rattle.node_store.specs.Steps.{moves_for};
+ghost use Rattle.node_store.specs.Steps.{moves_for, moves_until};
 ghost use Rattle.cell_state.specs.State.{rows};
 ghost use Rattle.chain_tree.specs.Reading.{HasRead, stop_of};
-ghost use Rattle.node_store.specs.Kept.{HoldsJoined, AreOfFound, AreOfTip, AreOfKept};
+ghost use Rattle.node_store.specs.Kept.{HoldsJoined, AreRowsOfFound, AreRowsOfTip, AreRowsOfKept};
 ghost use Rattle.node_store.specs.Judging.{IsDecided, IsReadyItem, MayWantMemory, place_for};
 
 use crate::decision::Decision;
@@ -32,14 +32,15 @@ pub trait Judging {
         requires counts { B.count blocks.old ≡ length kept.now.chain.blocks }
         ensures read { HasRead B.told B.count B.loans_of B.faults B.damages blocks.old blocks.new (stop_of result) }
         ensures ready { IfOk result (λ it. IsReadyItem kept.now.chain item.now it.1) }
-        ensures cells { HoldsJoined kept.now (B.told blocks.old) → AreOfTip kept.now.chain.blocks (rows state)
-            → IfOk result (λ it. AreOfFound kept.now.chain.blocks (place_for kept.now.chain.blocks it.1) (rows it.0)) }
-        ensures below { AreOfKept kept.now.chain.blocks (rows state) → IfOk result (λ it. AreOfKept kept.now.chain.blocks (rows it.0)) }
-        ensures decided { HoldsJoined kept.now (B.told blocks.old) → AreOfTip kept.now.chain.blocks (rows state)
+        ensures cells { HoldsJoined kept.now (B.told blocks.old) → AreRowsOfTip kept.now.chain.blocks (rows state)
+            → IfOk result (λ it. AreRowsOfFound kept.now.chain.blocks (place_for kept.now.chain.blocks it.1) (rows it.0)) }
+        ensures below { AreRowsOfKept kept.now.chain.blocks (rows state) → IfOk result (λ it. AreRowsOfKept kept.now.chain.blocks (rows it.0)) }
+        ensures decided { HoldsJoined kept.now (B.told blocks.old) → AreRowsOfTip kept.now.chain.blocks (rows state)
             → IfOk result (λ it. IsDecided kept.now.chain item.now it.1) }
-        ensures undamaged { HoldsJoined kept.now (B.told blocks.old) → AreOfTip kept.now.chain.blocks (rows state)
+        ensures undamaged { HoldsJoined kept.now (B.told blocks.old) → AreRowsOfTip kept.now.chain.blocks (rows state)
             → (damage : Damage) → result ≡ Err (Damaged damage) → ⊥ }
         ensures asked { result ≡ Err NoMemory → MayWantMemory kept.now.chain item.now }
+        ensures exactly { IfOk result (λ it. steps.new ≡ steps.old + moves_until kept.now.chain.blocks (moves_for kept.now.chain item.now) it.1) }
         ensures most { steps.new ≤ steps.old + (moves_for kept.now.chain item.now - 1) }
         ensures sight { moves_for kept.now.chain item.now ≡ 0 → blocks.new ≡ blocks.old };
 }

@@ -12,17 +12,18 @@ ghost use Rattle.cell_defs.specs.Events.{events_of_block, live_cell};
 ghost use Rattle.chain_defs.specs.Branch.{branch};
 ghost use Rattle.cell_defs.specs.Fit.{are_live, AllFit};
 ghost use Rattle.cell_state.specs.State.{rows, Grows};
-ghost use Rattle.cell_state.specs.Moves.{AreBelow};
+ghost use Rattle.cell_state.specs.Moves.{AreRowsBelow};
 ghost use Rattle.cell_model.specs.ListBlocks.{IsExtFor};
-ghost use Rattle.chain_tree.specs.Blocks.{Describes, IndexesBlocks};
+ghost use Rattle.chain_tree.specs.Blocks.{Describes, IndexesBlocks, AreRated};
 ghost use Rattle.outside.specs.declared.disk.Area.TheVariants.{Log};
 ghost use Rattle.outside.specs.declared.disk.Damage.{Damage as a_damage};
 ghost use Rattle.outside.specs.declared.disk.ReadStop.TheVariants.{DiskFault, Damaged};
 ghost use Rattle.verdict_defs.specs.Laws.{MayJoin};
 ghost use Rattle.cell_defs.specs.FitLaws.{AreCanonical};
 ghost use Rattle.store_defs.specs.Store.{IsJoined};
-ghost use Rattle.node_store.specs.Kept.{kept_with, AreOfFound, AreOfTip, AreOfKept};
+ghost use Rattle.node_store.specs.Kept.{kept_with, AreRowsOfFound, AreRowsOfTip, AreRowsOfKept};
 ghost use Rattle.node_store.specs.Migration.{kept_edited};
+ghost use Rattle.node_store.specs.Steps.{moves_to_join};
 ghost use Rattle.node_store.specs.Judging.{IsReady, is_above, place_for};
 ghost use Rattle.node_store.specs.declared.decision.Decision.TheVariants.{Joins};
 
@@ -81,11 +82,12 @@ fn grown<L: Ledger>(
 ) -> Result<State, ReadStop>
     requires { hashes.now ≡ map transaction_hash block.now.transactions }
     ensures of_branch { IfOk result (λ state. Grows block.now place cells state) }
-    ensures below { (end : ℕ) → place < end → AreBelow end (rows cells) → IfOk result (λ state. AreBelow end (rows state)) }
+    ensures below { (end : ℕ) → place < end → AreRowsBelow end (rows cells) → IfOk result (λ state. AreRowsBelow end (rows state)) }
     ensures undamaged { (height : ℕ) → 0 < height → AllFit (events_of_block height block.now) (are_live (rows cells))
         → (damage : a_damage) → result ≡ Err (Damaged damage) → ⊥ }
     ensures damage { (damage : a_damage) → result ≡ Err (Damaged damage) → damage.area ≡ Log }
     ensures reads { result ≢ Err DiskFault }
+    ensures exactly { OnOk result (steps.new ≡ steps.old + 1) }
     ensures most { steps.new ≤ steps.old + 1 }
 {
     let mut state = cells;
@@ -121,14 +123,15 @@ impl Kept {
         requires few { length tree.now.entries < 2 ^ 32 }
         requires hashes { joining.hashes.items ≡ map transaction_hash block.now.transactions }
         ensures live { (kept : List Block) → IndexesBlocks kept tree.now.entries → IsReady kept block.now joining
-            → AreOfFound kept (place_for kept (Joins joining)) (rows state) → IfOk result (λ next. AreOfTip (kept ++ block.now ∷ []) (rows next)) }
-        ensures below { (end : ℕ) → length tree.now.entries < end → AreBelow end (rows state) → IfOk result (λ next. AreBelow end (rows next)) }
+            → AreRowsOfFound kept (place_for kept (Joins joining)) (rows state) → IfOk result (λ next. AreRowsOfTip (kept ++ block.now ∷ []) (rows next)) }
+        ensures below { (end : ℕ) → length tree.now.entries < end → AreRowsBelow end (rows state) → IfOk result (λ next. AreRowsBelow end (rows next)) }
         ensures undamaged { (kept : List Block) (height : ℕ) → IndexesBlocks kept tree.now.entries → IsReady kept block.now joining
-            → AreOfFound kept (place_for kept (Joins joining)) (rows state)
+            → AreRowsOfFound kept (place_for kept (Joins joining)) (rows state)
             → 0 < height → AllFit (events_of_block height block.now) (are_live (live_cell (branch kept joining.entry.parent)))
             → (damage : a_damage) → result ≡ Err (Damaged damage) → ⊥ }
         ensures damage { (damage : a_damage) → result ≡ Err (Damaged damage) → damage.area ≡ Log }
         ensures reads { result ≢ Err DiskFault }
+        ensures exactly { (kept : List Block) → IndexesBlocks kept tree.now.entries → OnOk result (steps.new ≡ steps.old + moves_to_join kept joining) }
         ensures most { steps.new ≤ steps.old + 1 }
     {
         if !is_above_tip(tree, &joining.entry) {
@@ -154,14 +157,15 @@ impl Kept {
         requires ext { IsExtFor item.now ext.now }
         ensures kept { (b : Block) → decoded schema.block item.now ≡ Some b
             → IfOk result (λ it. it.0 ≡ kept_with self b ext.now (record joining.entry { at = rec.at; len = rec.len })) }
-        ensures live { AreOfFound self.chain.blocks (place_for self.chain.blocks (Joins joining)) (rows state)
-            → IfOk result (λ it. AreOfTip it.0.chain.blocks (rows it.1)) }
-        ensures below { AreOfKept self.chain.blocks (rows state) → IfOk result (λ it. AreOfKept it.0.chain.blocks (rows it.1)) }
+        ensures live { AreRowsOfFound self.chain.blocks (place_for self.chain.blocks (Joins joining)) (rows state)
+            → IfOk result (λ it. AreRowsOfTip it.0.chain.blocks (rows it.1)) }
+        ensures below { AreRowsOfKept self.chain.blocks (rows state) → IfOk result (λ it. AreRowsOfKept it.0.chain.blocks (rows it.1)) }
         ensures undamaged { (b : Block) → decoded schema.block item.now ≡ Some b → IsJoined self.chain → MayJoin self.chain.spec self.chain.blocks b
-            → AreOfFound self.chain.blocks (place_for self.chain.blocks (Joins joining)) (rows state)
+            → AreRowsOfFound self.chain.blocks (place_for self.chain.blocks (Joins joining)) (rows state)
             → (damage : a_damage) → result ≡ Err (Damaged damage) → ⊥ }
         ensures damage { (damage : a_damage) → result ≡ Err (Damaged damage) → damage.area ≡ Log }
         ensures reads { result ≢ Err DiskFault }
+        ensures exactly { OnOk result (steps.new ≡ steps.old + moves_to_join self.chain.blocks joining) }
         ensures most { steps.new ≤ steps.old + 1 }
     {
         let block = BlockView::from_encoding(item);
@@ -237,6 +241,7 @@ impl Kept {
     pub fn tree(&self) -> &Tree
         ensures entries { result.now.entries ≡ self.now.entries }
         ensures indexed { IndexesBlocks self.now.chain.blocks result.now.entries }
+        ensures rated { AreRated result.now.entries }
         ensures canonical { AreCanonical self.now.chain.blocks }
     {
         &self.tree

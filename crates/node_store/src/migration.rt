@@ -8,7 +8,7 @@ ghost use Rattle.disk_defs.specs.Log.{Record, edition_record};
 ghost use Rattle.disk_defs.specs.Rest.{IsSettled, HasAppended};
 ghost use Rattle.store_defs.specs.Store.{StandsFor};
 ghost use Rattle.store_defs.specs.EditionLaws.{AllStandBefore, edited_chain};
-ghost use Rattle.node_store.specs.Node.{IsItsOwn, IsOnlyImage};
+ghost use Rattle.node_store.specs.Node.{IsOwnDiskWhereTold, IsOnlyImage};
 ghost use Rattle.store_defs.specs.Migration.{migration};
 ghost use Rattle.node_store.specs.Migration.{IsEdited};
 
@@ -43,7 +43,7 @@ pub(crate) fn edit<D: Disk>(
     disk: &mut D,
     epoch: u64,
 ) -> Result<Node, WriteStop>
-    requires own { IsItsOwn node (D.reads_as disk.old) (D.images disk.old) }
+    requires own { IsOwnDiskWhereTold node (D.reads_as disk.old) (D.images disk.old) }
     requires none { node.chain.spec.second_from ≡ None }
     ensures edited { IfOk result (λ next. IsEdited node next epoch (D.reads_as disk.old) (D.reads_as disk.new) (D.images disk.old) (D.images disk.new)) }
     ensures moments { AllStandBefore epoch node.chain → IsOnlyImage node.chain (D.reads_as disk.old) (D.images disk.old)

@@ -5,9 +5,9 @@ ghost use Rattle.outside.specs.declared.disk.Damage.{Damage};
 ghost use Rattle.outside.specs.declared.disk.ReadStop.TheVariants.{Damaged};
 ghost use Rattle.cell_state.specs.State.{rows};
 ghost use Rattle.chain_tree.specs.Damages.{IsAtRecord};
-ghost use Rattle.cell_state.specs.Moves.{AreOf};
+ghost use Rattle.cell_state.specs.Moves.{AreRowsOfBranch};
 ghost use Rattle.chain_tree.specs.Reading.{HasRead, stop_of};
-ghost use Rattle.node_store.specs.Kept.{HoldsJoined, AreOfKept};
+ghost use Rattle.node_store.specs.Kept.{HoldsJoined, AreRowsOfKept};
 
 use crate::kept::Kept;
 use cell_state::{State, go_to};
@@ -31,10 +31,10 @@ impl Kept {
         requires to { to < length self.now.chain.blocks }
         requires counts { B.count blocks.old ≡ length self.now.chain.blocks }
         ensures read { HasRead B.told B.count B.loans_of B.faults B.damages blocks.old blocks.new (stop_of result) }
-        ensures cells { HoldsJoined self.now (B.told blocks.old) → AreOf self.now.chain.blocks from (rows state)
-            → IfOk result (λ there. AreOf self.now.chain.blocks to (rows there)) }
-        ensures below { AreOfKept self.now.chain.blocks (rows state) → IfOk result (λ there. AreOfKept self.now.chain.blocks (rows there)) }
-        ensures undamaged { HoldsJoined self.now (B.told blocks.old) → AreOf self.now.chain.blocks from (rows state)
+        ensures cells { HoldsJoined self.now (B.told blocks.old) → AreRowsOfBranch self.now.chain.blocks from (rows state)
+            → IfOk result (λ there. AreRowsOfBranch self.now.chain.blocks to (rows there)) }
+        ensures below { AreRowsOfKept self.now.chain.blocks (rows state) → IfOk result (λ there. AreRowsOfKept self.now.chain.blocks (rows there)) }
+        ensures undamaged { HoldsJoined self.now (B.told blocks.old) → AreRowsOfBranch self.now.chain.blocks from (rows state)
             → (damage : Damage) → result ≡ Err (Damaged damage) → ⊥ }
         ensures at_record { IsSome (B.told blocks.old) → (damage : Damage) → result ≡ Err (Damaged damage)
             → (place : ℕ) × IsAtRecord self.now.entries place damage }

@@ -10,15 +10,15 @@ ghost use Rattle.rule_defs.specs.Genesis.{broken_genesis_rule};
 ghost use Rattle.node_store.specs.Node.{IsHashOf, IsNew, KeepsLog, HasOldLogOrNoSnapshots};
 
 use crate::area::clear;
-use crate::hash_of;
 use epochs::Spec;
-use log_file::genesis_ok;
+use log_file::judge_genesis;
 use mol_schema::BlockView;
 use outside::{Area, Disk, WriteStop};
 use std::alloc::Global;
 use std::error::Error;
 use std::fmt;
 use std::marker::Model;
+use view_hashes::block_hash;
 
 /// Why no store is made of a specification and a genesis.
 #[derive(Clone, Copy, Debug, PartialEq, Eq)]
@@ -79,13 +79,13 @@ pub fn judge<'a>(alloc: Global, spec: &'a [u8], genesis: &'a [u8]) -> Result<New
     let Some(block) = BlockView::read(genesis) else {
         return Err(NewStop::BadGenesis(1));
     };
-    match genesis_ok(alloc, genesis) {
+    match judge_genesis(alloc, &block) {
         Err(_) => Err(NewStop::NoMemory),
         Ok(Some(rule)) => Err(NewStop::BadGenesis(rule)),
         Ok(None) => Ok(NewStore {
             spec,
             genesis,
-            hash: hash_of(&block),
+            hash: block_hash(&block),
         }),
     }
 }

@@ -16,8 +16,8 @@ ghost use Rattle.rule_defs.specs.Capacity.{rate_of};
 ghost use Rattle.chain_defs.specs.Tip as tips;
 ghost use Rattle.chain_defs.specs.Tip.{tip_place, best_branch};
 ghost use Rattle.cell_state.specs.State.{rows};
-ghost use Rattle.cell_state.specs.Moves.{AreOf};
-ghost use Rattle.chain_tree.specs.Blocks.{Describes, IndexesBlocks};
+ghost use Rattle.cell_state.specs.Moves.{AreRowsOfBranch};
+ghost use Rattle.chain_tree.specs.Blocks.{Describes, IndexesBlocks, AreRated};
 ghost use Rattle.chain_tree.specs.Damages.{IsOfBlock};
 ghost use Rattle.chain_tree.specs.Reading.{nothing_found, stop_of};
 ghost use Rattle.verdict_defs.specs.Chain.{Chain, verdict_over, chain_after};
@@ -27,16 +27,16 @@ ghost use Rattle.disk_defs.specs.Rest.{IsSettled};
 ghost use Rattle.store_defs.specs.Store.{Keeps, store_of, StandsFor, IsSound};
 ghost use Rattle.node_store.specs.Held.{held_at};
 ghost use Rattle.log_file.specs.declared.stop.LogStop.TheVariants as log_stops;
-ghost use Rattle.log_file.specs.Stops.{OfDamage, IsInLog};
-ghost use Rattle.node_store.specs.Import.{IsImported, LeavesEither, IsLogged, TakesSteps, IsDecidedOn};
+ghost use Rattle.log_file.specs.Stops.{IfDamage, IsInLog};
+ghost use Rattle.node_store.specs.Import.{IsImported, LeavesEither, IsLogged, BeginsNone, TakesSteps, IsDecidedOn};
 ghost use Rattle.store_defs.specs.Migration.{migration, is_done};
 ghost use Rattle.node_store.specs.Migration.{IsMigrated, LeavesMigration};
-ghost use Rattle.node_store.specs.Node.{node_of, IsItsOwn, IsSoundNode, IsSoundOn, IsOnlyImage, IsOn, LeavesAll};
-ghost use Rattle.node_store.specs.Kept.{AreOfTip, AreOfKept};
+ghost use Rattle.node_store.specs.Node.{node_of, IsOwnDiskWhereTold, IsSoundNode, IsSoundWhereTold, IsOnlyImage, StandsOnDisk, LeavesAll};
+ghost use Rattle.node_store.specs.Kept.{AreRowsOfTip, AreRowsOfKept};
 ghost use Rattle.node_store.specs.Opening.{LeavesStore, IsReadFrom, IsOpenedNode, NameItsBodies, IsNoneFrom, IsNoStoreAt};
 ghost use Rattle.outside.specs.declared.disk.WriteStop.TheVariants as write_stops;
-ghost use Rattle.node_store.specs.Snapshot.{snapshot_at, OthersReadBut, HasSnapshot, LacksSnapshot};
-ghost use Rattle.node_store.specs.Steps.{moves_for};
+ghost use Rattle.node_store.specs.Snapshot.{snapshot_at, LeavesSnapshots};
+ghost use Rattle.node_store.specs.Steps.{moves_for, moves_until};
 ghost use Rattle.node_store.specs.OpeningSteps.{moves_to_open};
 ghost use Rattle.node_store.specs.Judging.{MayWantMemory};
 ghost use Rattle.node_store.specs.Queries.{IsHeaderAt, IsBlockAt, IsLiveCell, IsFetched};
@@ -91,7 +91,7 @@ impl Model for Node {
 
 /// Why a log is not opened where the live cells did not reach the tip.
 fn stop_of_move(stop: ReadStop) -> LogStop
-    ensures damaged { OfDamage (λ damage. stop ≡ Damaged damage) result }
+    ensures damaged { IfDamage (λ damage. stop ≡ Damaged damage) result }
     ensures found { (damage : Damage) → stop ≡ Damaged damage → result ≡ log_stops.NotAStore damage }
     ensures fault { (result ≡ log_stops.DiskFault) ↔ (stop ≡ DiskFault) }
     ensures memory { (result ≡ log_stops.NoMemory) ↔ (stop ≡ ReadStop.NoMemory) }
@@ -120,9 +120,9 @@ fn read_store<D: Disk>(alloc: Global, disk: &mut D, held: usize) -> Result<Node,
     requires { 1 ≤ held }
     ensures left { LeavesStore D.reads_as D.images D.moment D.left_since disk.old disk.new }
     ensures read { IfOk result (λ node. IfSome (D.reads_as disk.old) (IsReadFrom node (D.reads_as disk.new) (D.images disk.new))) }
-    ensures cells { IfOk result (λ node. AreOf node.chain.blocks 0 (rows node.cells)) }
-    ensures not_a_store { IfErr result (OfDamage (λ _. IfSome (D.reads_as disk.old) (λ now. IsSound now → ⊥))) }
-    ensures damage { IfErr result (OfDamage (IsInLog (D.reads_as disk.old) IsNoneFrom)) }
+    ensures cells { IfOk result (λ node. AreRowsOfBranch node.chain.blocks 0 (rows node.cells)) }
+    ensures not_a_store { IfErr result (IfDamage (λ _. IfSome (D.reads_as disk.old) (λ now. IsSound now → ⊥))) }
+    ensures damage { IfErr result (IfDamage (IsInLog (D.reads_as disk.old) IsNoneFrom)) }
     ensures named { IfOk result (λ node. IfSome (D.reads_as disk.old) (λ now. NameItsBodies now.log node.entries)) }
     ensures one_image { OnOk result (HasOneImage (D.reads_as disk.new) (D.images disk.new)) }
     ensures image { ((image : Image) → D.images disk.old image → IsSound image)
@@ -176,13 +176,14 @@ impl Node {
     ) -> Result<Node, LogStop>
         requires { 1 ≤ held }
         ensures opened { IfOk result (λ node. IsOpenedNode node held (D.reads_as disk.old) (D.reads_as disk.new) (D.images disk.old) (D.images disk.new)) }
-        ensures not_a_store { IfErr result (OfDamage (λ _. IfSome (D.reads_as disk.old) (λ now. IsSound now → ⊥))) }
-        ensures damage { IfErr result (OfDamage (λ damage. IfSome (D.reads_as disk.old) (λ now. IsNoStoreAt now damage))) }
+        ensures not_a_store { IfErr result (IfDamage (λ _. IfSome (D.reads_as disk.old) (λ now. IsSound now → ⊥))) }
+        ensures damage { IfErr result (IfDamage (λ damage. IfSome (D.reads_as disk.old) (λ now. IsNoStoreAt now damage))) }
         ensures left { LeavesStore D.reads_as D.images D.moment D.left_since disk.old disk.new }
         ensures one_image { OnOk result (HasOneImage (D.reads_as disk.new) (D.images disk.new)) }
         ensures moments { (now : Image) (chain : Chain) → D.reads_as disk.old ≡ Some now → store_of now ≡ Keeps chain → ((image : Image) → D.images disk.old image → IsSound image)
             → LeavesOnly D.moment D.left_since disk.old disk.new (λ image. D.images disk.old image ⊎ StandsFor chain image) }
         ensures cause { CountsFault (D.faults disk.old) (D.faults disk.new) (result ≡ Err LogStop.DiskFault) }
+        ensures exactly { (now : Image) → D.reads_as disk.old ≡ Some now → OnOk result (steps.new ≡ steps.old + moves_to_open now) }
         ensures most { (now : Image) → D.reads_as disk.old ≡ Some now → steps.new ≤ steps.old + moves_to_open now }
     {
         let node = match read_store(alloc, disk, held) {
@@ -218,7 +219,8 @@ impl Node {
     /// one. An item that is answered at sight, as one that is known, takes no step and does not call the disk. Memory is
     /// wanted only for a block that is new, on a kept parent, and keeps the rules on a header and the limits on its length
     /// and its proposals. A block that joins is held in memory. Where as many blocks have joined as a multiple of 1,000,
-    /// siblings counted, the snapshot of the tip is taken before the answer; without memory for it the block's record stays.
+    /// siblings counted, the snapshot of the tip is taken before the answer; without memory for it the block's record stays, and
+    /// the older snapshots. Where none is begun, no area but LOG is written.
     pub fn import<D: Disk, J: Judging, L: Ledger>(
         self,
         alloc: Global,
@@ -228,12 +230,13 @@ impl Node {
         steps: &mut Steps<L>,
     ) -> Result<(Node, Verdict), ReadStop>
         requires size { length item.now < 2 ^ 31 }
-        requires own { IsItsOwn self (D.reads_as disk.old) (D.images disk.old) }
+        requires own { IsOwnDiskWhereTold self (D.reads_as disk.old) (D.images disk.old) }
         ensures imported { IfOk result (λ answer. IsImported self answer.0 item.now answer.1 (D.reads_as disk.old) (D.reads_as disk.new) (D.images disk.old) (D.images disk.new)) }
-        ensures left { LeavesEither D.reads_as D.images D.moment D.left_since disk.old disk.new (IsSoundOn self (D.reads_as disk.old)) self item.now }
+        ensures left { LeavesEither D.reads_as D.images D.moment D.left_since disk.old disk.new (IsSoundWhereTold self (D.reads_as disk.old)) self item.now }
         ensures logged { IsLogged self item.now result (D.content_of disk.old) (D.content_of disk.new) (D.reads_as disk.old) (D.reads_as disk.new) (D.images disk.old) (D.images disk.new) }
+        ensures snapshots { BeginsNone (snapshot_at (length self.chain.blocks)) result → LeavesSnapshots D.reads_as D.images D.moment D.left_since disk.old disk.new }
         ensures stepped { TakesSteps self item.now result steps.old steps.new }
-        ensures undamaged { IsSoundOn self (D.reads_as disk.old) → (damage : Damage) → result ≡ Err (Damaged damage) → ⊥ }
+        ensures undamaged { IsSoundWhereTold self (D.reads_as disk.old) → (damage : Damage) → result ≡ Err (Damaged damage) → ⊥ }
         ensures damage { (damage : Damage) → result ≡ Err (Damaged damage) → damage.area ≡ log_area }
         ensures cause { CountsFault (D.faults disk.old) (D.faults disk.new) (result ≡ Err DiskFault) }
         ensures asked { result ≡ Err ReadStop.NoMemory → MayWantMemory self.chain item.now }
@@ -272,14 +275,15 @@ impl Node {
         item: &[u8],
         steps: &mut Steps<L>,
     ) -> Result<(Node, Decision), ReadStop>
-        requires own { IsItsOwn self (D.reads_as disk.old) (D.images disk.old) }
+        requires own { IsOwnDiskWhereTold self (D.reads_as disk.old) (D.images disk.old) }
         ensures decided { IfOk result (λ it. IsDecidedOn self it.0 item.now it.1 (D.reads_as disk.old) (D.reads_as disk.new) (D.images disk.new)) }
         ensures content { D.content_of disk.new ≡ D.content_of disk.old }
-        ensures undamaged { IsSoundOn self (D.reads_as disk.old) → (damage : Damage) → result ≡ Err (Damaged damage) → ⊥ }
+        ensures undamaged { IsSoundWhereTold self (D.reads_as disk.old) → (damage : Damage) → result ≡ Err (Damaged damage) → ⊥ }
         ensures damage { (damage : Damage) → result ≡ Err (Damaged damage) → damage.area ≡ log_area }
         ensures cause { CountsFault (D.faults disk.old) (D.faults disk.new) (result ≡ Err DiskFault) }
         ensures asked { result ≡ Err ReadStop.NoMemory → MayWantMemory self.chain item.now }
         ensures sight { moves_for self.chain item.now ≡ 0 → disk.new ≡ disk.old }
+        ensures exactly { IfOk result (λ it. steps.new ≡ steps.old + moves_until self.chain.blocks (moves_for self.chain item.now) it.1) }
         ensures most { steps.new ≤ steps.old + (moves_for self.chain item.now - 1) }
     {
         let Node {
@@ -316,7 +320,7 @@ impl Node {
         disk: &mut D,
         epoch: u64,
     ) -> Result<(Node, Moved), WriteStop>
-        requires own { IsItsOwn self (D.reads_as disk.old) (D.images disk.old) }
+        requires own { IsOwnDiskWhereTold self (D.reads_as disk.old) (D.images disk.old) }
         ensures migrated { IfOk result (λ answer. IsMigrated self answer.0 epoch answer.1 (D.reads_as disk.old) (D.reads_as disk.new) (D.images disk.old) (D.images disk.new)) }
         ensures left { LeavesMigration D.reads_as D.images D.moment D.left_since disk.old disk.new self epoch }
         ensures uncalled { is_done (migration self.chain epoch) ≡ false → disk.new ≡ disk.old }
@@ -348,7 +352,7 @@ impl Node {
         disk: &mut D,
         height: u64,
     ) -> Result<Option<HeaderAt>, ReadStop>
-        requires own { IsItsOwn self.old (D.reads_as disk.old) (D.images disk.old) }
+        requires own { IsOwnDiskWhereTold self.old (D.reads_as disk.old) (D.images disk.old) }
         ensures left { LeavesAll D.content_of D.reads_as D.images D.faults disk.old disk.new self.old self.new (stop_of result) }
         ensures header { IsSome (D.reads_as disk.old) → IfOk result (IsHeaderAt self.old.chain.blocks height) }
         ensures none { block_at (best_branch self.old.chain.blocks) height ≡ None → (result ≡ Ok None) × (disk.new ≡ disk.old) }
@@ -364,7 +368,7 @@ impl Node {
         disk: &mut D,
         height: u64,
     ) -> Result<Option<Vec<u8>>, ReadStop>
-        requires own { IsItsOwn self.old (D.reads_as disk.old) (D.images disk.old) }
+        requires own { IsOwnDiskWhereTold self.old (D.reads_as disk.old) (D.images disk.old) }
         ensures left { LeavesAll D.content_of D.reads_as D.images D.faults disk.old disk.new self.old self.new (stop_of result) }
         ensures block { IsSome (D.reads_as disk.old)
             → IfOk result (λ found. IsBlockAt self.old.chain.blocks height (option_map (λ bytes. bytes.items) found)) }
@@ -376,7 +380,7 @@ impl Node {
 
     /// The live cell with an out-point.
     pub fn live(&self, o: &OutPoint) -> Option<Live>
-        ensures live { AreOfTip self.now.chain.blocks (rows self.now.cells) → IsLiveCell self.now.chain.blocks o.now result }
+        ensures live { AreRowsOfTip self.now.chain.blocks (rows self.now.cells) → IsLiveCell self.now.chain.blocks o.now result }
         ensures row { option_map (λ live. live.row) result ≡ rows self.now.cells o.now }
     {
         self.kept.live(&self.state, o)
@@ -389,12 +393,12 @@ impl Node {
         disk: &mut D,
         o: OutPoint,
     ) -> Result<Option<Fetched>, ReadStop>
-        requires own { IsItsOwn self.old (D.reads_as disk.old) (D.images disk.old) }
+        requires own { IsOwnDiskWhereTold self.old (D.reads_as disk.old) (D.images disk.old) }
         ensures left { LeavesAll D.content_of D.reads_as D.images D.faults disk.old disk.new self.old self.new (stop_of result) }
-        ensures fetched { AreOfTip self.old.chain.blocks (rows self.old.cells) → IsSome (D.reads_as disk.old) → IfOk result (IsFetched self.old.chain.blocks o) }
-        ensures none { AreOfTip self.old.chain.blocks (rows self.old.cells) → IsLiveCell self.old.chain.blocks o None
+        ensures fetched { AreRowsOfTip self.old.chain.blocks (rows self.old.cells) → IsSome (D.reads_as disk.old) → IfOk result (IsFetched self.old.chain.blocks o) }
+        ensures none { AreRowsOfTip self.old.chain.blocks (rows self.old.cells) → IsLiveCell self.old.chain.blocks o None
             → (result ≡ Ok None) × (disk.new ≡ disk.old) }
-        ensures undamaged { AreOfTip self.old.chain.blocks (rows self.old.cells) → IsSome (D.reads_as disk.old)
+        ensures undamaged { AreRowsOfTip self.old.chain.blocks (rows self.old.cells) → IsSome (D.reads_as disk.old)
             → (damage : Damage) → result ≡ Err (Damaged damage) → ⊥ }
         ensures of_block { IsSome (D.reads_as disk.old) → (damage : Damage) → result ≡ Err (Damaged damage) → IsOfBlock self.old.entries damage }
     {
@@ -430,10 +434,11 @@ impl Node {
         self.kept.tip()
     }
 
-    /// The tree of the kept blocks.
+    /// The tree of the kept blocks. The C and the AR of each entry's DAO field are above 0.
     pub fn tree(&self) -> &Tree
         ensures entries { result.now.entries ≡ self.now.entries }
         ensures indexed { IndexesBlocks self.now.chain.blocks result.now.entries }
+        ensures rated { AreRated result.now.entries }
     {
         self.kept.tree()
     }
@@ -441,7 +446,7 @@ impl Node {
     /// The live cells of the tip, where the node is sound. Each row is of a kept block, whatever the disk is.
     pub fn state(&self) -> &State
         ensures cells { result.now ≡ self.now.cells }
-        ensures below { AreOfKept self.now.chain.blocks (rows result.now) }
+        ensures below { AreRowsOfKept self.now.chain.blocks (rows result.now) }
     {
         &self.state
     }

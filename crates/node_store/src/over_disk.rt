@@ -9,11 +9,11 @@ ghost use Rattle.chain_defs.specs.Tip.{best_branch};
 ghost use Rattle.chain_tree.specs.Reading.{stop_of};
 ghost use Rattle.cell_state.specs.State.{rows};
 ghost use Rattle.chain_tree.specs.Damages.{IsAtRecord, IsOfBlock};
-ghost use Rattle.cell_state.specs.Moves.{AreOf};
+ghost use Rattle.cell_state.specs.Moves.{AreRowsOfBranch};
 ghost use Rattle.store_defs.specs.Store.{AreJoined};
-ghost use Rattle.node_store.specs.Node.{IsReadBy, HasOnlyRead};
-ghost use Rattle.node_store.specs.Kept.{AreOfFound, AreOfTip, AreOfKept};
-ghost use Rattle.node_store.specs.Steps.{moves_for};
+ghost use Rattle.node_store.specs.Node.{LogHoldsKept, HasOnlyRead};
+ghost use Rattle.node_store.specs.Kept.{AreRowsOfFound, AreRowsOfTip, AreRowsOfKept};
+ghost use Rattle.node_store.specs.Steps.{moves_for, moves_until};
 ghost use Rattle.node_store.specs.Judging.{IsReadyItem, IsDecided, MayWantMemory, place_for};
 ghost use Rattle.node_store.specs.Queries.{IsHeaderAt, IsBlockAt, IsLiveCell, IsFetched};
 
@@ -37,12 +37,12 @@ pub(crate) fn moved<D: Disk, L: Ledger>(
 ) -> Result<State, ReadStop>
     requires from { from < length kept.now.chain.blocks }
     requires to { to < length kept.now.chain.blocks }
-    requires own { IfSome (D.reads_as disk.old) (IsReadBy kept.now cache.old.held) }
+    requires own { IfSome (D.reads_as disk.old) (LogHoldsKept kept.now cache.old.held) }
     ensures looked { HasOnlyRead D.content_of D.reads_as D.faults disk.old disk.new kept.now cache.old cache.new (stop_of result) }
-    ensures cells { IsSome (D.reads_as disk.old) → AreJoined kept.now.chain kept.now.exts → AreOf kept.now.chain.blocks from (rows state)
-        → IfOk result (λ there. AreOf kept.now.chain.blocks to (rows there)) }
-    ensures below { AreOfKept kept.now.chain.blocks (rows state) → IfOk result (λ there. AreOfKept kept.now.chain.blocks (rows there)) }
-    ensures undamaged { IsSome (D.reads_as disk.old) → AreJoined kept.now.chain kept.now.exts → AreOf kept.now.chain.blocks from (rows state)
+    ensures cells { IsSome (D.reads_as disk.old) → AreJoined kept.now.chain kept.now.exts → AreRowsOfBranch kept.now.chain.blocks from (rows state)
+        → IfOk result (λ there. AreRowsOfBranch kept.now.chain.blocks to (rows there)) }
+    ensures below { AreRowsOfKept kept.now.chain.blocks (rows state) → IfOk result (λ there. AreRowsOfKept kept.now.chain.blocks (rows there)) }
+    ensures undamaged { IsSome (D.reads_as disk.old) → AreJoined kept.now.chain kept.now.exts → AreRowsOfBranch kept.now.chain.blocks from (rows state)
         → (damage : a_damage) → result ≡ Err (Damaged damage) → ⊥ }
     ensures at_record { IsSome (D.reads_as disk.old) → (damage : a_damage) → result ≡ Err (Damaged damage)
         → (place : ℕ) × IsAtRecord kept.now.entries place damage }
@@ -64,17 +64,18 @@ pub(crate) fn decide<D: Disk, J: Judging, L: Ledger>(
     item: &[u8],
     steps: &mut Steps<L>,
 ) -> Result<(State, Decision), ReadStop>
-    requires own { IfSome (D.reads_as disk.old) (IsReadBy kept.now cache.old.held) }
+    requires own { IfSome (D.reads_as disk.old) (LogHoldsKept kept.now cache.old.held) }
     ensures looked { HasOnlyRead D.content_of D.reads_as D.faults disk.old disk.new kept.now cache.old cache.new (stop_of result) }
     ensures ready { IfOk result (λ it. IsReadyItem kept.now.chain item.now it.1) }
-    ensures cells { IsSome (D.reads_as disk.old) → AreJoined kept.now.chain kept.now.exts → AreOfTip kept.now.chain.blocks (rows state)
-        → IfOk result (λ it. AreOfFound kept.now.chain.blocks (place_for kept.now.chain.blocks it.1) (rows it.0)) }
-    ensures below { AreOfKept kept.now.chain.blocks (rows state) → IfOk result (λ it. AreOfKept kept.now.chain.blocks (rows it.0)) }
-    ensures decided { IsSome (D.reads_as disk.old) → AreJoined kept.now.chain kept.now.exts → AreOfTip kept.now.chain.blocks (rows state)
+    ensures cells { IsSome (D.reads_as disk.old) → AreJoined kept.now.chain kept.now.exts → AreRowsOfTip kept.now.chain.blocks (rows state)
+        → IfOk result (λ it. AreRowsOfFound kept.now.chain.blocks (place_for kept.now.chain.blocks it.1) (rows it.0)) }
+    ensures below { AreRowsOfKept kept.now.chain.blocks (rows state) → IfOk result (λ it. AreRowsOfKept kept.now.chain.blocks (rows it.0)) }
+    ensures decided { IsSome (D.reads_as disk.old) → AreJoined kept.now.chain kept.now.exts → AreRowsOfTip kept.now.chain.blocks (rows state)
         → IfOk result (λ it. IsDecided kept.now.chain item.now it.1) }
-    ensures undamaged { IsSome (D.reads_as disk.old) → AreJoined kept.now.chain kept.now.exts → AreOfTip kept.now.chain.blocks (rows state)
+    ensures undamaged { IsSome (D.reads_as disk.old) → AreJoined kept.now.chain kept.now.exts → AreRowsOfTip kept.now.chain.blocks (rows state)
         → (damage : a_damage) → result ≡ Err (Damaged damage) → ⊥ }
     ensures asked { result ≡ Err NoMemory → MayWantMemory kept.now.chain item.now }
+    ensures exactly { IfOk result (λ it. steps.new ≡ steps.old + moves_until kept.now.chain.blocks (moves_for kept.now.chain item.now) it.1) }
     ensures most { steps.new ≤ steps.old + (moves_for kept.now.chain item.now - 1) }
     ensures sight { moves_for kept.now.chain item.now ≡ 0 → disk.new ≡ disk.old }
 {
@@ -90,7 +91,7 @@ pub(crate) fn header<D: Disk>(
     kept: &Kept,
     height: u64,
 ) -> Result<Option<HeaderAt>, ReadStop>
-    requires own { IfSome (D.reads_as disk.old) (IsReadBy kept.now cache.old.held) }
+    requires own { IfSome (D.reads_as disk.old) (LogHoldsKept kept.now cache.old.held) }
     ensures looked { HasOnlyRead D.content_of D.reads_as D.faults disk.old disk.new kept.now cache.old cache.new (stop_of result) }
     ensures header { IsSome (D.reads_as disk.old) → IfOk result (IsHeaderAt kept.now.chain.blocks height) }
     ensures none { block_at (best_branch kept.now.chain.blocks) height ≡ None → (result ≡ Ok None) × (disk.new ≡ disk.old) }
@@ -108,7 +109,7 @@ pub(crate) fn block<D: Disk>(
     kept: &Kept,
     height: u64,
 ) -> Result<Option<Vec<u8>>, ReadStop>
-    requires own { IfSome (D.reads_as disk.old) (IsReadBy kept.now cache.old.held) }
+    requires own { IfSome (D.reads_as disk.old) (LogHoldsKept kept.now cache.old.held) }
     ensures looked { HasOnlyRead D.content_of D.reads_as D.faults disk.old disk.new kept.now cache.old cache.new (stop_of result) }
     ensures block { IsSome (D.reads_as disk.old) → IfOk result (λ found. IsBlockAt kept.now.chain.blocks height (option_map (λ bytes. bytes.items) found)) }
     ensures none { block_at (best_branch kept.now.chain.blocks) height ≡ None → (result ≡ Ok None) × (disk.new ≡ disk.old) }
@@ -127,12 +128,12 @@ pub(crate) fn fetch<D: Disk>(
     state: &State,
     o: OutPoint,
 ) -> Result<Option<Fetched>, ReadStop>
-    requires own { IfSome (D.reads_as disk.old) (IsReadBy kept.now cache.old.held) }
-    requires below { AreOfKept kept.now.chain.blocks (rows state.now) }
+    requires own { IfSome (D.reads_as disk.old) (LogHoldsKept kept.now cache.old.held) }
+    requires below { AreRowsOfKept kept.now.chain.blocks (rows state.now) }
     ensures looked { HasOnlyRead D.content_of D.reads_as D.faults disk.old disk.new kept.now cache.old cache.new (stop_of result) }
-    ensures fetched { IsSome (D.reads_as disk.old) → AreOfTip kept.now.chain.blocks (rows state.now) → IfOk result (IsFetched kept.now.chain.blocks o) }
-    ensures none { AreOfTip kept.now.chain.blocks (rows state.now) → IsLiveCell kept.now.chain.blocks o None → (result ≡ Ok None) × (disk.new ≡ disk.old) }
-    ensures undamaged { IsSome (D.reads_as disk.old) → AreOfTip kept.now.chain.blocks (rows state.now)
+    ensures fetched { IsSome (D.reads_as disk.old) → AreRowsOfTip kept.now.chain.blocks (rows state.now) → IfOk result (IsFetched kept.now.chain.blocks o) }
+    ensures none { AreRowsOfTip kept.now.chain.blocks (rows state.now) → IsLiveCell kept.now.chain.blocks o None → (result ≡ Ok None) × (disk.new ≡ disk.old) }
+    ensures undamaged { IsSome (D.reads_as disk.old) → AreRowsOfTip kept.now.chain.blocks (rows state.now)
         → (damage : a_damage) → result ≡ Err (Damaged damage) → ⊥ }
     ensures of_block { IsSome (D.reads_as disk.old) → (damage : a_damage) → result ≡ Err (Damaged damage) → IsOfBlock kept.now.entries damage }
 {

@@ -13,7 +13,7 @@ ghost use Rattle.outside.specs.declared.disk.ReadStop.TheVariants.{DiskFault, Da
 ghost use Rattle.cell_state.specs.State.{rows};
 ghost use Rattle.chain_tree.specs.Damages.{IsOfBlock};
 ghost use Rattle.chain_tree.specs.Reading.{HasRead, stop_of};
-ghost use Rattle.node_store.specs.Kept.{stored_of, AreOfTip, AreOfKept};
+ghost use Rattle.node_store.specs.Kept.{stored_of, AreRowsOfTip, AreRowsOfKept};
 ghost use Rattle.node_store.specs.Queries.{IsHeaderAt, IsBlockAt, IsLiveCell, IsFetched};
 
 use crate::kept::Kept;
@@ -181,8 +181,8 @@ impl Kept {
 
     /// The live cell with an out-point, by the live cells of the tip.
     pub fn live(&self, state: &State, o: &OutPoint) -> Option<Live>
-        requires below { AreOfKept self.now.chain.blocks (rows state.now) }
-        ensures live { AreOfTip self.now.chain.blocks (rows state.now) → IsLiveCell self.now.chain.blocks o.now result }
+        requires below { AreRowsOfKept self.now.chain.blocks (rows state.now) }
+        ensures live { AreRowsOfTip self.now.chain.blocks (rows state.now) → IsLiveCell self.now.chain.blocks o.now result }
         ensures row { option_map (λ live. live.row) result ≡ rows state.now o.now }
     {
         let Some(meta) = state.get(o) else {
@@ -200,14 +200,14 @@ impl Kept {
         state: &State,
         o: OutPoint,
     ) -> Result<Option<Fetched>, ReadStop>
-        requires below { AreOfKept self.now.chain.blocks (rows state.now) }
+        requires below { AreRowsOfKept self.now.chain.blocks (rows state.now) }
         requires counts { B.count blocks.old ≡ length self.now.chain.blocks }
         ensures read { HasRead B.told B.count B.loans_of B.faults B.damages blocks.old blocks.new (stop_of result) }
-        ensures fetched { B.told blocks.old ≡ Some (stored_of self.now) → AreOfTip self.now.chain.blocks (rows state.now)
+        ensures fetched { B.told blocks.old ≡ Some (stored_of self.now) → AreRowsOfTip self.now.chain.blocks (rows state.now)
             → IfOk result (IsFetched self.now.chain.blocks o) }
-        ensures none { AreOfTip self.now.chain.blocks (rows state.now) → IsLiveCell self.now.chain.blocks o None
+        ensures none { AreRowsOfTip self.now.chain.blocks (rows state.now) → IsLiveCell self.now.chain.blocks o None
             → (result ≡ Ok None) × (blocks.new ≡ blocks.old) }
-        ensures undamaged { B.told blocks.old ≡ Some (stored_of self.now) → AreOfTip self.now.chain.blocks (rows state.now)
+        ensures undamaged { B.told blocks.old ≡ Some (stored_of self.now) → AreRowsOfTip self.now.chain.blocks (rows state.now)
             → (damage : a_damage) → result ≡ Err (Damaged damage) → ⊥ }
         ensures of_block { IsSome (B.told blocks.old) → (damage : a_damage) → result ≡ Err (Damaged damage) → IsOfBlock self.now.entries damage }
     {

@@ -11,9 +11,9 @@ use Rattle.outside.specs.Image.{Image, InArea, content, with_content}
 use Rattle.outside.specs.Disk.{written, write_area, Torn, ComesBy, Follows, IsDurable, SameImages, OthersRead}
 use Rattle.outside.proofs.Images.{own_content}
 use Rattle.disk_defs.specs.Snapshot.{has_open_gate}
-use Rattle.snapshots.specs.Writing.{IsClosed, IsShut, IsAsItWasOrClosed, IsClosedOr, HasArea, HasAnyArea, HoldsBody}
+use Rattle.snapshots.specs.Writing.{IsClosed, IsGateClosed, IsAsItWasOrClosed, IsClosedOr, HasArea, HasAnyArea, HoldsBody}
 
-no-some : IsSome {T = Image} None → ⊥
+pub no-some : IsSome {T = Image} None → ⊥
 no-some some = cc
 
 -- ---- Areas
@@ -23,7 +23,7 @@ content-with Log bytes image = refl
 content-with SnapA bytes image = refl
 content-with SnapB bytes image = refl
 
-with-twice : (area : Area) (bytes other : List ℕ) (image : Image) → with_content area bytes (with_content area other image) ≡ with_content area bytes image
+pub with-twice : (area : Area) (bytes other : List ℕ) (image : Image) → with_content area bytes (with_content area other image) ≡ with_content area bytes image
 with-twice Log bytes other image = refl
 with-twice SnapA bytes other image = refl
 with-twice SnapB bytes other image = refl
@@ -96,13 +96,13 @@ opens body bytes other there torn = by other refl
 
 -- ---- Images while a snapshot is written
 
-pub while-written : (area : Area) (body : List ℕ) (reads : Option Image) (images : Image → Type 0) → IsShut area reads images
+pub while-written : (area : Area) (body : List ℕ) (reads : Option Image) (images : Image → Type 0) → IsGateClosed area reads images
     → (image : Image) → ComesBy (InArea area (Torn 1 (length body))) images image → HasArea area (IsClosedOr (HoldsBody body)) images image
 while-written area body reads images shut image (before, left, (bytes, torn, is)) =
     let closed : IsClosed (content area before) = subst IsClosed (sym (shut.durable before left)) shut.closed in
     (before, left, (bytes, inl (stays-closed (length body) (content area before) bytes closed torn), is))
 
-pub while-opened : (area : Area) (body : List ℕ) (reads reads1 : Option Image) (images images1 : Image → Type 0) → IsShut area reads images
+pub while-opened : (area : Area) (body : List ℕ) (reads reads1 : Option Image) (images images1 : Image → Type 0) → IsGateClosed area reads images
     → reads1 ≡ option_map (write_area area 1 body) reads → IfSome reads1 (IsDurable area images1) → Follows (InArea area (Torn 1 (length body))) images images1
     → (image : Image) → ComesBy (InArea area (Torn 0 1)) images1 image → HasArea area (IsClosedOr (HoldsBody body)) images image
 while-opened area body reads reads1 images images1 shut wrote durable follows image (mid, left, (bytes, torn, is)) = from (follows mid left)
@@ -169,7 +169,7 @@ while-closed area (Some now) images images1 n into told same durable long read b
 -- ---- The snapshot after a gate
 
 -- before the first call
-pub still-shut : (New : List ℕ → Type 0) (area : Area) (reads : Option Image) (images : Image → Type 0) → IsShut area reads images → (image : Image) → images image
+pub still-shut : (New : List ℕ → Type 0) (area : Area) (reads : Option Image) (images : Image → Type 0) → IsGateClosed area reads images → (image : Image) → images image
     → HasArea area (IsClosedOr New) images image
 still-shut New area reads images shut image left =
     let closed : IsClosed (content area image) = subst IsClosed (sym (shut.durable image left)) shut.closed in

@@ -21,7 +21,7 @@ abbrev pub IsClosed : List ℕ → Type 0
 IsClosed bytes = (0 < length bytes) × (slice_index bytes 0 ≢ 1)
 
 -- A gate is closed as the disk reads, and a crash leaves the area as it reads.
-pub record IsShut (area : Area) (reads : Option Image) (images : Image → Type 0) : Type 0 where
+pub record IsGateClosed (area : Area) (reads : Option Image) (images : Image → Type 0) : Type 0 where
   pub now : Image
   pub told : reads ≡ Some now
   pub closed : IsClosed (content area now)
@@ -43,6 +43,10 @@ pub record IsSnapshotOf (number tip : ℕ) (hash : List ℕ) (rows : OutPoint �
 -- The bytes of an area hold such a snapshot.
 abbrev pub HoldsNew : ℕ → ℕ → List ℕ → (OutPoint → Option Row) → List ℕ → Type 0
 HoldsNew number tip hash rows bytes = (s : Snapshot) × IsSnapshotOf number tip hash rows s × Holds bytes s
+
+-- While a snapshot is taken, its area is as it was, has no open gate, or has the new one.
+abbrev pub IsTaken : (List ℕ → Type 0) → List ℕ → List ℕ → Type 0
+IsTaken New old new = IsAsItWasOrClosed old new ⊎ New new
 
 -- no open gate, or such bytes
 abbrev pub IsClosedOr : (List ℕ → Type 0) → List ℕ → Type 0

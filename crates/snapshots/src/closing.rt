@@ -4,7 +4,7 @@ ghost use Rattle.std.specs.Option.{option_map};
 ghost use Rattle.outside.specs.Causes.{HasCause};
 ghost use Rattle.outside.specs.Image.{InArea};
 ghost use Rattle.outside.specs.Disk.{ComesBy, IsDurable, OthersRead, LeavesOnly};
-ghost use Rattle.snapshots.specs.Writing.{close_area, IsShut, IsAsItWasOrClosed, HasAnyArea};
+ghost use Rattle.snapshots.specs.Writing.{close_area, IsGateClosed, IsAsItWasOrClosed, HasAnyArea};
 
 use outside::{Area, Disk, Failed, write_durably};
 
@@ -12,7 +12,7 @@ use outside::{Area, Disk, Failed, write_durably};
 /// byte 0, an open gate becomes 0, and any other first byte stays as it is.
 pub fn close<D: Disk>(disk: &mut D, area: Area) -> Result<(), Failed>
     ensures closed { OnOk result (D.reads_as disk.new ≡ option_map (close_area area) (D.reads_as disk.old)) }
-    ensures shut { IsSome (D.reads_as disk.old) → OnOk result (IsShut area (D.reads_as disk.new) (D.images disk.new)) }
+    ensures shut { IsSome (D.reads_as disk.old) → OnOk result (IsGateClosed area (D.reads_as disk.new) (D.images disk.new)) }
     // Where a crash would have left the area as it reads, it leaves it so at each moment, or without an open gate.
     ensures moments { IfSome (D.reads_as disk.old) (IsDurable area (D.images disk.old))
         → LeavesOnly D.moment D.left_since disk.old disk.new (ComesBy (InArea area IsAsItWasOrClosed) (D.images disk.old)) }

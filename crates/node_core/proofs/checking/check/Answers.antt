@@ -4,7 +4,7 @@ use Rattle.chain_defs.specs.Tip.{best_branch}
 use Rattle.rule_defs.specs.RuleNumber.{rule_number}
 use Rattle.verdict_defs.specs.Trial.{trial_on}
 use Rattle.verdict_defs.specs.declared.trial.Trial.TheVariants.{Passes, Refused}
-use Rattle.node_store.specs.Node.{NodeValue, IsSoundOn}
+use Rattle.node_store.specs.Node.{NodeValue, IsSoundWhereTold}
 use Rattle.node_store.proofs.RecordedLemmas.{read-here, leaves-all}
 use Rattle.node_core.proofs.checking.check.Goals as goal
 
@@ -22,17 +22,17 @@ returns-clause-left g c =
 
 pub returns-clause-passes : goal.returns-clause-passes
 returns-clause-passes g c = λ sound.
-    let on = subst (λ (node : NodeValue). IsSoundOn node (g.D.Disk.reads_as c.args.disk.now)) (sym c.node.view_is) sound in
+    let on = subst (λ (node : NodeValue). IsSoundWhereTold node (g.D.Disk.reads_as c.args.disk.now)) (sym c.node.view_is) sound in
     subst (λ (node : NodeValue). IfOk c.check.result (λ it. trial_on node.chain.spec (best_branch node.chain.blocks) c.args.tx.now ≡ Passes it.0 it.1)) c.node.view_is
     (c.check.ensures.passes on.told on.sound.joined on.sound.live)
 
 pub returns-clause-broken : goal.returns-clause-broken
 returns-clause-broken g c = λ sound rule same.
-    let on = subst (λ (node : NodeValue). IsSoundOn node (g.D.Disk.reads_as c.args.disk.now)) (sym c.node.view_is) sound in
+    let on = subst (λ (node : NodeValue). IsSoundWhereTold node (g.D.Disk.reads_as c.args.disk.now)) (sym c.node.view_is) sound in
     subst (λ (node : NodeValue). trial_on node.chain.spec (best_branch node.chain.blocks) c.args.tx.now ≡ Refused (rule_number rule)) c.node.view_is
     (c.check.ensures.broken on.told on.sound.joined on.sound.live rule same)
 
 pub returns-clause-undamaged : goal.returns-clause-undamaged
 returns-clause-undamaged g c = λ sound.
-    let on = subst (λ (node : NodeValue). IsSoundOn node (g.D.Disk.reads_as c.args.disk.now)) (sym c.node.view_is) sound in
+    let on = subst (λ (node : NodeValue). IsSoundWhereTold node (g.D.Disk.reads_as c.args.disk.now)) (sym c.node.view_is) sound in
     c.check.ensures.undamaged on.told on.sound.joined on.sound.live

@@ -7,7 +7,7 @@ use Rattle.verdict_defs.specs.Trial.{trial_on}
 use Rattle.verdict_defs.specs.declared.trial.Trial.TheVariants.{Passes, Refused}
 use Rattle.store_defs.specs.Store.{IsJoined}
 use Rattle.rule_defs.specs.RuleNumber.{rule_number}
-use Rattle.node_store.specs.Kept.{KeptValue, AreOfTip}
+use Rattle.node_store.specs.Kept.{KeptValue, AreRowsOfTip}
 use Rattle.node_store.proofs.EntryLemmas.{kept-parent}
 use Rattle.node_core.proofs.DecidingLemmas.{stands-tip, trial-refused, trial-passes, trial-undamaged}
 use Rattle.node_store.proofs.KeptSources.{told-stored, counts-entries}
@@ -31,7 +31,7 @@ returns-clause-passes g c tells live =
     let told = told-stored c.kept.inside.spec stored c.kept.inside.tree.entries c.args.kept.now _ c.kept.view_is tells in
     let is = c.tip.ensures.of_blocks (blocks_of stored) c.kept.invariant.indexed in
     let stands = stands-tip c.kept.inside.spec stored c.kept.inside.tree.entries c.kept.inside.uncles (rows c.args.state.now)
-    c.tip.result c.kept.invariant (subst (λ (v : KeptValue). AreOfTip v.chain.blocks (rows c.args.state.now)) (sym c.kept.view_is) live)
+    c.tip.result c.kept.invariant (subst (λ (v : KeptValue). AreRowsOfTip v.chain.blocks (rows c.args.state.now)) (sym c.kept.view_is) live)
     (subst (λ (v : KeptValue). IsJoined v.chain) (sym c.kept.view_is) tells.joined.joined) is c.tip.ensures.within in
     subst (λ (v : KeptValue). IfOk c.dry_run.result (λ it. trial_on v.chain.spec (best_branch v.chain.blocks) c.args.tx.now ≡ Passes it.0 it.1)) c.kept.view_is
     (trial-passes c.kept.inside.spec (blocks_of stored) c.args.tx.now c.tip.result is c.dry_run.result (c.dry_run.ensures.exact stored told stands))
@@ -42,7 +42,7 @@ returns-clause-broken g c tells live rule broken =
     let told = told-stored c.kept.inside.spec stored c.kept.inside.tree.entries c.args.kept.now _ c.kept.view_is tells in
     let is = c.tip.ensures.of_blocks (blocks_of stored) c.kept.invariant.indexed in
     let stands = stands-tip c.kept.inside.spec stored c.kept.inside.tree.entries c.kept.inside.uncles (rows c.args.state.now)
-    c.tip.result c.kept.invariant (subst (λ (v : KeptValue). AreOfTip v.chain.blocks (rows c.args.state.now)) (sym c.kept.view_is) live)
+    c.tip.result c.kept.invariant (subst (λ (v : KeptValue). AreRowsOfTip v.chain.blocks (rows c.args.state.now)) (sym c.kept.view_is) live)
     (subst (λ (v : KeptValue). IsJoined v.chain) (sym c.kept.view_is) tells.joined.joined) is c.tip.ensures.within in
     subst (λ (v : KeptValue). trial_on v.chain.spec (best_branch v.chain.blocks) c.args.tx.now ≡ Refused (rule_number rule)) c.kept.view_is
     (trial-refused c.kept.inside.spec (blocks_of stored) c.args.tx.now c.tip.result is c.dry_run.result rule (c.dry_run.ensures.exact stored told stands) broken)
@@ -53,6 +53,6 @@ returns-clause-undamaged g c tells live damage =
     let told = told-stored c.kept.inside.spec stored c.kept.inside.tree.entries c.args.kept.now _ c.kept.view_is tells in
     let is = c.tip.ensures.of_blocks (blocks_of stored) c.kept.invariant.indexed in
     let stands = stands-tip c.kept.inside.spec stored c.kept.inside.tree.entries c.kept.inside.uncles (rows c.args.state.now)
-    c.tip.result c.kept.invariant (subst (λ (v : KeptValue). AreOfTip v.chain.blocks (rows c.args.state.now)) (sym c.kept.view_is) live)
+    c.tip.result c.kept.invariant (subst (λ (v : KeptValue). AreRowsOfTip v.chain.blocks (rows c.args.state.now)) (sym c.kept.view_is) live)
     (subst (λ (v : KeptValue). IsJoined v.chain) (sym c.kept.view_is) tells.joined.joined) is c.tip.ensures.within in
     trial-undamaged c.kept.inside.spec (blocks_of stored) c.args.tx.now c.tip.result is c.dry_run.result damage (c.dry_run.ensures.exact stored told stands)

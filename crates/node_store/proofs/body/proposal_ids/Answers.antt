@@ -10,7 +10,7 @@ later-preserved c =
     let tx = c.transactions_item.result in
     let there = c.transactions_item.ensures in
     one_image_more proposal_id txs c.later.i tx c.later.ids.items _ _ c.proposal_id.result (slice_get_within txs c.later.i tx there)
-    (get_or_from_slice_get txs c.later.i tx tx there) (c.proposal_id.ensures ∙ ap (take 10) c.tx_hash.ensures) c.later.invariant c.in_ok-push.ensures.items
+    (get_or_from_slice_get txs c.later.i tx tx there) (c.proposal_id.ensures ∙ ap (take 10) c.transaction_hash.ensures) c.later.invariant c.in_ok-push.ensures.items
 
 pub returns : goal.returns
 returns c =

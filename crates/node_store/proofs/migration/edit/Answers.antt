@@ -9,7 +9,7 @@ use Rattle.store_defs.specs.EditionLaws.{edited_chain}
 use Rattle.log_file.specs.Grammar.{record_of}
 use Rattle.log_file.proofs.Creating.{others_same}
 use Rattle.node_store.specs.Kept.{KeptValue}
-use Rattle.node_store.specs.Node.{NodeValue, node_of, IsItsOwn, IsBounded}
+use Rattle.node_store.specs.Node.{NodeValue, node_of, IsOwnDiskWhereTold, IsBounded}
 use Rattle.node_store.specs.Migration.{kept_edited, IsEdited}
 use Rattle.node_store.proofs.ImportLemmas.{place_limit}
 use Rattle.node_store.proofs.AppendLemmas.{of_told}
@@ -68,8 +68,8 @@ returns-in-Ok-append-clause-keeps g c =
 
 pub returns-in-Ok-append-clause-edited : goal.returns-in-Ok-append-clause-edited
 returns-in-Ok-append-clause-edited g c =
-    let own : IsItsOwn (node_of c.node.inside.kept c.node.inside.log.place c.node.inside.state c.node.inside.cache) (g.D.Disk.reads_as c.args.disk.now) (g.D.Disk.images c.args.disk.now) =
-    subst (λ (v : NodeValue). IsItsOwn v (g.D.Disk.reads_as c.args.disk.now) (g.D.Disk.images c.args.disk.now)) (sym c.node.view_is) c.requires.own in
+    let own : IsOwnDiskWhereTold (node_of c.node.inside.kept c.node.inside.log.place c.node.inside.state c.node.inside.cache) (g.D.Disk.reads_as c.args.disk.now) (g.D.Disk.images c.args.disk.now) =
+    subst (λ (v : NodeValue). IsOwnDiskWhereTold v (g.D.Disk.reads_as c.args.disk.now) (g.D.Disk.images c.args.disk.now)) (sym c.node.view_is) c.requires.own in
     let none : c.node.inside.kept.chain.spec.second_from ≡ None = ap (λ (v : NodeValue). v.chain.spec.second_from) c.node.view_is ∙ c.requires.none in
     subst (λ (v : NodeValue). IsEdited v (node_of c.edited.result c.in-Ok-append.log.place c.node.inside.state c.node.inside.cache) c.args.epoch
     (g.D.Disk.reads_as c.args.disk.now) (g.D.Disk.reads_as c.append.new.disk) (g.D.Disk.images c.args.disk.now) (g.D.Disk.images c.append.new.disk)) c.node.view_is

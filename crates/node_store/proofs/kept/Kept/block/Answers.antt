@@ -1,7 +1,7 @@
 use Rattle.std.proofs.Common.{◌≡◌, ℕ, List, Some, refl, sym, ap, ◌∙◌, subst, rules}
 use Rattle.std.specs.Option.{option_and_then}
 use Rattle.outside.proofs.Endings.{handed, no_answer, memory_undamaged}
-use Rattle.chain_defs.specs.Shape.{IsA}
+use Rattle.chain_defs.specs.Shape.{IsEncoding}
 use Rattle.chain_defs.specs.Schema as schema
 use Rattle.chain_defs.specs.Schema.{Block}
 use Rattle.chain_defs.specs.Kept.{block_at}
@@ -52,7 +52,7 @@ returns-clause-block g c = λ tells.
     let copied : c.in-Ok-to_vec.bytes.items ≡ c.bytes.result.now = search rules in (
       c.block.result,
       sym c.in-Some.ensures.block ∙ there,
-      subst (λ (bytes : List ℕ). IsA schema.block bytes c.block.result) (sym copied) c.bytes.ensures,
+      subst (λ (bytes : List ℕ). IsEncoding schema.block bytes c.block.result) (sym copied) c.bytes.ensures,
     )
 
 pub returns-clause-none : goal.returns-clause-none

@@ -1,12 +1,13 @@
-use Rattle.std.proofs.Common.{◌≡◌, ◌++◌, ◌∷◌, [], List, length, refl, sym, ap, ◌∙◌, subst, arith}
+use Rattle.std.proofs.Common.{◌≡◌, ◌+◌, ◌++◌, ◌∷◌, [], List, length, refl, sym, ap, ◌∙◌, subst, arith}
 use Rattle.std.proofs.lemmas.Option.{same_Some}
 use Rattle.chain_defs.specs.Schema.{Block, block}
-use Rattle.chain_defs.proofs.ShapeLaws.{IsA-decoded}
+use Rattle.chain_defs.proofs.ShapeLaws.{IsEncoding-decoded}
 use Rattle.chain_tree.specs.Told.{blocks_of}
 use Rattle.cell_state.specs.State.{rows}
-use Rattle.node_store.specs.Kept.{KeptValue, AreOfFound, AreOfTip}
+use Rattle.node_store.specs.Kept.{KeptValue, AreRowsOfFound, AreRowsOfTip}
 use Rattle.node_store.specs.Judging.{IsReady, place_for}
 use Rattle.node_store.specs.declared.decision.Decision.TheVariants.{Joins}
+use Rattle.node_store.specs.Steps.{moves_to_join}
 use Rattle.node_store.proofs.KeptBelow.{below-joined}
 use Rattle.node_store.proofs.EntryLemmas.{few-entries}
 use Rattle.node_store.proofs.JoiningLemmas.{seen-block, follows-parent, hash-new, FitsOn, fits-on, ready-for, describes-named, kept-push, blocks-push, are-kept-push}
@@ -14,7 +15,7 @@ use Rattle.outside.proofs.Endings.{handed, no_answer, no_memory, memory_undamage
 use Rattle.node_store.proofs.kept.Kept.join.Goals as goal
 
 pub from_encoding-block-requires : goal.from_encoding-block-requires
-from_encoding-block-requires g c = (c.requires.canonical.0, IsA-decoded block c.args.item.now c.requires.canonical.0 c.requires.canonical.1)
+from_encoding-block-requires g c = (c.requires.canonical.0, IsEncoding-decoded block c.args.item.now c.requires.canonical.0 c.requires.canonical.1)
 
 pub returns-in-Err-clause-undamaged : goal.returns-in-Err-clause-undamaged
 returns-in-Err-clause-undamaged g c b is joined may live damage was =
@@ -28,7 +29,7 @@ returns-in-Err-clause-undamaged g c b is joined may live damage was =
     subst (λ (bs : List Block). FitsOn bs c.from_encoding-block.result c.args.joining.entry.parent) (sym seen)
     (subst (λ (x : Block). FitsOn c.args.self.chain.blocks x c.args.joining.entry.parent) (sym same) own) in
     let no = c.in-Err.ensures.undamaged kept fits.height c.self.invariant.indexed ready
-    (subst (λ (bs : List Block). AreOfFound bs (place_for bs (Joins c.args.joining)) (rows c.args.state)) (sym seen) live) fits.above fits.fits damage in
+    (subst (λ (bs : List Block). AreRowsOfFound bs (place_for bs (Joins c.args.joining)) (rows c.args.state)) (sym seen) live) fits.above fits.fits damage in
     no (handed _ _ was)
 
 pub put-requires-clause-fewer : goal.put-requires-clause-fewer
@@ -155,9 +156,9 @@ returns-in-Ok-put-clause-live g c live =
     (ready-for c.args.self.chain.blocks c.args.item.now c.from_encoding-block.result c.args.joining c.requires.canonical is) in
     let grown : blocks_of c.put.new.blocks.stored ≡ kept ++ c.from_encoding-block.result ∷ [] =
     blocks-push c.self.inside.blocks.stored c.put.new.blocks.stored c.from_encoding-block.result c.args.ext.now c.in-Ok-put.ensures.blocks in
-    subst (λ (bs : List Block). AreOfTip bs (rows c.in-Ok.state)) (sym grown)
+    subst (λ (bs : List Block). AreRowsOfTip bs (rows c.in-Ok.state)) (sym grown)
     (c.in-Ok.ensures.live kept c.self.invariant.indexed ready
-    (subst (λ (bs : List Block). AreOfFound bs (place_for bs (Joins c.args.joining)) (rows c.args.state)) (sym seen) live))
+    (subst (λ (bs : List Block). AreRowsOfFound bs (place_for bs (Joins c.args.joining)) (rows c.args.state)) (sym seen) live))
 
 pub returns-in-Err-clause-live : goal.returns-in-Err-clause-live
 returns-in-Err-clause-live g c = λ _. tt
@@ -177,3 +178,14 @@ returns-in-Ok-put-clause-below g c =
     (rows c.args.state) (rows c.in-Ok.state) (ap (λ (v : KeptValue). v.chain.blocks) c.self.view_is)
     (blocks-push c.self.inside.blocks.stored c.put.new.blocks.stored c.from_encoding-block.result c.args.ext.now c.in-Ok-put.ensures.blocks)
     c.self.invariant.indexed c.in-Ok.ensures.below
+
+pub returns-in-Err-clause-exactly : goal.returns-in-Err-clause-exactly
+returns-in-Err-clause-exactly g c = tt
+
+pub returns-in-Err-put-clause-exactly : goal.returns-in-Err-put-clause-exactly
+returns-in-Err-put-clause-exactly g c = tt
+
+pub returns-in-Ok-put-clause-exactly : goal.returns-in-Ok-put-clause-exactly
+returns-in-Ok-put-clause-exactly g c =
+    subst (λ (bs : List Block). c.state_with.new.steps ≡ c.args.steps.now + moves_to_join bs c.args.joining)
+    (ap (λ (v : KeptValue). v.chain.blocks) c.self.view_is) (c.in-Ok.ensures.exactly (blocks_of c.self.inside.blocks.stored) c.self.invariant.indexed)

@@ -6,7 +6,7 @@ use Rattle.chain_defs.specs.Branch.{distance}
 use Rattle.cell_state.specs.State.{rows}
 use Rattle.chain_tree.specs.declared.entry.Entry.{Entry}
 use Rattle.chain_tree.specs.Damages.{IsAtRecord}
-use Rattle.cell_state.specs.Moves.{AreOf}
+use Rattle.cell_state.specs.Moves.{AreRowsOfBranch}
 use Rattle.store_defs.specs.Store.{AreJoined}
 use Rattle.node_store.specs.Kept.{KeptValue}
 use Rattle.node_store.proofs.EntryLemmas.{within-entries, fits-below}
@@ -39,9 +39,9 @@ returns-clause-cells g c tells live =
     let told = told-stored c.self.inside.spec stored c.self.inside.tree.entries c.args.self.now _ c.self.view_is tells in
     let way = way-back c.self.inside.spec stored c.self.inside.tree.entries c.self.inside.uncles c.args.self.now c.self.view_is
     c.self.invariant c.args.from c.args.to tells.joined in
-    subst (λ (blocks : List Block). IfOk c.go_to.result (λ there. AreOf blocks c.args.to (rows there))) seen
+    subst (λ (blocks : List Block). IfOk c.go_to.result (λ there. AreRowsOfBranch blocks c.args.to (rows there))) seen
     (c.go_to.ensures.rows stored told c.self.invariant.indexed way
-    (subst (λ (blocks : List Block). AreOf blocks c.args.from (rows c.args.state)) (sym seen) live))
+    (subst (λ (blocks : List Block). AreRowsOfBranch blocks c.args.from (rows c.args.state)) (sym seen) live))
 
 pub returns-clause-undamaged : goal.returns-clause-undamaged
 returns-clause-undamaged g c tells live =
@@ -51,7 +51,7 @@ returns-clause-undamaged g c tells live =
     let way = way-back c.self.inside.spec stored c.self.inside.tree.entries c.self.inside.uncles c.args.self.now c.self.view_is
     c.self.invariant c.args.from c.args.to tells.joined in
     c.go_to.ensures.undamaged stored told c.self.invariant.indexed way
-    (subst (λ (blocks : List Block). AreOf blocks c.args.from (rows c.args.state)) (sym seen) live)
+    (subst (λ (blocks : List Block). AreRowsOfBranch blocks c.args.from (rows c.args.state)) (sym seen) live)
     (fits-below (record { spec = c.self.inside.spec; blocks = blocks_of stored }) c.self.inside.tree.entries c.args.to
     (subst (λ (v : KeptValue). AreJoined v.chain v.exts) (sym c.self.view_is) tells.joined).joined c.self.invariant.indexed
     (within-entries (blocks_of stored) c.args.self.now.chain.blocks c.self.inside.tree.entries c.args.to seen

@@ -3,10 +3,10 @@ use Rattle.log_file.proofs.Exits.{no_error, same_stop, answer_counts}
 use Rattle.verdict_defs.specs.Chain.{Chain}
 use Rattle.node_store.specs.Import.{IsDecidedOn}
 use Rattle.node_store.specs.Judging.{MayWantMemory}
-use Rattle.node_store.specs.Node.{NodeValue, node_of, IsItsOwn, IsSoundOn}
+use Rattle.node_store.specs.Node.{NodeValue, node_of, IsOwnDiskWhereTold, IsSoundWhereTold}
 use Rattle.node_store.specs.Steps.{moves_for}
 use Rattle.node_store.proofs.RecordedLemmas.{read-here}
-use Rattle.node_store.proofs.StepLemmas.{moves-of-chain}
+use Rattle.node_store.proofs.StepLemmas.{moves-of-chain, until-chain}
 use Rattle.node_store.proofs.StayingLemmas.{not_stopped, stopped-counts, own-looked}
 use Rattle.node_store.proofs.node.Node.decide.Goals as goal
 
@@ -34,7 +34,7 @@ returns-in-Ok-clause-decided g c =
           own-looked g.D.Disk.content_of g.D.Disk.reads_as g.D.Disk.images g.D.Disk.moment g.D.Disk.left_since g.met.D.Disk.content_rests
           c.args.disk.now c.decide.new.disk c.decide.ensures.looked.content
           c.self.inside.kept c.self.inside.log.place c.self.inside.state c.in-Ok.state c.self.inside.cache c.decide.new.cache
-          (subst (λ (v : NodeValue). IsItsOwn v (g.D.Disk.reads_as c.args.disk.now) (g.D.Disk.images c.args.disk.now)) (sym c.self.view_is) c.requires.own)
+          (subst (λ (v : NodeValue). IsOwnDiskWhereTold v (g.D.Disk.reads_as c.args.disk.now) (g.D.Disk.images c.args.disk.now)) (sym c.self.view_is) c.requires.own)
           c.in-Ok.ensures.looked.agrees;
       ready = c.in-Ok.ensures.ready;
       cells = λ sound. c.in-Ok.ensures.cells sound.told sound.sound.joined sound.sound.live;
@@ -71,8 +71,8 @@ returns-in-Err-clause-content g c = c.decide.ensures.looked.content
 
 pub returns-in-Err-clause-undamaged : goal.returns-in-Err-clause-undamaged
 returns-in-Err-clause-undamaged g c = λ sound damage e.
-    let within : IsSoundOn (node_of c.self.inside.kept c.self.inside.log.place c.self.inside.state c.self.inside.cache) (g.D.Disk.reads_as c.args.disk.now) =
-    subst (λ (v : NodeValue). IsSoundOn v (g.D.Disk.reads_as c.args.disk.now)) (sym c.self.view_is) sound in
+    let within : IsSoundWhereTold (node_of c.self.inside.kept c.self.inside.log.place c.self.inside.state c.self.inside.cache) (g.D.Disk.reads_as c.args.disk.now) =
+    subst (λ (v : NodeValue). IsSoundWhereTold v (g.D.Disk.reads_as c.args.disk.now)) (sym c.self.view_is) sound in
     c.in-Err.ensures.undamaged within.told within.sound.joined within.sound.live damage (ap Err (same_stop _ _ e))
 
 pub returns-in-Err-clause-damage : goal.returns-in-Err-clause-damage
@@ -91,3 +91,10 @@ returns-in-Err-clause-sight g c = λ none. c.decide.ensures.sight (ap (λ (v : N
 pub returns-in-Err-clause-most : goal.returns-in-Err-clause-most
 returns-in-Err-clause-most g c =
     moves-of-chain c.self.inside.kept.chain c.args.self.chain c.args.item.now _ _ (ap (λ (v : NodeValue). v.chain) c.self.view_is) c.decide.ensures.most
+
+pub returns-in-Ok-clause-exactly : goal.returns-in-Ok-clause-exactly
+returns-in-Ok-clause-exactly g c =
+    until-chain c.self.inside.kept.chain c.args.self.chain c.args.item.now _ _ c.in-Ok.decision (ap (λ (v : NodeValue). v.chain) c.self.view_is) c.in-Ok.ensures.exactly
+
+pub returns-in-Err-clause-exactly : goal.returns-in-Err-clause-exactly
+returns-in-Err-clause-exactly g c = tt

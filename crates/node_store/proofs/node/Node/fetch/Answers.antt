@@ -4,7 +4,7 @@ use Rattle.cell_state.specs.State.{rows}
 use Rattle.chain_tree.specs.Damages.{IsOfBlock}
 use Rattle.node_store.specs.Queries.{IsFetched}
 use Rattle.node_store.specs.Node.{NodeValue}
-use Rattle.node_store.specs.Kept.{AreOfTip}
+use Rattle.node_store.specs.Kept.{AreRowsOfTip}
 use Rattle.node_store.proofs.RecordedLemmas.{read-here, leaves-all}
 use Rattle.node_store.proofs.node.Node.fetch.Goals as goal
 
@@ -24,11 +24,11 @@ returns-clause-left g c =
 pub returns-clause-fetched : goal.returns-clause-fetched
 returns-clause-fetched g c = λ live some.
     subst (λ (node : NodeValue). IfOk c.fetch.result (IsFetched node.chain.blocks c.args.o)) c.self.view_is
-    (c.fetch.ensures.fetched some (subst (λ (node : NodeValue). AreOfTip node.chain.blocks (rows node.cells)) (sym c.self.view_is) live))
+    (c.fetch.ensures.fetched some (subst (λ (node : NodeValue). AreRowsOfTip node.chain.blocks (rows node.cells)) (sym c.self.view_is) live))
 
 pub returns-clause-undamaged : goal.returns-clause-undamaged
 returns-clause-undamaged g c = λ live some.
-    c.fetch.ensures.undamaged some (subst (λ (node : NodeValue). AreOfTip node.chain.blocks (rows node.cells)) (sym c.self.view_is) live)
+    c.fetch.ensures.undamaged some (subst (λ (node : NodeValue). AreRowsOfTip node.chain.blocks (rows node.cells)) (sym c.self.view_is) live)
 
 pub returns-clause-of_block : goal.returns-clause-of_block
 returns-clause-of_block g c = λ some damage is.
