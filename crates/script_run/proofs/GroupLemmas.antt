@@ -14,7 +14,7 @@ use Rattle.cell_defs.specs.Cell.{script_hash}
 use Rattle.verdict_defs.specs.Groups.{Group, has_hash, first_scripts, places_with, present, input_locks, lock_group, lock_groups, type_groups, groups_of}
 use Rattle.verdict_defs.specs.Scene.{Scene, ShownCell}
 use Rattle.script_run.specs.Shown.{GroupValue, HasItsHash}
-use Rattle.script_run.specs.Grouping.{group_for, grouped, new_group, with_group, with_input, with_output, changed, place_with, FindsEach}
+use Rattle.script_run.specs.Grouping.{group_for, grouped, new_group, with_group, with_input, with_output, changed, place_with, FindsEachGroup}
 use Rattle.script_run.proofs.ScriptLemmas.{NoneHas, Apart, same-is, same-itself, with_script, first-push, apart-first, none-of_first, places-none, places-other, places-one, places-empty, none-front, none-back}
 
 -- ---- The group of a hash
@@ -71,15 +71,15 @@ place-push q hash s (it ∷ later) place n is end =
     by_test false apart none rest = by_other (bytes_eq it.hash q) refl apart (rest none)
 
 -- a map with the place of a new group finds each
-pub finds-new : (places after : List (List ℕ × ℕ)) (groups : List GroupValue) (hash : List ℕ) (s : Script) → FindsEach places groups → place_with hash 0 groups ≡ None
+pub finds-new : (places after : List (List ℕ × ℕ)) (groups : List GroupValue) (hash : List ℕ) (s : Script) → FindsEachGroup places groups → place_with hash 0 groups ≡ None
     → ((q : List ℕ) → lookup (bytes_eq q) after ≡ (if bytes_eq hash q then Some (length groups) else lookup (bytes_eq q) places))
-    → FindsEach after (groups ++ new_group hash s ∷ [])
+    → FindsEachGroup after (groups ++ new_group hash s ∷ [])
 finds-new places after groups hash s finds none updates = record {
   at = λ q. updates q ∙ ap (λ (f : Option ℕ). if bytes_eq hash q then Some (length groups) else f) (finds.at q)
       ∙ place-push q hash s groups 0 (length groups) none (let e : length groups ≡ 0 + length groups = omega arith in e);
 }
 
-pub finds-none : (places : List (List ℕ × ℕ)) (groups : List GroupValue) → places ≡ [] → groups ≡ [] → FindsEach places groups
+pub finds-none : (places : List (List ℕ × ℕ)) (groups : List GroupValue) → places ≡ [] → groups ≡ [] → FindsEachGroup places groups
 unfolding place_with
 finds-none places groups none empty = record {
   at = λ q. ap (lookup (bytes_eq q)) none ∙ ap (place_with q 0) (sym empty);
@@ -148,7 +148,7 @@ changed-places change keeps hash q (it ∷ later) place = by_test (bytes_eq it.h
     by_test false rest = ap (λ (f : Option ℕ). if bytes_eq it.hash q then Some place else f) rest
 
 pub finds-changed : (places : List (List ℕ × ℕ)) (groups : List GroupValue) (change : GroupValue → GroupValue) (hash : List ℕ) → ((g : GroupValue) → (change g).hash ≡ g.hash)
-    → FindsEach places groups → FindsEach places (changed change hash groups)
+    → FindsEachGroup places groups → FindsEachGroup places (changed change hash groups)
 finds-changed places groups change hash keeps finds = record {
   at = λ q. finds.at q ∙ changed-places change keeps hash q groups 0;
 }

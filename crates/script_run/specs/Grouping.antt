@@ -46,5 +46,5 @@ place_with hash place [] = None
 place_with hash place (it ∷ later) = if bytes_eq it.hash hash then Some place else place_with hash (suc place) later
 
 -- the entries of a map tell the place of each group
-pub record FindsEach (places : List (List ℕ × ℕ)) (groups : List GroupValue) : Type 0 where
+pub record FindsEachGroup (places : List (List ℕ × ℕ)) (groups : List GroupValue) : Type 0 where
   pub at : (hash : List ℕ) → lookup (bytes_eq hash) places ≡ place_with hash 0 groups

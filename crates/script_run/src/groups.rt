@@ -7,7 +7,7 @@ ghost use Rattle.cell_defs.specs.Cell.{script_hash};
 ghost use Rattle.verdict_defs.specs.Groups as defs;
 ghost use Rattle.verdict_defs.specs.Scene.{Scene, ShownCell};
 ghost use Rattle.script_run.specs.Fitting.{is_typed};
-ghost use Rattle.script_run.specs.Grouping.{FindsEach, grouped, with_group, with_input, with_output, changed, place_with};
+ghost use Rattle.script_run.specs.Grouping.{FindsEachGroup, grouped, with_group, with_input, with_output, changed, place_with};
 ghost use Rattle.script_run.specs.Shown.{HasItsHash, IsShownAs, Shows, output_rows};
 
 use crate::fitting::output_of;
@@ -53,7 +53,7 @@ struct Grouping<'a> {
 
 impl<'a> Grouping<'a> {
     fn new(alloc: Global) -> Grouping<'a>
-        ensures known { FindsEach result.places.entries result.groups.items }
+        ensures known { FindsEachGroup result.places.entries result.groups.items }
         ensures groups { result.groups.items ≡ [] }
     {
         Grouping {
@@ -69,8 +69,8 @@ impl<'a> Grouping<'a> {
         script: ScriptView<'a>,
         hash: [u8; 32],
     ) -> Result<usize, NoMemory>
-        requires known { FindsEach self.old.places.entries self.old.groups.items }
-        ensures known { OnOk result (FindsEach self.new.places.entries self.new.groups.items) }
+        requires known { FindsEachGroup self.old.places.entries self.old.groups.items }
+        ensures known { OnOk result (FindsEachGroup self.new.places.entries self.new.groups.items) }
         ensures groups { OnOk result (self.new.groups.items ≡ with_group hash script.entry self.old.groups.items) }
         ensures place { IfOk result (λ place. place_with hash 0 self.new.groups.items ≡ Some place) }
     {
@@ -95,8 +95,8 @@ impl<'a> Grouping<'a> {
         hash: [u8; 32],
         input: u32,
     ) -> Result<(), NoMemory>
-        requires known { FindsEach self.old.places.entries self.old.groups.items }
-        ensures known { OnOk result (FindsEach self.new.places.entries self.new.groups.items) }
+        requires known { FindsEachGroup self.old.places.entries self.old.groups.items }
+        ensures known { OnOk result (FindsEachGroup self.new.places.entries self.new.groups.items) }
         ensures groups { OnOk result (self.new.groups.items ≡ changed (with_input input) hash (with_group hash script.entry self.old.groups.items)) }
     {
         let place = self.place_of(alloc, script, hash)?;
@@ -112,8 +112,8 @@ impl<'a> Grouping<'a> {
         hash: [u8; 32],
         output: u32,
     ) -> Result<(), NoMemory>
-        requires known { FindsEach self.old.places.entries self.old.groups.items }
-        ensures known { OnOk result (FindsEach self.new.places.entries self.new.groups.items) }
+        requires known { FindsEachGroup self.old.places.entries self.old.groups.items }
+        ensures known { OnOk result (FindsEachGroup self.new.places.entries self.new.groups.items) }
         ensures groups { OnOk result (self.new.groups.items ≡ changed (with_output output) hash (with_group hash script.entry self.old.groups.items)) }
     {
         let place = self.place_of(alloc, script, hash)?;
@@ -125,8 +125,8 @@ impl<'a> Grouping<'a> {
     /// Adds an input to the group of its lock.
     fn join_lock(&mut self, alloc: Global, copy: &'a Resolved, input: u32) -> Result<(), NoMemory>
         requires typed { IsTrue (is_typed copy.now) }
-        requires known { FindsEach self.old.places.entries self.old.groups.items }
-        ensures known { OnOk result (FindsEach self.new.places.entries self.new.groups.items) }
+        requires known { FindsEachGroup self.old.places.entries self.old.groups.items }
+        ensures known { OnOk result (FindsEachGroup self.new.places.entries self.new.groups.items) }
         ensures groups { (cell : ShownCell) (before : List (Option Script)) → IsShownAs copy.now cell → self.old.groups.items ≡ grouped before []
             → input ≡ length before → OnOk result (self.new.groups.items ≡ grouped (before ++ Some cell.output.lock ∷ []) []) }
     {
@@ -138,8 +138,8 @@ impl<'a> Grouping<'a> {
     /// Adds an input to the group of its type script, where it has one.
     fn join_type(&mut self, alloc: Global, copy: &'a Resolved, input: u32) -> Result<(), NoMemory>
         requires typed { IsTrue (is_typed copy.now) }
-        requires known { FindsEach self.old.places.entries self.old.groups.items }
-        ensures known { OnOk result (FindsEach self.new.places.entries self.new.groups.items) }
+        requires known { FindsEachGroup self.old.places.entries self.old.groups.items }
+        ensures known { OnOk result (FindsEachGroup self.new.places.entries self.new.groups.items) }
         ensures groups { (cell : ShownCell) (before : List (Option Script)) → IsShownAs copy.now cell → self.old.groups.items ≡ grouped before []
             → input ≡ length before → OnOk result (self.new.groups.items ≡ grouped (before ++ cell.output.type_script ∷ []) []) }
     {
@@ -164,9 +164,9 @@ impl<'a> Grouping<'a> {
         row: &CellMeta,
         output: u32,
     ) -> Result<(), NoMemory>
-        requires known { FindsEach self.old.places.entries self.old.groups.items }
+        requires known { FindsEachGroup self.old.places.entries self.old.groups.items }
         requires hash { row.now.type_hash ≡ option_map script_hash made.now.type_script }
-        ensures known { OnOk result (FindsEach self.new.places.entries self.new.groups.items) }
+        ensures known { OnOk result (FindsEachGroup self.new.places.entries self.new.groups.items) }
         ensures groups { (inputs before : List (Option Script)) → self.old.groups.items ≡ grouped inputs before
             → output ≡ length before → OnOk result (self.new.groups.items ≡ grouped inputs (before ++ made.now.type_script ∷ [])) }
     {
@@ -189,7 +189,7 @@ impl<'a> Grouping<'a> {
         tx: &TxView<'a>,
         rows: &[CellMeta],
     ) -> Result<(), NoMemory>
-        requires known { FindsEach self.old.places.entries self.old.groups.items }
+        requires known { FindsEachGroup self.old.places.entries self.old.groups.items }
         requires rows { rows.now ≡ output_rows tx.now }
         ensures groups { (inputs : List (Option Script)) → self.old.groups.items ≡ grouped inputs []
             → OnOk result (self.new.groups.items ≡ grouped inputs (map (λ output. output.type_script) tx.now.raw.outputs)) }
@@ -219,7 +219,7 @@ fn lock_groups<'a>(alloc: Global, copies: &'a [Resolved]) -> Result<Vec<Group<'a
 fn types_of_inputs<'a>(alloc: Global, copies: &'a [Resolved]) -> Result<Grouping<'a>, NoMemory>
     requires fits { length copies.now < 2 ^ 32 }
     requires typed { All (λ copy. IsTrue (is_typed copy)) copies.now }
-    ensures known { IfOk result (λ it. FindsEach it.places.entries it.groups.items) }
+    ensures known { IfOk result (λ it. FindsEachGroup it.places.entries it.groups.items) }
     ensures groups { (cells : List ShownCell) → AllZip IsShownAs copies.now cells
         → IfOk result (λ it. it.groups.items ≡ grouped (map (λ cell. cell.output.type_script) cells) []) }
 {

@@ -1,12 +1,12 @@
 use Rattle.std.proofs.Common.{◌≡◌, List, [], map, take}
 use Rattle.std.specs.List.{AllZip}
 use Rattle.verdict_defs.specs.Scene.{ShownCell}
-use Rattle.script_run.specs.Grouping.{FindsEach, grouped}
+use Rattle.script_run.specs.Grouping.{FindsEachGroup, grouped}
 use Rattle.script_run.specs.Shown.{IsShownAs}
 use Rattle.script_run.proofs.groups.types_of_inputs.Given as goal
 
 abbrev pub invariant-inputs : goal.invariant-inputs
 invariant-inputs l = record {
-  known : FindsEach l.grouping.places.entries l.grouping.groups.items;
+  known : FindsEachGroup l.grouping.places.entries l.grouping.groups.items;
   groups : (cells : List ShownCell) → AllZip IsShownAs l.copies cells → l.grouping.groups.items ≡ grouped (map (λ (cell : ShownCell). cell.output.type_script) (take l.i cells)) [];
 }

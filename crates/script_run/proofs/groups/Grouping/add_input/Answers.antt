@@ -2,7 +2,7 @@ use Rattle.std.proofs.Common.{◌≡◌, ◌<◌, ◌++◌, ◌∷◌, [], ℕ, 
 use Rattle.std.proofs.Math.ListN.{set}
 use Rattle.chain_defs.specs.Schema.{Script}
 use Rattle.script_run.specs.Shown.{GroupValue}
-use Rattle.script_run.specs.Grouping.{FindsEach, with_input, changed, place_with}
+use Rattle.script_run.specs.Grouping.{FindsEachGroup, with_input, changed, place_with}
 use Rattle.script_run.proofs.GroupLemmas.{place-within, changed-at, finds-changed}
 use Rattle.script_run.proofs.groups.Grouping.add_input.Goals as goal
 
@@ -25,7 +25,7 @@ index_mut-group-requires c =
 
 pub returns-clause-known : goal.returns-clause-known
 returns-clause-known c =
-    subst (λ (l : List GroupValue). FindsEach c.place_of.new.self.places.entries l)
+    subst (λ (l : List GroupValue). FindsEachGroup c.place_of.new.self.places.entries l)
     (sym (pushed c.place_of.new.self.groups.items c.args.hash c.in_ok-place.place c.args.input c.index_mut-group.result.now c.group.inside.inputs.items c.group.inside.outputs.items
     c.push.new.self.items c.group.inside.hash c.group.inside.script c.in_ok-place.ensures.place c.index_mut-group.ensures.value c.group.view_is c.in_ok-push.ensures.items))
     (finds-changed c.place_of.new.self.places.entries c.place_of.new.self.groups.items (with_input c.args.input) c.args.hash (λ g. refl) c.in_ok-place.ensures.known)

@@ -4,7 +4,7 @@ use Rattle.std.specs.Option.{option_copied}
 use Rattle.std.specs.Str.{bytes_eq}
 use Rattle.chain_defs.specs.Schema.{Script}
 use Rattle.script_run.specs.Shown.{GroupValue}
-use Rattle.script_run.specs.Grouping.{FindsEach, new_group, place_with}
+use Rattle.script_run.specs.Grouping.{FindsEachGroup, new_group, place_with}
 use Rattle.script_run.proofs.GroupLemmas.{with-found, with-new, finds-new, new-place}
 use Rattle.script_run.proofs.groups.Grouping.place_of.Goals as goal
 
@@ -31,7 +31,7 @@ returns-clause-known c =
     let items : c.push.new.self.items ≡ c.args.self.now.groups.items ++ new_group c.args.hash c.args.script ∷ [] =
     pushed c.args.self.now.groups.items c.push.new.self.items c.args.script c.args.hash c.new.result.items c.new-2.result.items
     c.in_ok-push.ensures.items c.new.ensures.items c.new-2.ensures.items in
-    subst (λ (l : List GroupValue). FindsEach c.insert.new.self.entries l) (sym items)
+    subst (λ (l : List GroupValue). FindsEachGroup c.insert.new.self.entries l) (sym items)
     (finds-new c.args.self.now.places.entries c.insert.new.self.entries c.args.self.now.groups.items c.args.hash c.args.script c.requires.known none
     (λ q. c.in_ok-insert.ensures.updates.0 q
     ∙ ap (λ (n : ℕ). if bytes_eq c.args.hash q then Some n else lookup (bytes_eq q) c.args.self.now.places.entries) len))
