@@ -4,7 +4,7 @@ use Rattle.std.specs.Prelude.{nat_lt, ◌&&◌, if◌then◌else◌, IsTrue, IsS
 use Rattle.std.proofs.lemmas.Bool.{ltb-true}
 use Rattle.std.proofs.lemmas.Option.{slice_get_within}
 use Rattle.std.specs.Option.{option_map}
-use Rattle.chain_defs.specs.Shape.{IsA}
+use Rattle.chain_defs.specs.Shape.{IsEncoding}
 use Rattle.chain_defs.specs.Schema.{Script, Block, block}
 use Rattle.chain_defs.specs.Kept.{block_at}
 use Rattle.chain_defs.specs.Specification.{Specification}
@@ -30,7 +30,7 @@ use Rattle.run_query.specs.Queries.{IsLiveIn}
 
 -- a block that was found, by its bytes
 pub block-found : (kept : List Block) (height : ℕ) (found : Option (Vec ℕ Global)) (v : Vec ℕ Global) (bytes : List ℕ) → found ≡ Some v → bytes ≡ v.items
-    → IsBlockAt kept height (option_map (λ (v : Vec ℕ Global). v.items) found) → (b : Block) × (block_at (best_branch kept) height ≡ Some b) × IsA block bytes b
+    → IsBlockAt kept height (option_map (λ (v : Vec ℕ Global). v.items) found) → (b : Block) × (block_at (best_branch kept) height ≡ Some b) × IsEncoding block bytes b
 block-found kept height found v bytes is same there =
     subst (λ (bytes : List ℕ). IsBlockAt kept height (Some bytes)) (sym same)
     (subst (λ (found : Option (Vec ℕ Global)). IsBlockAt kept height (option_map (λ (v : Vec ℕ Global). v.items) found)) is there)

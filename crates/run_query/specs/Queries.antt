@@ -1,5 +1,6 @@
 -- What is found for a query, and the line of a live cell by its row.
-use Rattle.std.specs.Prelude.{◌≡◌, ℕ, ℤ, List, Option, Some, None}
+use Rattle.std.specs.Prelude.{◌≡◌, ℕ, ℤ, Bool, List, Option, Some, None}
+use Rattle.std.specs.Str.{bytes_eq}
 use Rattle.cell_defs.specs.Cell.{Cell, occupied_by}
 use Rattle.cell_defs.specs.Row.{Row, row_of}
 use Rattle.chain_defs.specs.Schema.{OutPoint}
@@ -37,3 +38,7 @@ IsCopyFound live (Some found) = (cell : Cell) × (live ≡ Some cell) × IsCopie
 -- what is left of the DAO field of a chain's tip: of what was issued, and of what live cells occupy
 abbrev pub balances_of : Chain → ℤ × ℤ
 balances_of chain = (supply_balance chain.spec (best_branch chain.blocks), occupied_balance (best_branch chain.blocks))
+
+-- whether the lock of a listed row has a hash
+abbrev pub is_of : List ℕ → OutPoint × Row → Bool
+is_of lock listed = bytes_eq listed.1.lock_hash lock

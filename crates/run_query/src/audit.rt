@@ -1,8 +1,8 @@
 // The query `audit`: whether what was issued is all there.
 ghost use Rattle.std.specs.Prelude.{◌≡◌, Err, IfOk};
 ghost use Rattle.chain_tree.specs.Reading.{stop_of};
-ghost use Rattle.rewards.specs.Reading.{ComesTo};
-ghost use Rattle.node_store.specs.Node.{IsItsOwn, IsSoundOn, LeavesAll};
+ghost use Rattle.rewards.specs.Reading.{YieldsUndamaged};
+ghost use Rattle.node_store.specs.Node.{IsOwnDiskWhereTold, IsSoundWhereTold, LeavesAll};
 ghost use Rattle.report_defs.specs.Report as reports;
 ghost use Rattle.report_defs.specs.declared.command.Query.TheVariants as queries;
 ghost use Rattle.report_defs.specs.Status.{IsOneOf};
@@ -20,20 +20,20 @@ use std::alloc::Global;
 
 /// The two balances of the best branch, in shannons: each of its blocks is read, from the genesis on.
 fn balances<D: Disk>(alloc: Global, disk: &mut D, node: &mut Node) -> Result<(i128, i128), ReadStop>
-    requires own { IsItsOwn node.old (D.reads_as disk.old) (D.images disk.old) }
+    requires own { IsOwnDiskWhereTold node.old (D.reads_as disk.old) (D.images disk.old) }
     ensures left { LeavesAll D.content_of D.reads_as D.images D.faults disk.old disk.new node.old node.new (stop_of result) }
-    ensures balances { IsSoundOn node.old (D.reads_as disk.old) → ComesTo (λ left. left ≡ balances_of node.old.chain) result }
+    ensures balances { IsSoundWhereTold node.old (D.reads_as disk.old) → YieldsUndamaged (λ left. left ≡ balances_of node.old.chain) result }
 {
     over_disk::balances(alloc, disk, &mut node.cache, &node.kept)
 }
 
 /// The line of the balances of the best branch.
 pub fn audit<D: Disk>(alloc: Global, disk: &mut D, node: &mut Node) -> Result<Vec<u8>, Status>
-    requires own { IsItsOwn node.old (D.reads_as disk.old) (D.images disk.old) }
+    requires own { IsOwnDiskWhereTold node.old (D.reads_as disk.old) (D.images disk.old) }
     ensures disk { OnlyReads D.content_of D.faults disk.old disk.new (result ≡ Err Status.DiskFault) }
-    ensures text { IsSoundOn node.old (D.reads_as disk.old) → IfOk result (λ text. text.items ≡ reports.answer_to_query queries.Audit node.old.chain) }
+    ensures text { IsSoundWhereTold node.old (D.reads_as disk.old) → IfOk result (λ text. text.items ≡ reports.answer_to_query queries.Audit node.old.chain) }
     ensures stop { (status : Status) → result ≡ Err status → IsOneOf opening_stops status }
-    ensures sound { IsSoundOn node.old (D.reads_as disk.old) → result ≡ Err Status.NotAStore → ⊥ }
+    ensures sound { IsSoundWhereTold node.old (D.reads_as disk.old) → result ≡ Err Status.NotAStore → ⊥ }
 {
     let left = match balances(alloc, disk, node) {
         Ok(left) => left,

@@ -8,7 +8,7 @@ ghost use Rattle.cell_model.specs.Copies.{IsCopyOf};
 ghost use Rattle.outside.specs.declared.disk.Damage.{Damage};
 ghost use Rattle.outside.specs.declared.disk.ReadStop.TheVariants.{DiskFault, Damaged};
 ghost use Rattle.store_defs.specs.Store.{IsJoined};
-ghost use Rattle.node_store.specs.Node.{IsItsOwn, IsSoundOn};
+ghost use Rattle.node_store.specs.Node.{IsOwnDiskWhereTold, IsSoundWhereTold};
 ghost use Rattle.report_defs.specs.Report as reports;
 ghost use Rattle.report_defs.specs.Queries as answers;
 ghost use Rattle.report_defs.specs.Queries.{cell_at_tip};
@@ -41,11 +41,11 @@ pub fn dao<D: Disk>(
     tx_hash: [u8; 32],
     index: u64,
 ) -> Result<Vec<u8>, Status>
-    requires own { IsItsOwn node.old (D.reads_as disk.old) (D.images disk.old) }
+    requires own { IsOwnDiskWhereTold node.old (D.reads_as disk.old) (D.images disk.old) }
     ensures disk { OnlyReads D.content_of D.faults disk.old disk.new (result ≡ Err Status.DiskFault) }
-    ensures text { IsSoundOn node.old (D.reads_as disk.old) → IfOk result (λ text. text.items ≡ reports.answer_to_query (queries.Dao tx_hash index) node.old.chain) }
+    ensures text { IsSoundWhereTold node.old (D.reads_as disk.old) → IfOk result (λ text. text.items ≡ reports.answer_to_query (queries.Dao tx_hash index) node.old.chain) }
     ensures stop { (status : Status) → result ≡ Err status → IsOneOf opening_stops status }
-    ensures sound { IsSoundOn node.old (D.reads_as disk.old) → result ≡ Err Status.NotAStore → ⊥ }
+    ensures sound { IsSoundWhereTold node.old (D.reads_as disk.old) → result ≡ Err Status.NotAStore → ⊥ }
 {
     let found = match fetch_cell(alloc, disk, node, tx_hash, index) {
         Ok(found) => found,
@@ -65,12 +65,12 @@ fn fetch_cell<D: Disk>(
     tx_hash: [u8; 32],
     index: u64,
 ) -> Result<Option<Fetched>, Status>
-    requires own { IsItsOwn node.old (D.reads_as disk.old) (D.images disk.old) }
+    requires own { IsOwnDiskWhereTold node.old (D.reads_as disk.old) (D.images disk.old) }
     ensures disk { OnlyReads D.content_of D.faults disk.old disk.new (result ≡ Err Status.DiskFault) }
     ensures chain { node.new.chain ≡ node.old.chain }
-    ensures found { IsSoundOn node.old (D.reads_as disk.old) → IfOk result (IsCopyFound (cell_at_tip node.old.chain tx_hash index)) }
+    ensures found { IsSoundWhereTold node.old (D.reads_as disk.old) → IfOk result (IsCopyFound (cell_at_tip node.old.chain tx_hash index)) }
     ensures stop { (status : Status) → result ≡ Err status → IsOneOf opening_stops status }
-    ensures sound { IsSoundOn node.old (D.reads_as disk.old) → result ≡ Err Status.NotAStore → ⊥ }
+    ensures sound { IsSoundWhereTold node.old (D.reads_as disk.old) → result ≡ Err Status.NotAStore → ⊥ }
 {
     let Some(o) = out_point(tx_hash, index) else {
         return Ok(None);

@@ -1,7 +1,7 @@
 // The balances of the best branch, over what is kept and a source of kept blocks.
 ghost use Rattle.std.specs.Prelude.{◌≡◌, length};
 ghost use Rattle.chain_tree.specs.Reading.{HasRead, stop_of};
-ghost use Rattle.rewards.specs.Reading.{ComesTo};
+ghost use Rattle.rewards.specs.Reading.{YieldsUndamaged};
 ghost use Rattle.node_store.specs.Kept.{HoldsJoined};
 ghost use Rattle.run_query.specs.Queries.{balances_of};
 
@@ -20,7 +20,7 @@ pub(crate) fn balances<B: Blocks>(
 ) -> Result<(i128, i128), ReadStop>
     requires counts { B.count blocks.old ≡ length kept.now.chain.blocks }
     ensures read { HasRead B.told B.count B.loans_of B.faults B.damages blocks.old blocks.new (stop_of result) }
-    ensures balances { HoldsJoined kept.now (B.told blocks.old) → ComesTo (λ left. left ≡ balances_of kept.now.chain) result }
+    ensures balances { HoldsJoined kept.now (B.told blocks.old) → YieldsUndamaged (λ left. left ≡ balances_of kept.now.chain) result }
 {
     let tip = kept.tree.tip();
     let totals = match Totals::of_branch(alloc, &kept.spec, &kept.tree, blocks, tip) {

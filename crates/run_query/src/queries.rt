@@ -19,12 +19,12 @@ ghost use Rattle.report_defs.specs.Survival.{KeepsRecords, MayAdd};
 ghost use Rattle.report_defs.specs.declared.command.Command.TheVariants as commands;
 ghost use Rattle.node_store.specs.OpeningSteps.{moves_to_open};
 ghost use Rattle.cell_state.specs.State.{rows};
-ghost use Rattle.node_store.specs.Node.{IsItsOwn, IsSoundOn};
-ghost use Rattle.node_store.specs.Kept.{AreOfTip};
+ghost use Rattle.node_store.specs.Node.{IsOwnDiskWhereTold, IsSoundWhereTold};
+ghost use Rattle.node_store.specs.Kept.{AreRowsOfTip};
 ghost use Rattle.node_store.specs.Queries.{IsHeaderAt};
-ghost use Rattle.run_text.specs.Output.{Took};
+ghost use Rattle.run_text.specs.Output.{SinkTook};
 ghost use Rattle.run_query.specs.Queries.{IsCellFound};
-ghost use Rattle.run_text.specs.Store.{Delivers, IsQueryPrinted, OnlyReads, opening_stops};
+ghost use Rattle.run_text.specs.Store.{DeliversCommand, IsQueryPrinted, OnlyReads, opening_stops};
 
 use crate::audit::audit;
 use crate::dao::dao;
@@ -49,11 +49,11 @@ fn answer_to<D: Disk>(
     node: &mut Node,
     query: Query,
 ) -> Result<Vec<u8>, Status>
-    requires own { IsItsOwn node.old (D.reads_as disk.old) (D.images disk.old) }
+    requires own { IsOwnDiskWhereTold node.old (D.reads_as disk.old) (D.images disk.old) }
     ensures disk { OnlyReads D.content_of D.faults disk.old disk.new (result ≡ Err Status.DiskFault) }
-    ensures text { IsSoundOn node.old (D.reads_as disk.old) → IfOk result (λ text. text.items ≡ reports.answer_to_query query node.old.chain) }
+    ensures text { IsSoundWhereTold node.old (D.reads_as disk.old) → IfOk result (λ text. text.items ≡ reports.answer_to_query query node.old.chain) }
     ensures stop { (status : Status) → result ≡ Err status → IsOneOf opening_stops status }
-    ensures sound { IsSoundOn node.old (D.reads_as disk.old) → result ≡ Err Status.NotAStore → ⊥ }
+    ensures sound { IsSoundWhereTold node.old (D.reads_as disk.old) → result ≡ Err Status.NotAStore → ⊥ }
 {
     match query {
         Query::Tip => tip(alloc, node),
@@ -94,7 +94,7 @@ fn header<D: Disk>(
     node: &mut Node,
     height: u64,
 ) -> Result<Vec<u8>, Status>
-    requires own { IsItsOwn node.old (D.reads_as disk.old) (D.images disk.old) }
+    requires own { IsOwnDiskWhereTold node.old (D.reads_as disk.old) (D.images disk.old) }
     ensures disk { OnlyReads D.content_of D.faults disk.old disk.new (result ≡ Err Status.DiskFault) }
     ensures text { IsSome (D.reads_as disk.old) → IfOk result (λ text. text.items ≡ reports.answer_to_query (queries.Header height) node.old.chain) }
     ensures stop { (status : Status) → result ≡ Err status → IsOneOf opening_stops status }
@@ -129,7 +129,7 @@ fn json<D: Disk>(
     node: &mut Node,
     height: u64,
 ) -> Result<Vec<u8>, Status>
-    requires own { IsItsOwn node.old (D.reads_as disk.old) (D.images disk.old) }
+    requires own { IsOwnDiskWhereTold node.old (D.reads_as disk.old) (D.images disk.old) }
     ensures disk { OnlyReads D.content_of D.faults disk.old disk.new (result ≡ Err Status.DiskFault) }
     ensures text { IsSome (D.reads_as disk.old) → IfOk result (λ text. text.items ≡ reports.answer_to_query (queries.Json height) node.old.chain) }
     ensures stop { (status : Status) → result ≡ Err status → IsOneOf opening_stops status }
@@ -184,7 +184,7 @@ pub fn out_point(tx_hash: [u8; 32], index: u64) -> Option<OutPoint>
 
 /// The line of the live cell with an out-point.
 fn cell(alloc: Global, node: &Node, tx_hash: [u8; 32], index: u64) -> Result<Vec<u8>, Status>
-    ensures text { AreOfTip node.now.chain.blocks (rows node.now.cells) → IfOk result (λ text. text.items ≡ reports.answer_to_query (queries.Cell tx_hash index) node.now.chain) }
+    ensures text { AreRowsOfTip node.now.chain.blocks (rows node.now.cells) → IfOk result (λ text. text.items ≡ reports.answer_to_query (queries.Cell tx_hash index) node.now.chain) }
     ensures memory { (status : Status) → result ≡ Err status → status ≡ Status.NoMemory }
 {
     let found = find_cell(node, tx_hash, index);
@@ -193,7 +193,7 @@ fn cell(alloc: Global, node: &Node, tx_hash: [u8; 32], index: u64) -> Result<Vec
 
 /// The live cell with an out-point, as its row.
 fn find_cell(node: &Node, tx_hash: [u8; 32], index: u64) -> Option<Live>
-    ensures { AreOfTip node.now.chain.blocks (rows node.now.cells) → IsCellFound (cell_at_tip node.now.chain tx_hash index) result }
+    ensures { AreRowsOfTip node.now.chain.blocks (rows node.now.cells) → IsCellFound (cell_at_tip node.now.chain tx_hash index) result }
 {
     match out_point(tx_hash, index) {
         None => None,
@@ -219,8 +219,8 @@ fn find_and_answer<K: Sink, D: Disk>(
     node: &mut Node,
     query: Query,
 ) -> Status
-    requires own { IsItsOwn node.old (D.reads_as disk.old) (D.images disk.old) }
-    ensures told { Took (K.taken out.old) (K.taken out.new) (λ taken. IsSoundOn node.old (D.reads_as disk.old)
+    requires own { IsOwnDiskWhereTold node.old (D.reads_as disk.old) (D.images disk.old) }
+    ensures told { SinkTook (K.taken out.old) (K.taken out.new) (λ taken. IsSoundWhereTold node.old (D.reads_as disk.old)
         → (left : Option (List ℕ)) → IsQueryPrinted query node.old.chain left taken result) }
     ensures status { IsOneOf query_statuses result }
     ensures disk { OnlyReads D.content_of D.faults disk.old disk.new (result ≡ Status.DiskFault) }
@@ -241,8 +241,8 @@ pub fn query<K: Sink, D: Disk, L: Ledger>(
     asked: Query,
     steps: &mut Steps<L>,
 ) -> Status
-    ensures query { Took (K.taken out.old) (K.taken out.new) (λ taken. (left : Option (List ℕ))
-        → Delivers (commands.Query asked) (D.reads_as disk.old) (D.images disk.old) (D.images disk.new) (D.left_since disk.new (D.moment disk.old)) left [] taken result) }
+    ensures query { SinkTook (K.taken out.old) (K.taken out.new) (λ taken. (left : Option (List ℕ))
+        → DeliversCommand (commands.Query asked) (D.reads_as disk.old) (D.images disk.old) (D.images disk.new) (D.left_since disk.new (D.moment disk.old)) left [] taken result) }
     ensures status { IsOneOf query_statuses result }
     ensures records { (now : Image) (chain : Chain) → D.reads_as disk.old ≡ Some now → store_of now ≡ Keeps chain
         → KeepsRecords (MayAdd (Some (commands.Query asked)) chain []) now (D.images disk.old) (D.images disk.new) (D.left_since disk.new (D.moment disk.old)) }

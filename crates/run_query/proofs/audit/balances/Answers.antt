@@ -1,6 +1,6 @@
 use Rattle.std.proofs.Common.{◌≡◌, sym, subst}
-use Rattle.rewards.specs.Reading.{ComesTo}
-use Rattle.node_store.specs.Node.{NodeValue, IsSoundOn}
+use Rattle.rewards.specs.Reading.{YieldsUndamaged}
+use Rattle.node_store.specs.Node.{NodeValue, IsSoundWhereTold}
 use Rattle.node_store.proofs.RecordedLemmas.{read-here, leaves-all}
 use Rattle.run_query.specs.Queries.{balances_of}
 use Rattle.run_query.proofs.audit.balances.Goals as goal
@@ -19,6 +19,6 @@ returns-clause-left g c =
 
 pub returns-clause-balances : goal.returns-clause-balances
 returns-clause-balances g c = λ sound.
-    let on = subst (λ (node : NodeValue). IsSoundOn node (g.D.Disk.reads_as c.args.disk.now)) (sym c.node.view_is) sound in
-    subst (λ (node : NodeValue). ComesTo (λ left. left ≡ balances_of node.chain) c.balances.result) c.node.view_is
+    let on = subst (λ (node : NodeValue). IsSoundWhereTold node (g.D.Disk.reads_as c.args.disk.now)) (sym c.node.view_is) sound in
+    subst (λ (node : NodeValue). YieldsUndamaged (λ left. left ≡ balances_of node.chain) c.balances.result) c.node.view_is
     (c.balances.ensures.balances on.told on.sound.joined)

@@ -1,23 +1,19 @@
-use Rattle.std.proofs.Common.{◌≡◌, ℕ, List, ap, ◌∙◌}
+use Rattle.std.proofs.Common.{List, sym, ap, ◌∙◌, subst}
+use Rattle.std.specs.List.{filter}
 use Rattle.chain_defs.specs.Schema.{OutPoint}
 use Rattle.cell_state.specs.State.{StateValue, rows}
-use Rattle.cell_defs.specs.Row.{Row}
-use Rattle.report_defs.specs.Queries.{total_of}
-use Rattle.run_query.proofs.ListLemmas.{listed-at-tip}
+use Rattle.cell_defs.specs.Row.{Row, ListsRows}
+use Rattle.run_query.specs.Queries.{is_of}
+use Rattle.run_query.proofs.ListLemmas.{kept-by-lock, listed-at-tip}
 use Rattle.run_query.proofs.list.find_cells.Goals as goal
 
-pub returns-clause-cells : goal.returns-clause-cells
-returns-clause-cells c live =
+pub returns : goal.returns
+returns c live =
     let kept = c.args.node.now.chain.blocks in
+    let lock = c.args.lock.now in
+    let all : List (OutPoint × Row) = c.deref.result.now in
     let is_tip = c.tip-tip.ensures.of_blocks kept c.tree.ensures.indexed in
-    let stands = c.in_ok-index.ensures kept c.tip-tip.result (λ o. ap (λ (s : StateValue). rows s o) c.state.ensures.cells ∙ live c.tip-tip.result is_tip o) in
-    listed-at-tip kept c.tip-tip.result c.args.lock.now c.in_ok-cells.cells.items is_tip (c.in_ok-cells.ensures kept c.tip-tip.result stands)
-
-pub returns-clause-total : goal.returns-clause-total
-returns-clause-total c live =
-    let kept = c.args.node.now.chain.blocks in
-    let is_tip = c.tip-tip.ensures.of_blocks kept c.tree.ensures.indexed in
-    let stands = c.in_ok-index.ensures kept c.tip-tip.result (λ o. ap (λ (s : StateValue). rows s o) c.state.ensures.cells ∙ live c.tip-tip.result is_tip o) in
-    let lists = c.in_ok-cells.ensures kept c.tip-tip.result stands in
-    c.total-total.ensures.of_branch kept c.tip-tip.result c.in_ok-cells.cells.items stands lists
-    ∙ ap (λ (l : List (OutPoint × Row)). total_of l) (listed-at-tip kept c.tip-tip.result c.args.lock.now c.in_ok-cells.cells.items is_tip lists)
+    let lists = subst (λ (l : List (OutPoint × Row)). ListsRows (rows c.state.result.now) l) (sym c.deref.ensures.value) c.in_ok-rows.ensures in
+    c.in_ok-cells.ensures ∙ listed-at-tip kept c.tip-tip.result lock (filter (is_of lock) all) is_tip
+    (kept-by-lock (rows c.state.result.now) kept c.tip-tip.result lock all
+    (λ o. ap (λ (s : StateValue). rows s o) c.state.ensures.cells ∙ live c.tip-tip.result is_tip o) lists)

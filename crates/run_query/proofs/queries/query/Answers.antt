@@ -3,7 +3,7 @@ use Rattle.std.specs.Prelude.{None, Err}
 use Rattle.outside.proofs.Endings.{no_fault, counts-as, no_answer, after_still}
 use Rattle.outside.proofs.Streams.{takes_none}
 use Rattle.report_defs.specs.declared.command.Command.TheVariants.{Query}
-use Rattle.node_store.specs.Node.{IsSoundOn}
+use Rattle.node_store.specs.Node.{IsSoundWhereTold}
 use Rattle.report_defs.specs.Report.{report_of_query}
 use Rattle.run_text.proofs.StoreLemmas.{delivers_over, keeps_unopened, opened_there, unopened, sound_opening, sound_here, by_disk_or_memory}
 use Rattle.run_query.proofs.Statuses.{query_opening}
@@ -66,7 +66,7 @@ returns-clause-query g c =
       told.0,
       told.1,
       λ left.
-          delivers_over (IsSoundOn node (g.D.Disk.reads_as c.open.new.disk)) (Query c.args.asked) (g.D.Disk.reads_as c.args.disk.now) node.chain
+          delivers_over (IsSoundWhereTold node (g.D.Disk.reads_as c.open.new.disk)) (Query c.args.asked) (g.D.Disk.reads_as c.args.disk.now) node.chain
           (g.D.Disk.images c.args.disk.now) (g.D.Disk.images c.find_and_answer-status.new.disk)
           (g.D.Disk.left_since c.find_and_answer-status.new.disk (g.D.Disk.moment c.args.disk.now)) left [] told.0 c.find_and_answer-status.result (λ store found. found) c.in-Ok.ensures.kept
           (λ store found. found_sound node (g.D.Disk.reads_as c.args.disk.now) (g.D.Disk.reads_as c.open.new.disk) store c.in-Ok.ensures.kept c.in-Ok.ensures.told c.in-Ok.ensures.sound found)
