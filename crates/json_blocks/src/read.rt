@@ -1,6 +1,6 @@
 // Blocks, transactions, scripts and what witnesses hold, read from their texts.
 ghost use Rattle.std.specs.Prelude.{◌≡◌, IfOk, IsTrue, IsUtf8, Some, None, Err};
-ghost use Rattle.chain_defs.specs.Shape.{IsA};
+ghost use Rattle.chain_defs.specs.Shape.{IsEncoding};
 ghost use Rattle.chain_defs.specs.Schema as schema;
 ghost use Rattle.serde_json.specs.Read.{read};
 ghost use Rattle.serde_json.specs.View.{view};
@@ -34,7 +34,7 @@ fn tree_of(alloc: Global, text: &[u8]) -> Result<Value, JsonStop>
 }
 
 /// The encoding of the item that a text is read as.
-fn read_text<I: Item>(alloc: Global, text: &[u8]) -> Result<Vec<u8>, JsonStop>
+pub fn read_text<I: Item>(alloc: Global, text: &[u8]) -> Result<Vec<u8>, JsonStop>
     ensures { GivesOfText I.Item.reads_as text.now result }
 {
     match tree_of(alloc, text) {
@@ -47,7 +47,7 @@ fn read_text<I: Item>(alloc: Global, text: &[u8]) -> Result<Vec<u8>, JsonStop>
 /// the text is no JSON, it nests deeper than 127, or its tree is that of no block.
 pub fn from_json(alloc: Global, text: &[u8]) -> Result<Vec<u8>, JsonStop>
     // What is given encodes a block that the text is read as.
-    ensures found { IfOk result (λ bytes. (v : schema.Block) × IsA schema.block bytes.items v × IsReadAs form.block text.now v) }
+    ensures found { IfOk result (λ bytes. (v : schema.Block) × IsEncoding schema.block bytes.items v × IsReadAs form.block text.now v) }
     // Bad comes only where the text is read as no block.
     ensures only { result ≡ Err Bad → (v : schema.Block) → IsTrue (schema.block.encoding v).fits → IsReadAs form.block text.now v → ⊥ }
 {
