@@ -8,6 +8,8 @@ pub(crate) enum Kind {
     Script,
     /// What the first witness of a cellbase holds.
     Witness,
+    /// The specification of a chain.
+    Specification,
 }
 
 /// What the program is asked for.
@@ -28,6 +30,7 @@ pub(crate) fn name_of(kind: Kind) -> &'static str {
         Kind::Block => "block",
         Kind::Script => "script",
         Kind::Witness => "witness",
+        Kind::Specification => "spec",
     }
 }
 
@@ -37,6 +40,15 @@ fn kind_of(word: &str) -> Option<Kind> {
         "block" => Some(Kind::Block),
         "script" => Some(Kind::Script),
         "witness" => Some(Kind::Witness),
+        "spec" => Some(Kind::Specification),
+        _ => None,
+    }
+}
+
+/// The command of a kind and an option.
+fn command_with(kind: &str, option: &str) -> Option<Command> {
+    match option {
+        "--show" => Some(Command::Show(kind_of(kind)?)),
         _ => None,
     }
 }
@@ -51,13 +63,7 @@ pub(crate) fn command_of(words: &[String]) -> Option<Command> {
                 Some(Command::Read(kind_of(word)?))
             }
         }
-        [kind, option] => {
-            if option.as_str() == "--show" {
-                Some(Command::Show(kind_of(kind)?))
-            } else {
-                None
-            }
-        }
+        [kind, option] => command_with(kind, option),
         _ => None,
     }
 }
