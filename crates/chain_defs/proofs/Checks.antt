@@ -11,7 +11,7 @@ use Rattle.std.proofs.lemmas.Option.{none-some}
 use Rattle.std.proofs.lemmas.Nat.{le_bytes_4, le_bytes_8, from_le_bytes-to_le_bytes_4, from_le_bytes-to_le_bytes_8}
 use Rattle.chain_defs.specs.Molecule as molecule
 use Rattle.chain_defs.specs.Molecule.{IsFixvec, IsDynvec, IsTable}
-use Rattle.chain_defs.specs.Shape.{Encoding, Shape, IsA, encoded, byte, u32, u64, u128, byte_array, bytes, fixvec, dynvec, option, struct, table, parts, table_field}
+use Rattle.chain_defs.specs.Shape.{Encoding, Shape, IsEncoding, encoded, byte, u32, u64, u128, byte_array, bytes, fixvec, dynvec, option, struct, table, parts, table_field}
 use Rattle.chain_defs.specs.Checked.{AreBytes, IsCheckOf, HasLength, IsItems, IsBytes, IsOptionOf, IsListOf, HasFields}
 use Rattle.chain_defs.proofs.MoleculeLaws.{IsFixvec_only, IsDynvec_only, length-concat, length-dynvec, length-fixvec, items_of_fixvec-fixvec}
 use Rattle.chain_defs.proofs.Numbers.{le_bytes_16, from_le_bytes-to_le_bytes_16}
@@ -187,22 +187,22 @@ dynvec-check {P = P} {s = s} check = record {
 
 -- ---- "option": of a shape that has no empty encoding
 
-option-only : {V : Type 0} (P : List ℕ → Type 0) (s : Shape V) → IsCheckOf P s → (b : List ℕ) (o : Option V) → IsA (option s) b o → 0 < length b → P b
+option-only : {V : Type 0} (P : List ℕ → Type 0) (s : Shape V) → IsCheckOf P s → (b : List ℕ) (o : Option V) → IsEncoding (option s) b o → 0 < length b → P b
 option-only P s check b None a long = absurd (omega (arith, ap length a.encoding))
 option-only P s check b (Some v) a long = check.complete b v (record { fits = a.fits; encoding = a.encoding })
 
-option-sound : {V : Type 0} (P : List ℕ → Type 0) (s : Shape V) → IsCheckOf P s → (b : List ℕ) → AreBytes b → (0 < length b → P b) → IsA (option s) b ((option s).decoding b)
+option-sound : {V : Type 0} (P : List ℕ → Type 0) (s : Shape V) → IsCheckOf P s → (b : List ℕ) → AreBytes b → (0 < length b → P b) → IsEncoding (option s) b ((option s).decoding b)
 option-sound P s check [] small p = record { fits = refl; encoding = refl }
 option-sound P s check (x ∷ b) small p =
     let some = check.sound (x ∷ b) small (p (omega arith)) in
     let long : eqb (length (x ∷ b)) 0 ≡ false = ne_eqb _ 0 (λ e. absurd (omega arith)) in
-    let here : IsA (option s) (x ∷ b) (Some (s.decoding (x ∷ b))) = record { fits = some.fits; encoding = some.encoding } in
+    let here : IsEncoding (option s) (x ∷ b) (Some (s.decoding (x ∷ b))) = record { fits = some.fits; encoding = some.encoding } in
     rw long here
 
-option-value : {V : Type 0} (P : List ℕ → Type 0) (s : Shape V) → IsCheckOf P s → ((b : List ℕ) → P b → 0 < length b) → (b : List ℕ) (o : Option V) → IsA (option s) b o → (option s).decoding b ≡ o
+option-value : {V : Type 0} (P : List ℕ → Type 0) (s : Shape V) → IsCheckOf P s → ((b : List ℕ) → P b → 0 < length b) → (b : List ℕ) (o : Option V) → IsEncoding (option s) b o → (option s).decoding b ≡ o
 option-value P s check some b None a = rw a.encoding refl
 option-value P s check some b (Some v) a =
-    let here : IsA s b v = record { fits = a.fits; encoding = a.encoding } in
+    let here : IsEncoding s b v = record { fits = a.fits; encoding = a.encoding } in
     let long : 0 < length b = some b (check.complete b v here) in
     rw (ne_eqb (length b) 0 (λ e. absurd (omega arith))) (ap (λ (u : _). Some u) (check.value b v here))
 

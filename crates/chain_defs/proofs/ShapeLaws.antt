@@ -8,7 +8,7 @@ use Rattle.std.proofs.lemmas.List.{drop_more, drop_all, length-append, length-ma
 use Rattle.std.proofs.lemmas.Option.{unwrap_or-slice_get}
 use Rattle.std.proofs.lemmas.Slice.Eq.{bytes_eq-Decides}
 use Rattle.chain_defs.specs.Molecule as molecule
-use Rattle.chain_defs.specs.Shape.{Encoding, Shape, IsA, encoded, decoded, are_bytes, table, parts, all_fit, table_field}
+use Rattle.chain_defs.specs.Shape.{Encoding, Shape, IsEncoding, encoded, decoded, are_bytes, table, parts, all_fit, table_field}
 use Rattle.chain_defs.specs.Checked.{AreBytes, IsCheckOf, HasFields}
 use Rattle.chain_defs.proofs.MoleculeLaws.{length-dynvec, parts_of-dynvec}
 
@@ -18,25 +18,25 @@ test_some : {V : Type 0} (t : Bool) (v w : V) → cond t (Some v) None ≡ Some 
 test_some true v w e = (refl, cc)
 test_some false v w e = absurd cc
 
-pub IsA-decoded : {V : Type 0} (s : Shape V) (b : List ℕ) (v : V) → decoded s b ≡ Some v → IsA s b v
+pub IsEncoding-decoded : {V : Type 0} (s : Shape V) (b : List ℕ) (v : V) → decoded s b ≡ Some v → IsEncoding s b v
 unfolding decoded
-IsA-decoded s b v e =
+IsEncoding-decoded s b v e =
     let u = s.decoding b in
     let t = test_some ((s.encoding u).fits && bytes_eq (encoded s u) b) u v e in
     let both = and_parts _ _ t.0 in
-    let found : IsA s b u = record { fits = both.0; encoding = sym ((bytes_eq-Decides (encoded s u) b).0 both.1) } in
-    subst (IsA s b) t.1 found
+    let found : IsEncoding s b u = record { fits = both.0; encoding = sym ((bytes_eq-Decides (encoded s u) b).0 both.1) } in
+    subst (IsEncoding s b) t.1 found
 
-pub decoded-is : {V : Type 0} {P : List ℕ → Type 0} (s : Shape V) → IsCheckOf P s → (b : List ℕ) (v : V) → IsA s b v → decoded s b ≡ Some v
+pub decoded-is : {V : Type 0} {P : List ℕ → Type 0} (s : Shape V) → IsCheckOf P s → (b : List ℕ) (v : V) → IsEncoding s b v → decoded s b ≡ Some v
 unfolding decoded
 decoded-is s check b v a =
     let same = check.value b v a in
-    let whole : IsA s b (s.decoding b) = subst (IsA s b) (sym same) a in
+    let whole : IsEncoding s b (s.decoding b) = subst (IsEncoding s b) (sym same) a in
     let test : ((s.encoding (s.decoding b)).fits && bytes_eq (encoded s (s.decoding b)) b) ≡ true = and_from _ _ whole.fits ((bytes_eq-Decides (encoded s (s.decoding b)) b).1 (sym whole.encoding)) in
     rw test (ap (λ (u : _). Some u) same)
 
-pub decoded-none : {V : Type 0} (s : Shape V) (b : List ℕ) → ((v : V) → IsA s b v → ⊥) → decoded s b ≡ None
-decoded-none s b none = elim (decoded s b) as (λ o. decoded s b ≡ o → o ≡ None) [ None ↦ λ e. refl | Some v ↦ λ e. absurd (none v (IsA-decoded s b v e)) ] refl
+pub decoded-none : {V : Type 0} (s : Shape V) (b : List ℕ) → ((v : V) → IsEncoding s b v → ⊥) → decoded s b ≡ None
+decoded-none s b none = elim (decoded s b) as (λ o. decoded s b ≡ o → o ≡ None) [ None ↦ λ e. refl | Some v ↦ λ e. absurd (none v (IsEncoding-decoded s b v e)) ] refl
 
 -- what a read answers
 pub read-some : {V : Type 0} {P : List ℕ → Type 0} (s : Shape V) → IsCheckOf P s → (b : List ℕ) → AreBytes b → P b → Some (s.decoding b) ≡ decoded s b

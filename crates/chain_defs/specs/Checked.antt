@@ -2,7 +2,7 @@
 -- a value of the shape, and the accessors of a view rest on it.
 use Rattle.std.specs.Prelude.{◌≡◌, ℕ, ◌<◌, List, length, slice_index}
 use Rattle.chain_defs.specs.Molecule.{IsFixvec, IsDynvec, IsTable, items_of_fixvec, parts_of}
-use Rattle.chain_defs.specs.Shape.{Shape, IsA, table_field}
+use Rattle.chain_defs.specs.Shape.{Shape, IsEncoding, table_field}
 
 -- each is a byte ("byte" of RFC 0008)
 abbrev pub AreBytes : List ℕ → Type 0
@@ -10,9 +10,9 @@ AreBytes b = (i : ℕ) → slice_index b i < 256
 
 -- P is what there is to check of a shape: of bytes, P holds exactly where they encode a value. An encoding has one value.
 pub record IsCheckOf {V : Type 0} (P : List ℕ → Type 0) (shape : Shape V) : Type 0 where
-  pub value : (b : List ℕ) (v : V) → IsA shape b v → shape.decoding b ≡ v
-  pub sound : (b : List ℕ) → AreBytes b → P b → IsA shape b (shape.decoding b)
-  pub complete : (b : List ℕ) (v : V) → IsA shape b v → P b
+  pub value : (b : List ℕ) (v : V) → IsEncoding shape b v → shape.decoding b ≡ v
+  pub sound : (b : List ℕ) → AreBytes b → P b → IsEncoding shape b (shape.decoding b)
+  pub complete : (b : List ℕ) (v : V) → IsEncoding shape b v → P b
 
 -- ---- by kind (docs/FORMATS.md, Strict reading)
 

@@ -22,12 +22,12 @@ abbrev pub encoded : {V : Type 0} → Shape V → V → List ℕ
 encoded shape v = (shape.encoding v).bytes
 
 -- The value is of the shape, and the bytes are its encoding (docs/FORMATS.md, Strict reading).
-pub record IsA {V : Type 0} (shape : Shape V) (bytes : List ℕ) (v : V) : Type 0 where
+pub record IsEncoding {V : Type 0} (shape : Shape V) (bytes : List ℕ) (v : V) : Type 0 where
   pub fits : IsTrue (shape.encoding v).fits
   pub encoding : bytes ≡ encoded shape v
 
 -- The value that the bytes encode, if there is one (docs/FORMATS.md, Strict reading). For each row, `Some v` exactly where
--- `IsA shape bytes v`: the clauses `value` and `exact` of `View::read` in mol_schema.
+-- `IsEncoding shape bytes v`: the clauses `value` and `exact` of `View::read` in mol_schema.
 unfoldable pub decoded : {V : Type 0} → Shape V → List ℕ → Option V
 decoded shape bytes =
     let v = shape.decoding bytes in

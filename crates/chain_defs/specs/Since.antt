@@ -39,8 +39,9 @@ abbrev pub is_valid : ℕ → Bool
 is_valid since = (reserved_of since == 0) && fits_metric (metric_of since) (since_value since)
 
 -- An input that is spent. The block that spends it has the height `number`, and the median time at its
--- parent is `median`; the block that made the cell has the height `made`, and the median time at its
--- parent is `start`. Times are in milliseconds, and an epoch has `length` blocks.
+-- parent is `median`; the block that made the cell has the height `made`. From `start` a relative
+-- timestamp counts: the median time at that block's parent by the first edition of the rules, its own
+-- timestamp by the second. Times are in milliseconds, and an epoch has `length` blocks.
 pub record Spending : Type 0 where
   pub number : ℕ
   pub median : ℕ

@@ -13,7 +13,7 @@ pub record IsTx (t : schema.Transaction) (bytes hash witness_hash : List ℕ) : 
   pub size : length bytes ≤ 1000
 
 -- what the cells of a chain have in common: the lock's encoding, of 53 bytes, and the hash of the genesis transaction
-pub record AreCommon (lock genesis_hash : List ℕ) : Type 0 where
+pub record AreCommonToCells (lock genesis_hash : List ℕ) : Type 0 where
   pub lock_is : lock ≡ encoded schema.script start.lock
   pub lock_size : length lock ≡ 53
   pub genesis_hash_is : genesis_hash ≡ start.genesis_hash

@@ -6,7 +6,7 @@ ghost use Rattle.gen_defs.specs.Start as start;
 ghost use Rattle.gen_defs.specs.Chain as chain;
 ghost use Rattle.mol_rows.specs.Rows.{BlockHasParts};
 ghost use Rattle.chain_gen.specs.Headers.{header_of};
-ghost use Rattle.chain_gen.specs.Known.{IsTx, AreCommon};
+ghost use Rattle.chain_gen.specs.Known.{IsTx, AreCommonToCells};
 ghost use Rattle.chain_gen.specs.Content.{IsContent};
 ghost use Rattle.chain_gen.specs.Walk as walks;
 
@@ -215,7 +215,7 @@ fn grow(
     seed: u64,
     i: u32,
 ) -> Result<Vec<u8>, NoMemory>
-    requires common { AreCommon common.now.lock.items common.now.genesis_hash }
+    requires common { AreCommonToCells common.now.lock.items common.now.genesis_hash }
     requires above { 1 ≤ i }
     requires bounded { i ≤ 20000 }
     requires at { walks.IsAt walk.old.standing walk.old.after.items seed (i - 1) }
@@ -282,7 +282,7 @@ fn blocks_after(
     seed: u64,
     n: u32,
 ) -> Result<Vec<Vec<u8>>, NoMemory>
-    requires common { AreCommon common.now.lock.items common.now.genesis_hash }
+    requires common { AreCommonToCells common.now.lock.items common.now.genesis_hash }
     requires count { n ≤ 20000 }
     requires at { walks.IsAt walk.standing walk.after.items seed 0 }
     ensures { IfOk result (λ blocks. map (λ bytes. bytes.items) blocks.items ≡ map (encoded schema.block) (chain.blocks_made seed n)) }

@@ -7,7 +7,7 @@ ghost use Rattle.chain_defs.specs.Dao.{next_field, miner_part};
 ghost use Rattle.rule_defs.specs.Shares.{primary_at, secondary_at};
 ghost use Rattle.gen_defs.specs.Heights as heights;
 ghost use Rattle.gen_defs.specs.Start.{specification, coin_capacity};
-ghost use Rattle.chain_gen.specs.Known.{IsTx, AreCommon, outputs_of};
+ghost use Rattle.chain_gen.specs.Known.{IsTx, AreCommonToCells, outputs_of};
 ghost use Rattle.chain_gen.specs.Content.{listed, after_height, KeepsHeights, IsContent};
 
 use crate::start::{NO_ITEMS, specification};
@@ -145,7 +145,7 @@ fn committed(
     coin: &Coin,
     height: u64,
 ) -> Result<Option<Tx>, NoMemory>
-    requires { AreCommon common.now.lock.items common.now.genesis_hash }
+    requires { AreCommonToCells common.now.lock.items common.now.genesis_hash }
     ensures there { IfOk result (λ transfer. is_some transfer ≡ heights.commits height) }
     ensures transfer { IfOk result (λ transfer. IfSome transfer (λ tx. IsTx (heights.transfer coin.now) tx.bytes.items tx.hash tx.witness_hash)) }
 {
@@ -163,7 +163,7 @@ fn proposed(
     coin: &Coin,
     height: u64,
 ) -> Result<Option<[u8; 10]>, NoMemory>
-    requires { AreCommon common.now.lock.items common.now.genesis_hash }
+    requires { AreCommonToCells common.now.lock.items common.now.genesis_hash }
     ensures { IfOk result (λ id. listed id ≡ (if heights.proposes height then proposal_id (heights.transfer coin.now) ∷ [] else [])) }
 {
     if proposes(height) {
@@ -252,7 +252,7 @@ pub(crate) fn content_at(
     after: &[After],
     height: u64,
 ) -> Result<Content, NoMemory>
-    requires common { AreCommon common.now.lock.items common.now.genesis_hash }
+    requires common { AreCommonToCells common.now.lock.items common.now.genesis_hash }
     requires kept { KeepsHeights after.now }
     requires above { 1 ≤ height }
     requires within { height ≤ length after.now }

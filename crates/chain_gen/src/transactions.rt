@@ -5,7 +5,7 @@ ghost use Rattle.chain_defs.specs.Schema as schema;
 ghost use Rattle.mol_rows.specs.Rows.{HasParts};
 ghost use Rattle.gen_defs.specs.Heights as heights;
 ghost use Rattle.gen_defs.specs.Start as start;
-ghost use Rattle.chain_gen.specs.Known.{IsTx, AreCommon, outputs_of};
+ghost use Rattle.chain_gen.specs.Known.{IsTx, AreCommonToCells, outputs_of};
 
 use crate::start::{NO_ITEMS, NO_PARTS, NULL_INDEX};
 use blake2b_ckb::ckbhash;
@@ -76,7 +76,7 @@ fn left_of(coin: &Coin) -> u64
 
 /// The transfer of the coin.
 pub(crate) fn transfer(alloc: Global, common: &Common, coin: &Coin) -> Result<Tx, NoMemory>
-    requires { AreCommon common.now.lock.items common.now.genesis_hash }
+    requires { AreCommonToCells common.now.lock.items common.now.genesis_hash }
     ensures { IfOk result (λ tx. IsTx (heights.transfer coin.now) tx.bytes.items tx.hash tx.witness_hash) }
 {
     let deps = fixvec_of(alloc, &dep_row(alloc, &common.genesis_hash, 0, 0)?)?;
@@ -127,7 +127,7 @@ pub(crate) fn cellbase(
     height: u64,
     reward: Option<u64>,
 ) -> Result<Tx, NoMemory>
-    requires { AreCommon common.now.lock.items common.now.genesis_hash }
+    requires { AreCommonToCells common.now.lock.items common.now.genesis_hash }
     ensures { outputs_of reward ≡ heights.cellbase_outputs height
         → IfOk result (λ tx. IsTx (heights.cellbase height) tx.bytes.items tx.hash tx.witness_hash) }
 {

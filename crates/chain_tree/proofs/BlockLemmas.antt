@@ -14,7 +14,7 @@ use Rattle.chain_defs.proofs.KeptLaws.{slice_get-take, slice_get-before, slice_g
 use Rattle.chain_defs.proofs.BranchLaws.{places_on, parent_place-below, parent_place-push, parent_place-last}
 use Rattle.chain_defs.proofs.TipLaws.{tips-are-tips}
 use Rattle.chain_tree.specs.declared.entry.Entry.{Entry}
-use Rattle.chain_tree.specs.Entries.{entry_at, place_of_hash, parent_of, place_up, IsAncestor, FollowsParent, IsTop}
+use Rattle.chain_tree.specs.Entries.{entry_at, place_of_hash, parent_of, place_up, IsAncestor, FollowsParent, IsTipEntry}
 use Rattle.chain_tree.specs.Blocks.{Describes, IndexesBlocks}
 use Rattle.chain_tree.proofs.EntryLemmas.{first_step, some_and}
 
@@ -90,7 +90,7 @@ if_some : (found : Option Block) (P : Block → Type 0) → ((block : Block) →
 if_some None P each = tt
 if_some (Some block) P each = each block refl
 
-pub tip-same : (kept : List Block) (entries : List Entry) (place : ℕ) → IndexesBlocks kept entries → IsTop entries place → tip_place kept ≡ Some place
+pub tip-same : (kept : List Block) (entries : List Entry) (place : ℕ) → IndexesBlocks kept entries → IsTipEntry entries place → tip_place kept ≡ Some place
 tip-same kept entries place indexes top = (tips-are-tips kept place).1 (record {
   top = here.block;
   there = here.there;

@@ -8,7 +8,7 @@ use Rattle.std.proofs.lemmas.List.{length_push}
 use Rattle.std.proofs.lemmas.Option.{slice_get_within, same_Some}
 use Rattle.chain_defs.proofs.KeptLaws.{slice_get-before, slice_get-push, slice_get-pushed, suc_of}
 use Rattle.chain_tree.specs.declared.entry.Entry.{Entry}
-use Rattle.chain_tree.specs.Entries.{entry_at, place_of_hash, IsAncestor, FollowsParent, IsTop, IsTree}
+use Rattle.chain_tree.specs.Entries.{entry_at, place_of_hash, IsAncestor, FollowsParent, IsTipEntry, IsTree}
 use Rattle.chain_tree.specs.Indexed.{AreJumps, IsIndexed}
 use Rattle.chain_tree.proofs.EntryLemmas.{ancestor-parent, ancestor-push, ancestor-below, parent_of-there, some_and, and_some, there-within}
 
@@ -220,7 +220,7 @@ IsIndexed-same entries jumps places others tip indexed same = record {
 pub IsIndexed-push : (entries : List Entry) (jumps : List ℕ) (places after : List ℕ → Option ℕ) (tip : ℕ) (entry : Entry) (place jump next : ℕ)
     → IsIndexed entries jumps places tip → length entries + 1 < 2 ^ 32 → FollowsParent entries entry → place_of_hash entries entry.hash ≡ None
     → place ≡ length entries → ((hash : List ℕ) → after hash ≡ cond (bytes_eq entry.hash hash) (Some place) (places hash))
-    → IsAncestor entries entry.parent jump → IsTop (entries ++ entry ∷ []) next
+    → IsAncestor entries entry.parent jump → IsTipEntry (entries ++ entry ∷ []) next
     → IsIndexed (entries ++ entry ∷ []) (jumps ++ jump ∷ []) after next
 IsIndexed-push entries jumps places after tip entry place jump next indexed few follows new last puts up top = record {
   tree = IsTree-push entries entry indexed.tree few follows new;

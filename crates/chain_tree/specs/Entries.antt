@@ -37,7 +37,7 @@ abbrev pub FollowsParent : List Entry → Entry → Type 0
 FollowsParent entries entry = IsSomeAnd (entry_at entries entry.parent) (λ parent. entry.number ≡ parent.number + 1)
 
 -- The tip: no number is above its own, and before it each is below (docs/RULES.md, "Kept blocks and the tip").
-pub record IsTop (entries : List Entry) (place : ℕ) : Type 0 where
+pub record IsTipEntry (entries : List Entry) (place : ℕ) : Type 0 where
   pub top : Entry
   pub there : entry_at entries place ≡ Some top
   pub greatest : (other : ℕ) (entry : Entry) → entry_at entries other ≡ Some entry → entry.number ≤ top.number

@@ -1,7 +1,7 @@
 -- What a tree keeps beside its entries, so that it finds places fast.
 use Rattle.std.specs.Prelude.{◌≡◌, ℕ, suc, ◌<◌, List, length, Option, Some, slice_get}
 use Rattle.chain_tree.specs.declared.entry.Entry.{Entry}
-use Rattle.chain_tree.specs.Entries.{place_of_hash, IsAncestor, IsTop, IsTree}
+use Rattle.chain_tree.specs.Entries.{place_of_hash, IsAncestor, IsTipEntry, IsTree}
 
 -- An earlier place on the path of each place but the genesis'.
 pub record AreJumps (entries : List Entry) (jumps : List ℕ) : Type 0 where
@@ -14,4 +14,4 @@ pub record IsIndexed (entries : List Entry) (jumps : List ℕ) (places : List �
   pub tree : IsTree entries
   pub jumps_up : AreJumps entries jumps
   pub finds : (hash : List ℕ) → places hash ≡ place_of_hash entries hash
-  pub top : IsTop entries tip
+  pub top : IsTipEntry entries tip

@@ -5,7 +5,7 @@ ghost use Rattle.chain_defs.specs.Kept.{block_at, place_of};
 ghost use Rattle.chain_defs.specs.Branch.{branch, branch_places};
 ghost use Rattle.chain_defs.specs.Median.{median_time};
 ghost use Rattle.chain_defs.specs.Tip.{tip_place};
-ghost use Rattle.chain_tree.specs.Entries.{entry_at, place_of_hash, FollowsParent, IsAncestor, IsTop, IsTree};
+ghost use Rattle.chain_tree.specs.Entries.{entry_at, place_of_hash, FollowsParent, IsAncestor, IsTipEntry, IsTree};
 ghost use Rattle.chain_tree.specs.Blocks.{Describes, IndexesBlocks};
 
 use crate::ancestors::{ancestor_of, jump_over};
@@ -52,8 +52,8 @@ impl Model for Tree {
 /// The place of the tip with one more entry at the end.
 fn tip_after(entries: &[Entry], tip: u32, entry: &Entry) -> u32
     requires few { length entries.now < 2 ^ 32 }
-    requires top { IsTop entries.now tip }
-    ensures { IsTop (entries.now ++ entry.now ∷ []) result }
+    requires top { IsTipEntry entries.now tip }
+    ensures { IsTipEntry (entries.now ++ entry.now ∷ []) result }
 {
     if entries[tip as usize].number < entry.number {
         entries.len() as u32
@@ -134,7 +134,7 @@ impl Tree {
 
     /// The place of the tip: the first of the entries with the greatest number.
     pub fn tip(&self) -> u32
-        ensures top { IsTop self.now.entries result }
+        ensures top { IsTipEntry self.now.entries result }
         ensures within { result < length self.now.entries }
         ensures of_blocks { (kept : List Block) → IndexesBlocks kept self.now.entries → tip_place kept ≡ Some result }
     {

@@ -1,17 +1,17 @@
 -- The pages that are allocated for the segments of a file, one after another.
 use Rattle.std.proofs.Common.{◌≡◌, ◌⊎◌, ℕ, Bool, List, [], ◌∷◌, inl, inr, subst}
 use Rattle.machine_defs.specs.Elf.{Segment, segments}
-use Rattle.vm_mem.specs.Pages.{AreAllocated, IsAllocated, IsUnder}
+use Rattle.vm_mem.specs.Pages.{AreAllocated, IsAllocated, ReachesPage}
 use Rattle.elf_load.specs.Placing.{Allocates, HoldsBytes}
 
 -- a range of allocated pages has each page under it
-under-range : (allocated : List Bool) (page at count : ℕ) → AreAllocated allocated at count → IsUnder page at count → IsAllocated allocated page
+under-range : (allocated : List Bool) (page at count : ℕ) → AreAllocated allocated at count → ReachesPage page at count → IsAllocated allocated page
 under-range allocated page at count all under = subst (λ p. IsAllocated allocated p) under.2 (all under.0 under.1)
 
 -- the bytes of one segment were copied
 pub allocates-one : (old copied new : List Bool) (s : Segment) (at count : ℕ) → at ≡ s.address → count ≡ s.file_size → AreAllocated copied at count
     → ((page : ℕ) → IsAllocated old page → IsAllocated copied page)
-    → ((page : ℕ) → IsAllocated copied page → IsAllocated old page ⊎ IsUnder page at count) → new ≡ copied → Allocates (s ∷ []) old new
+    → ((page : ℕ) → IsAllocated copied page → IsAllocated old page ⊎ ReachesPage page at count) → new ≡ copied → Allocates (s ∷ []) old new
 allocates-one old copied new s at count place size all kept added same page =
     rw (same, ← place, ← size) (
       λ allocated. elim (added page allocated) [

@@ -4,7 +4,7 @@ use Rattle.std.specs.List.{list_any}
 use Rattle.machine_defs.specs.declared.memory.PageKind.TheVariants.{Data}
 use Rattle.machine_defs.specs.Memory.{Memory, is_code, overwritten, page_count}
 use Rattle.machine_defs.specs.Elf.{Segment, contents, kinds_with}
-use Rattle.vm_mem.specs.Pages.{IsAllocated, IsUnder}
+use Rattle.vm_mem.specs.Pages.{IsAllocated, ReachesPage}
 use Rattle.elf_load.specs.Judging.{makes_code}
 
 -- memory has the pages of code of the segments, and no other
@@ -23,7 +23,7 @@ with_code memory segment = record memory { kinds = kinds_with memory.kinds segme
 -- bytes of the file go to the page with one of the segments; the zeros after them do not count
 abbrev pub HoldsBytes : ℕ → List Segment → Type 0
 HoldsBytes page [] = ⊥
-HoldsBytes page (segment ∷ later) = IsUnder page segment.address segment.file_size ⊎ HoldsBytes page later
+HoldsBytes page (segment ∷ later) = ReachesPage page segment.address segment.file_size ⊎ HoldsBytes page later
 
 -- Those pages are allocated beside the ones that were, and no other.
 abbrev pub Allocates : List Segment → List Bool → List Bool → Type 0

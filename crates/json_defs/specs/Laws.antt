@@ -1,6 +1,6 @@
 -- What is true of the tables, so that a tree tells its block.
 use Rattle.std.specs.Prelude.{◌≡◌, ℕ, List, IsTrue, Some, IsUtf8}
-use Rattle.chain_defs.specs.Shape.{Shape, IsA}
+use Rattle.chain_defs.specs.Shape.{Shape, IsEncoding}
 use Rattle.serde_json.specs.Data.{Data}
 use Rattle.serde_json.specs.Read.{read}
 use Rattle.serde_json.specs.Written.{compact_text}
@@ -46,7 +46,7 @@ pub record HasTexts {V : Type 0} (form : Form V) (shape : Shape V) : Type 0 wher
 
 -- the bytes encode a value that the text is read as
 abbrev pub IsEncodingOf : {V : Type 0} → Form V → Shape V → List ℕ → List ℕ → Type 0
-IsEncodingOf {V} form shape text bytes = (v : V) × IsA shape bytes v × IsReadAs form text v
+IsEncodingOf {V} form shape text bytes = (v : V) × IsEncoding shape bytes v × IsReadAs form text v
 
 -- the text is read as no value of the shape
 abbrev pub IsNoText : {V : Type 0} → Form V → Shape V → List ℕ → Type 0

@@ -3,7 +3,7 @@ use Rattle.std.proofs.Common.{◌≡◌, ℕ, ◌+◌, ◌/◌, ◌%◌, ◌^◌
 use Rattle.std.specs.Option.{option_map}
 use Rattle.std.proofs.lemmas.Nat.{mod_below}
 use Rattle.machine_defs.specs.declared.ins.Ins.{Ins}
-use Rattle.machine_defs.specs.Instruction.{bits, part, HasRegisters, HasImmediate, IsImmediate, IsAmount, FitsFormat}
+use Rattle.machine_defs.specs.Instruction.{bits, part, HasRegisters, HasImmediate, IsImmediate, IsShiftAmount, FitsFormat}
 use Rattle.machine_defs.specs.Row.{Row, matches, encoded_in}
 use Rattle.machine_defs.specs.Table.{full_forms, i_immediate, s_immediate, b_immediate, u_immediate, j_immediate, shift_amount, word_shift_amount}
 use Rattle.machine_defs.specs.Compressed.{compressed_forms}
@@ -84,11 +84,11 @@ word_amount : (w : ℕ) → bits 24 20 w < 32
 unfolding bits
 word_amount w = mod_below (w / 2 ^ 20) 32 (lit< tt)
 
-amount_fits : (w : ℕ) → IsAmount 64 (shift_amount w)
+amount_fits : (w : ℕ) → IsShiftAmount 64 (shift_amount w)
 unfolding shift_amount
 amount_fits w = (bits 25 20 w, amount w, refl)
 
-word_amount_fits : (w : ℕ) → IsAmount 32 (word_shift_amount w)
+word_amount_fits : (w : ℕ) → IsShiftAmount 32 (word_shift_amount w)
 unfolding word_shift_amount
 word_amount_fits w = (bits 24 20 w, word_amount w, refl)
 

@@ -156,8 +156,8 @@ abbrev pub IsImmediate : ℕ → ℕ → ℤ → Type 0
 IsImmediate width unit imm = (n : ℕ) × (n < 2 ^ width) × (n % unit ≡ 0) × (imm ≡ sign_extended width n)
 
 -- the amount of a shift, below a bound
-abbrev pub IsAmount : ℕ → ℤ → Type 0
-IsAmount bound imm = (n : ℕ) × (n < bound) × (imm ≡ pos n)
+abbrev pub IsShiftAmount : ℕ → ℤ → Type 0
+IsShiftAmount bound imm = (n : ℕ) × (n < bound) × (imm ≡ pos n)
 
 -- An immediate has the bits of its format ("Immediate Encoding Variants"): U has 32 of which the low 12 are zero, J has
 -- 21 and B 13 of which the lowest is zero, I and S have 12.
@@ -189,13 +189,13 @@ HasImmediate (Sltiu rd rs1 imm) = IsImmediate 12 1 imm
 HasImmediate (Xori rd rs1 imm) = IsImmediate 12 1 imm
 HasImmediate (Ori rd rs1 imm) = IsImmediate 12 1 imm
 HasImmediate (Andi rd rs1 imm) = IsImmediate 12 1 imm
-HasImmediate (Slli rd rs1 imm) = IsAmount 64 imm
-HasImmediate (Srli rd rs1 imm) = IsAmount 64 imm
-HasImmediate (Srai rd rs1 imm) = IsAmount 64 imm
+HasImmediate (Slli rd rs1 imm) = IsShiftAmount 64 imm
+HasImmediate (Srli rd rs1 imm) = IsShiftAmount 64 imm
+HasImmediate (Srai rd rs1 imm) = IsShiftAmount 64 imm
 HasImmediate (Addiw rd rs1 imm) = IsImmediate 12 1 imm
-HasImmediate (Slliw rd rs1 imm) = IsAmount 32 imm
-HasImmediate (Srliw rd rs1 imm) = IsAmount 32 imm
-HasImmediate (Sraiw rd rs1 imm) = IsAmount 32 imm
+HasImmediate (Slliw rd rs1 imm) = IsShiftAmount 32 imm
+HasImmediate (Srliw rd rs1 imm) = IsShiftAmount 32 imm
+HasImmediate (Sraiw rd rs1 imm) = IsShiftAmount 32 imm
 HasImmediate _ = Unit {0}
 
 -- An instruction fits its format.

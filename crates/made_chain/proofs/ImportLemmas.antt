@@ -18,7 +18,7 @@ use Rattle.verdict_defs.specs.Verdict.{joins}
 use Rattle.verdict_defs.specs.Chain.{Chain, verdict_over, chain_after, verdicts_over, chain_over, chain_of_genesis}
 use Rattle.disk_defs.specs.Log.{LogContent, log_of}
 use Rattle.store_defs.specs.Store.{Keeps, store_of, store_of_log, StandsFor, IsSound}
-use Rattle.node_store.specs.Node.{NodeValue, IsNew, IsSoundOn, IsOn, IsOnlyImage}
+use Rattle.node_store.specs.Node.{NodeValue, IsNew, IsSoundWhereTold, StandsOnDisk, IsOnlyImage}
 use Rattle.node_store.specs.Snapshot.{OthersReadBut}
 use Rattle.chain_defs.specs.Shape.{encoded}
 use Rattle.chain_defs.specs.Schema as schema
@@ -77,7 +77,7 @@ pub of-told : (reads : Option Image) (Q : Type 0) (now : Image) → reads ≡ So
 of-told reads Q now told is = subst (λ (r : Option Image). IfSome r (λ image. Q)) told is
 
 -- the node is sound there
-pub sound_on : (node : NodeValue) (reads : Option Image) (images : Image → Type 0) → IsOn node reads images → IsSoundOn node reads
+pub sound_on : (node : NodeValue) (reads : Option Image) (images : Image → Type 0) → StandsOnDisk node reads images → IsSoundWhereTold node reads
 sound_on node reads images on = record { sound = on.sound; told = subst (λ (r : Option Image). IsSome r) (sym on.image.told) refl }
 
 -- bytes that were known are known still

@@ -10,7 +10,7 @@ use Rattle.chain_defs.proofs.FoldLemmas.{keep-push}
 use Rattle.verdict_defs.specs.Chain.{Chain, chain_after, chain_over}
 use Rattle.store_defs.specs.Store.{Keeps, store_of, StandsFor, IsSound}
 use Rattle.store_defs.proofs.SnapshotLemmas.{stands_for_what_it_keeps}
-use Rattle.node_store.specs.Node.{NodeValue, IsOf, IsOn, IsItsOwn, IsSoundOn, IsOnlyImage}
+use Rattle.node_store.specs.Node.{NodeValue, IsOwnDisk, StandsOnDisk, IsOwnDiskWhereTold, IsSoundWhereTold, IsOnlyImage}
 use Rattle.node_store.specs.Steps.{moves_for, steps_over}
 use Rattle.made_chain.specs.declared.outcome.End.{End}
 use Rattle.made_chain.specs.declared.outcome.End.TheVariants.{Whole}
@@ -52,11 +52,11 @@ module _ (chain : Chain) (reads : Option Image) (images : Image → Type 0) (onl
 
 -- ---- A node on a disk
 
-module _ (node : NodeValue) (reads : Option Image) (images : Image → Type 0) (on : IsOn node reads images) where
-  pub on_own : IsItsOwn node reads images
-  on_own = subst (λ (r : Option Image). IfSome r (λ _. IsOf node reads images)) (sym on.image.told) on.of
+module _ (node : NodeValue) (reads : Option Image) (images : Image → Type 0) (on : StandsOnDisk node reads images) where
+  pub on_own : IsOwnDiskWhereTold node reads images
+  on_own = subst (λ (r : Option Image). IfSome r (λ _. IsOwnDisk node reads images)) (sym on.image.told) on.of
 
-  pub on_sound : IsSoundOn node reads
+  pub on_sound : IsSoundWhereTold node reads
   on_sound = record { sound = on.sound; told = ap is_some on.image.told }
 
 -- ---- Items one after the other

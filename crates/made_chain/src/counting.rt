@@ -5,7 +5,7 @@ ghost use Rattle.chain_defs.specs.Tip as tips;
 ghost use Rattle.cell_defs.specs.Events.{events};
 ghost use Rattle.verdict_defs.specs.Verdict as rules;
 ghost use Rattle.verdict_defs.specs.Chain.{verdict_over, chain_after, verdicts_over, chain_over, chain_of_genesis};
-ghost use Rattle.node_store.specs.Node.{IsItsOwn, IsOnlyImage, IsSoundNode, IsSoundOn};
+ghost use Rattle.node_store.specs.Node.{IsOwnDiskWhereTold, IsOnlyImage, IsSoundNode, IsSoundWhereTold};
 ghost use Rattle.cell_defs.specs.LiveCells.{live_cells};
 ghost use Rattle.report_defs.specs.Simulation.{height_of, counts_over, generated_counts};
 
@@ -45,8 +45,8 @@ pub fn open_new<D: Disk, L: Ledger>(
 ) -> Result<Node, NoMemory>
     requires told { IsSome (D.reads_as disk.old) }
     ensures chain { IfOk result (λ node. node.chain ≡ chain_of_genesis spec.now genesis.now) }
-    ensures sound { IfOk result (λ node. IsSoundOn node (D.reads_as disk.new)) }
-    ensures own { IfOk result (λ node. IsItsOwn node (D.reads_as disk.new) (D.images disk.new)) }
+    ensures sound { IfOk result (λ node. IsSoundWhereTold node (D.reads_as disk.new)) }
+    ensures own { IfOk result (λ node. IsOwnDiskWhereTold node (D.reads_as disk.new) (D.images disk.new)) }
     ensures image { IfOk result (λ node. IsOnlyImage node.chain (D.reads_as disk.new) (D.images disk.new)) }
 {
     if spec.len() >= SIZE_BOUND || genesis.len() >= SIZE_BOUND {
@@ -75,12 +75,12 @@ fn import_item<D: Disk, J: Judging, L: Ledger>(
     item: &[u8],
     steps: &mut Steps<L>,
 ) -> Result<(Node, Verdict), NoMemory>
-    requires sound { IsSoundOn node (D.reads_as disk.old) }
-    requires own { IsItsOwn node (D.reads_as disk.old) (D.images disk.old) }
+    requires sound { IsSoundWhereTold node (D.reads_as disk.old) }
+    requires own { IsOwnDiskWhereTold node (D.reads_as disk.old) (D.images disk.old) }
     ensures verdict { IfOk result (λ answer. answer.1 ≡ verdict_over node.chain item.now) }
     ensures kept { IfOk result (λ answer. answer.0.chain ≡ chain_after node.chain item.now) }
-    ensures sound { IfOk result (λ answer. IsSoundOn answer.0 (D.reads_as disk.new)) }
-    ensures own { IfOk result (λ answer. IsItsOwn answer.0 (D.reads_as disk.new) (D.images disk.new)) }
+    ensures sound { IfOk result (λ answer. IsSoundWhereTold answer.0 (D.reads_as disk.new)) }
+    ensures own { IfOk result (λ answer. IsOwnDiskWhereTold answer.0 (D.reads_as disk.new) (D.images disk.new)) }
 {
     if item.len() >= SIZE_BOUND {
         drop(node);
@@ -101,8 +101,8 @@ fn import_all<D: Disk, J: Judging, L: Ledger>(
     items: &[Vec<u8>],
     steps: &mut Steps<L>,
 ) -> Result<(Node, u64), NoMemory>
-    requires sound { IsSoundOn opened (D.reads_as disk.old) }
-    requires own { IsItsOwn opened (D.reads_as disk.old) (D.images disk.old) }
+    requires sound { IsSoundWhereTold opened (D.reads_as disk.old) }
+    requires own { IsOwnDiskWhereTold opened (D.reads_as disk.old) (D.images disk.old) }
     ensures sound { IfOk result (λ came. IsSoundNode came.0) }
     ensures kept { IfOk result (λ came. came.0.chain ≡ chain_over opened.chain (map (λ bytes. bytes.items) items.now)) }
     ensures count { IfOk result (λ came. came.1 ≡ length (filter rules.joins (verdicts_over opened.chain (map (λ bytes. bytes.items) items.now)))) }

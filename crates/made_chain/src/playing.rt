@@ -3,7 +3,7 @@ ghost use Rattle.std.specs.Prelude.{◌≡◌, ◌↔◌, ◌+◌, ◌≤◌, le
 ghost use Rattle.outside.specs.Causes.{CountsFault, up_to_last};
 ghost use Rattle.outside.specs.Image.{Image};
 ghost use Rattle.verdict_defs.specs.Chain.{Chain};
-ghost use Rattle.node_store.specs.Node.{IsOnlyImage, IsOn};
+ghost use Rattle.node_store.specs.Node.{IsOnlyImage, StandsOnDisk};
 ghost use Rattle.node_store.specs.OpeningSteps.{moves_to_open};
 ghost use Rattle.node_store.specs.Steps.{steps_over};
 ghost use Rattle.made_chain.specs.Sessions.{items_in, items_of, AreShort, IsShort, HasSoundImage, KeepsPrefix, IsEndOf, IsSession, ArePlayed, IsKeptAfter, fault_ends};
@@ -95,7 +95,7 @@ fn import_items<D: Disk, J: Judging, L: Ledger>(
     items: &[Vec<u8>],
     steps: &mut Steps<L>,
 ) -> (u64, End)
-    requires on { IsOn opened (D.reads_as disk.old) (D.images disk.old) }
+    requires on { StandsOnDisk opened (D.reads_as disk.old) (D.images disk.old) }
     requires short { AreShort items.now }
     ensures told { IsSome (D.reads_as disk.new) }
     ensures kept { (image : Image) → D.images disk.new image → KeepsPrefix opened.chain (items_in items.now) result.0 image }

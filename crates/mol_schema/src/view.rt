@@ -1,7 +1,7 @@
 //! A row of the schema, and its view: what all rows share.
 
 ghost use Rattle.std.specs.Prelude.{◌≡◌, ◌↔◌, ℕ, List, Some, IsTrue};
-ghost use Rattle.chain_defs.specs.Shape.{Shape, IsA, decoded};
+ghost use Rattle.chain_defs.specs.Shape.{Shape, IsEncoding, decoded};
 ghost use Rattle.chain_defs.specs.Checked.{IsCheckOf};
 
 use crate::parts::whole;
@@ -40,7 +40,7 @@ impl<'a, R: Row> View<'a, R> {
     /// The view of bytes that encode a value of the row.
     pub fn read(b: &'a [u8]) -> Option<Self>
         ensures value { result ≡ decoded R.shape b.now }
-        ensures exact { (v : R) → (result ≡ Some v) ↔ IsA R.shape b.now v }
+        ensures exact { (v : R) → (result ≡ Some v) ↔ IsEncoding R.shape b.now v }
     {
         if R::is_encoding(b) {
             Some(Self::from_checked(b))
@@ -62,15 +62,15 @@ impl<'a, R: Row> View<'a, R> {
 
     /// The view of bytes that are known to encode a value of the row: nothing is checked again.
     pub fn from_encoding(b: &'a [u8]) -> Self
-        requires { (v : R) × IsA R.shape b.now v }
-        ensures { (v : R) → IsA R.shape b.now v → result ≡ v }
+        requires { (v : R) × IsEncoding R.shape b.now v }
+        ensures { (v : R) → IsEncoding R.shape b.now v → result ≡ v }
     {
         Self::from_checked(b)
     }
 
     /// The whole encoding.
     pub fn bytes(&self) -> &'a [u8]
-        ensures { IsA R.shape result.now self.now }
+        ensures { IsEncoding R.shape result.now self.now }
     {
         whole(self.bytes)
     }

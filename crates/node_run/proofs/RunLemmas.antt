@@ -17,8 +17,8 @@ use Rattle.report_defs.specs.declared.status.Status.TheVariants.{Done, SomeRefus
 use Rattle.report_defs.specs.Status.{IsOneOf}
 use Rattle.report_defs.specs.Report.{Report, text_of, report_without_lines, file_limit, IsReport, IsReportOfFile, answer_to_query}
 use Rattle.report_defs.specs.Promise.{MatchesReport, KeepsOrder, ReadsFileInOrder, Finds, IsReported}
-use Rattle.report_defs.specs.Survival.{Each, Run, IsDone, IsUnder, MovesStore, MovesEdition, IsKeptPrefix, IsKeptBy, IsLeftBy, KeepsStore, KeepsItems, KeepsDisk, Answers, IsPromised, items_of, watched_of}
-use Rattle.run_text.specs.Store.{Delivers}
+use Rattle.report_defs.specs.Survival.{Each, Run, IsDone, IsUnderEdition, MovesStore, MovesEdition, IsKeptPrefix, IsKeptBy, IsLeftBy, KeepsStore, KeepsItems, KeepsDisk, Answers, IsPromised, items_of, watched_of}
+use Rattle.run_text.specs.Store.{DeliversCommand}
 use Rattle.run_question.specs.Question.{DeliversAnswer}
 use Rattle.run_simulation.specs.Simulation.{IsSimulationPrinted}
 use Rattle.run_text.proofs.LineLemmas.{prefix_of_none}
@@ -28,7 +28,7 @@ use Rattle.run_text.proofs.StoreLemmas.{same_chain, store_of_stands}
 
 -- a run may have kept no more than what was kept
 keeps_none : (genesis : Chain) (past : List Run) (run : Run) (image : Image)
-    → ((kept : Chain) → IsUnder run.command run.status kept kept)
+    → ((kept : Chain) → IsUnderEdition run.command run.status kept kept)
     → ((kept : Chain) → IsKeptPrefix (watched_of run.command) kept (items_of run.command run.given) run.taken 0)
     → ((kept : Chain) → IsDone run.status → Answers run.command kept run.given run.taken)
     → IsLeftBy genesis past image → IsLeftBy genesis (run ∷ past) image
@@ -42,7 +42,7 @@ prefix_of_no_items : (watched : Option (List ℕ)) (items : List (List ℕ)) (ke
 prefix_of_no_items watched items kept taken none = subst (λ (i : List (List ℕ)). IsKeptPrefix watched kept i taken 0) (sym none) (prefix_of_no_item watched kept taken)
 
 keeps_some : (genesis : Chain) (past : List Run) (run : Run) (image : Image) (kept under : Chain) (count : ℕ)
-    → IsKeptBy genesis past kept → IsUnder run.command run.status kept under → IsKeptPrefix (watched_of run.command) kept (items_of run.command run.given) run.taken count
+    → IsKeptBy genesis past kept → IsUnderEdition run.command run.status kept under → IsKeptPrefix (watched_of run.command) kept (items_of run.command run.given) run.taken count
     → (IsDone run.status → Answers run.command kept run.given run.taken)
     → StandsFor (chain_over under (take count (items_of run.command run.given))) image → IsLeftBy genesis (run ∷ past) image
 keeps_some genesis past run image kept under count by edition front answers stands =
@@ -76,7 +76,7 @@ module _ (command : Option Command) (now : Image) (at_start at_exit meanwhile : 
       let first = by now here in
       (first.0, first.1, first.2, keeps first.0 (store_of_stands first.0 now first.2) (λ image left. let one = by image left in (one.0, one.2)))
 
-  pub survives_store : ((kept : Chain) → IsUnder command (Some status) kept kept) → at_start now → KeepsItems (watched_of command) (items_of command given) now at_start at_exit meanwhile taken status
+  pub survives_store : ((kept : Chain) → IsUnderEdition command (Some status) kept kept) → at_start now → KeepsItems (watched_of command) (items_of command given) now at_start at_exit meanwhile taken status
       → ((kept : Chain) → StandsFor kept now → IsOneOf (Done ∷ SomeRefused ∷ []) status → Answers command kept given taken)
       → (genesis : Chain) (past : List Run) → Each at_start (IsLeftBy genesis past) → Each at_exit (IsLeftBy genesis (run_of command given taken status ∷ past))
   survives_store stays here keeps answers genesis past by = λ image left.
@@ -88,7 +88,7 @@ module _ (command : Option Command) (now : Image) (at_start at_exit meanwhile : 
         | inr some ↦ keeps_some genesis past (run_of command given taken status) image kept.0 kept.0 some.0 kept.1 (stays kept.0) some.1 (answers kept.0 kept.2) some.2
       ]
 
-  pub survives_store_meanwhile : ((kept : Chain) → IsUnder command None kept kept) → at_start now → KeepsItems (watched_of command) (items_of command given) now at_start at_exit meanwhile taken status
+  pub survives_store_meanwhile : ((kept : Chain) → IsUnderEdition command None kept kept) → at_start now → KeepsItems (watched_of command) (items_of command given) now at_start at_exit meanwhile taken status
       → (genesis : Chain) (past : List Run) → Each at_start (IsLeftBy genesis past) → Each meanwhile (IsLeftBy genesis (stopped_run command given ∷ past))
   survives_store_meanwhile stays here keeps genesis past by = λ image left.
       let kept = kept_store here keeps genesis past by in
@@ -111,8 +111,8 @@ reads_here reads images now here told = subst (λ (r : Option Image). IfSome r i
 
 -- a command that opens the store
 opening_promised : (command : Command) (reads : Option Image) (at_start at_exit meanwhile : Image → Type 0) (left : Option (List ℕ)) (given taken : List ℕ) (status : Status)
-    → ((kept : Chain) (ended : Option Status) → IsUnder (Some command) ended kept kept)
-    → IfSome reads at_start → Delivers command reads at_start at_exit meanwhile left given taken status
+    → ((kept : Chain) (ended : Option Status) → IsUnderEdition (Some command) ended kept kept)
+    → IfSome reads at_start → DeliversCommand command reads at_start at_exit meanwhile left given taken status
     → ((now : Image) → KeepsDisk (Some command) now at_start at_exit meanwhile given taken status → KeepsItems (watched_of (Some command)) (items_of (Some command) given) now at_start at_exit meanwhile taken status)
     → ((now : Image) (kept : Chain) → reads ≡ Some now → StandsFor kept now → IsOneOf (Done ∷ SomeRefused ∷ []) status → Answers (Some command) kept given taken)
     → IsPromised (Some command) reads at_start at_exit meanwhile left given taken status
@@ -135,7 +135,7 @@ opening_promised command reads at_start at_exit meanwhile left given taken statu
 }
 
 pub import_promised : (watched : Option (List ℕ)) (reads : Option Image) (at_start at_exit meanwhile : Image → Type 0) (left : Option (List ℕ)) (given taken : List ℕ) (status : Status)
-    → IfSome reads at_start → Delivers (Import watched) reads at_start at_exit meanwhile left given taken status
+    → IfSome reads at_start → DeliversCommand (Import watched) reads at_start at_exit meanwhile left given taken status
     → IsPromised (Some (Import watched)) reads at_start at_exit meanwhile left given taken status
 import_promised watched reads at_start at_exit meanwhile left given taken status here kept =
     opening_promised (Import watched) reads at_start at_exit meanwhile left given taken status (λ chain ended. refl) here kept (λ now keeps. keeps) (λ now chain told stands done. tt)
@@ -148,7 +148,7 @@ reported status (inr (inr never)) = absurd never
 
 -- the answer of a query is that over the chain that a past left
 query_answers : (query : queries.Query) (reads : Option Image) (at_start at_exit meanwhile : Image → Type 0) (taken : List ℕ) (status : Status) (now : Image) (kept : Chain)
-    → Delivers (Query query) reads at_start at_exit meanwhile (Some []) [] taken status → reads ≡ Some now → StandsFor kept now → IsOneOf (Done ∷ SomeRefused ∷ []) status
+    → DeliversCommand (Query query) reads at_start at_exit meanwhile (Some []) [] taken status → reads ≡ Some now → StandsFor kept now → IsOneOf (Done ∷ SomeRefused ∷ []) status
     → taken ≡ answer_to_query query kept
 query_answers query reads at_start at_exit meanwhile taken status now kept delivers told stands done =
     let said = (delivers.text (Keeps kept) (now, told, sym (store_of_stands kept now stands), λ chain same. subst (λ (k : Chain). StandsFor k now) (same_chain kept chain same) stands)).whole
@@ -156,7 +156,7 @@ query_answers query reads at_start at_exit meanwhile taken status now kept deliv
     said.2 ∙ ap (λ (r : Report). text_of r) said.1
 
 pub query_promised : (query : queries.Query) (reads : Option Image) (at_start at_exit meanwhile : Image → Type 0) (left : Option (List ℕ)) (taken : List ℕ) (status : Status)
-    → IfSome reads at_start → ((left : Option (List ℕ)) → Delivers (Query query) reads at_start at_exit meanwhile left [] taken status)
+    → IfSome reads at_start → ((left : Option (List ℕ)) → DeliversCommand (Query query) reads at_start at_exit meanwhile left [] taken status)
     → IsPromised (Some (Query query)) reads at_start at_exit meanwhile left [] taken status
 query_promised query reads at_start at_exit meanwhile left taken status here all =
     opening_promised (Query query) reads at_start at_exit meanwhile left [] taken status (λ chain ended. refl) here (all left) (λ now keeps. keeps)
@@ -215,7 +215,7 @@ module _ (epoch : ℕ) (now : Image) (at_start at_exit meanwhile : Image → Typ
       ]
 
 pub migrate_promised : (epoch : ℕ) (reads : Option Image) (at_start at_exit meanwhile : Image → Type 0) (left : Option (List ℕ)) (taken : List ℕ) (status : Status)
-    → IfSome reads at_start → Delivers (Migrate epoch) reads at_start at_exit meanwhile left [] taken status
+    → IfSome reads at_start → DeliversCommand (Migrate epoch) reads at_start at_exit meanwhile left [] taken status
     → IsPromised (Some (Migrate epoch)) reads at_start at_exit meanwhile left [] taken status
 migrate_promised epoch reads at_start at_exit meanwhile left taken status here kept = record {
   text = kept.text;
@@ -249,7 +249,7 @@ module _ {D : Type 0} (reads_as : D → Option Image) (images : D → Image → 
       there now.0 now.1 (λ none. not_keeps first.0 (sym (store_of_stands first.0 now.0 first.2) ∙ none))
 
   pub init_promised : (old new : D) (left : Option (List ℕ)) (given taken : List ℕ) (status : Status)
-      → Delivers Init (reads_as old) (images old) (images new) (left_since new (moment old)) left given taken status
+      → DeliversCommand Init (reads_as old) (images old) (images new) (left_since new (moment old)) left given taken status
       → ((now : Image) → reads_as old ≡ Some now → (store_of now ≡ NoLog → ⊥) → IsAsBefore reads_as images moment left_since old new)
       → IsPromised (Some Init) (reads_as old) (images old) (images new) (left_since new (moment old)) left given taken status
   init_promised old new left given taken status kept there = record {
@@ -273,7 +273,7 @@ module _ {D : Type 0} (reads_as : D → Option Image) (images : D → Image → 
   pub uncalled_promised : (command : Option Command) (old : D) (left : Option (List ℕ)) (given taken : List ℕ) (status : Status) → items_of command given ≡ []
       → ((store : Store) → Finds command (reads_as old) store → MatchesReport (λ whole said. IsReport command whole store said) given left taken status × KeepsOrder command store given left taken status)
       → ((now : Image) → KeepsDisk command now (images old) (images old) (left_since old (moment old)) given taken status)
-      → ((kept : Chain) (ended : Option Status) → IsUnder command ended kept kept)
+      → ((kept : Chain) (ended : Option Status) → IsUnderEdition command ended kept kept)
       → ((kept : Chain) → Answers command kept given taken)
       → IsPromised command (reads_as old) (images old) (images old) (left_since old (moment old)) left given taken status
   uncalled_promised command old left given taken status none says disk stays answers = record {

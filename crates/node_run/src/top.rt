@@ -12,7 +12,7 @@ ghost use Rattle.report_defs.specs.Words as grammar;
 ghost use Rattle.report_defs.specs.Status.{IsOneOf};
 ghost use Rattle.report_defs.specs.Promise.{statuses_of};
 ghost use Rattle.report_defs.specs.Survival.{IsPromised, CallsNoDisk, OpensStore, AsksStore, Imports, Migrates, KeepsRecords, MayAdd, NoneJoins, refusals, as_before};
-ghost use Rattle.run_text.specs.Items.{Gave};
+ghost use Rattle.run_text.specs.Items.{SourceGave};
 ghost use Rattle.node_store.specs.OpeningSteps.{moves_to_open};
 ghost use Rattle.node_store.specs.Steps.{steps_over};
 ghost use Rattle.run_text.specs.Output.{Transfers};
@@ -79,13 +79,13 @@ pub fn run<S: Source, K: Sink, D: Disk, L: Ledger>(
 
     // A command that opens the store keeps the records of LOG, over a log that is sound or not, and whatever status it ends with: an image is one of the
     // start, or its LOG has the records that it read as, and after them those of some of the items, or that of the edition which is asked for, where the chain may have it.
-    ensures records { OpensStore (grammar.command_of (map string_bytes words.now)) → Gave (S.left input.old) (S.left input.new)
+    ensures records { OpensStore (grammar.command_of (map string_bytes words.now)) → SourceGave (S.left input.old) (S.left input.new)
         (λ given. (now : Image) (chain : Chain) → D.reads_as disk.old ≡ Some now → store_of now ≡ Keeps chain
         → KeepsRecords (MayAdd (grammar.command_of (map string_bytes words.now)) chain given) now (D.images disk.old) (D.images disk.new)
         (D.left_since disk.new (D.moment disk.old))) }
 
     // Nothing joined, nothing written: over a sound store whose log is at rest an import only reads the disk where none of its items joins.
-    ensures still { Imports (grammar.command_of (map string_bytes words.now)) → Gave (S.left input.old) (S.left input.new)
+    ensures still { Imports (grammar.command_of (map string_bytes words.now)) → SourceGave (S.left input.old) (S.left input.new)
         (λ given. (now : Image) (chain : Chain) → D.reads_as disk.old ≡ Some now → StandsFor chain now → slice_index now.log (end_of_log now.log) ≢ 1
         → NoneJoins chain (split_of import_limits given).items → IsOnlyRead D.reads_as D.images D.moment D.left_since disk.old disk.new) }
 
@@ -97,7 +97,7 @@ pub fn run<S: Source, K: Sink, D: Disk, L: Ledger>(
         → steps.new ≤ steps.old + moves_to_open now }
     ensures migrate_steps { (now : Image) → D.reads_as disk.old ≡ Some now → Migrates (grammar.command_of (map string_bytes words.now))
         → steps.new ≤ steps.old + moves_to_open now }
-    ensures import_steps { Imports (grammar.command_of (map string_bytes words.now)) → Gave (S.left input.old) (S.left input.new)
+    ensures import_steps { Imports (grammar.command_of (map string_bytes words.now)) → SourceGave (S.left input.old) (S.left input.new)
         (λ given. (now : Image) (chain : Chain) → D.reads_as disk.old ≡ Some now → StandsFor chain now
         → steps.new ≤ steps.old + moves_to_open now + steps_over chain (split_of import_limits given).items) }
 {

@@ -129,8 +129,8 @@ Same before after = after ≡ before
 abbrev pub HasLength : ℕ → Held → Held → Type 0
 HasLength n before after = (after ≡ before) × IfSome before.reads_as (λ bytes. n ≡ length bytes)
 
-abbrev pub HasRead : ℕ → ℕ → List ℕ → Held → Held → Type 0
-HasRead at room given before after = (after ≡ before) × IfSome before.reads_as (GivesAll at room given)
+abbrev pub HasReadFile : ℕ → ℕ → List ℕ → Held → Held → Type 0
+HasReadFile at room given before after = (after ≡ before) × IfSome before.reads_as (GivesAll at room given)
 
 abbrev pub IsSynced : Held → Held → Type 0
 IsSynced before after = after ≡ after_sync before

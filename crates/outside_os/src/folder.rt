@@ -1,7 +1,7 @@
 // The files of a folder, and the calls on them.
 ghost use Rattle.std.specs.Prelude.{◌≡◌, ◌≤◌, Some, true, length, take, IsSome, IfOk, OnOk, OnErr};
 ghost use Rattle.outside.specs.Disk.{IsWithinLimit};
-ghost use Rattle.outside_os.specs.Files.{Changes, Writes, Tears, Shortens, CutsInPart, Same, HasLength, HasRead, IsSynced, Reaches, FailsAt, IsLent, KeepsAll, file_of, with_file, nothing_opened};
+ghost use Rattle.outside_os.specs.Files.{Changes, Writes, Tears, Shortens, CutsInPart, Same, HasLength, HasReadFile, IsSynced, Reaches, FailsAt, IsLent, KeepsAll, file_of, with_file, nothing_opened};
 
 use crate::claim::Claim;
 use crate::pieces::{read_full, write_all};
@@ -148,7 +148,7 @@ where
 
     pub(crate) fn read(&mut self, area: Area, at: u64, into: &mut [u8]) -> io::Result<usize>
         ensures fits { IfOk result (λ n. n ≤ length into.new) }
-        ensures given { IfOk result (λ n. Reaches area (HasRead at (length into.new) (take n into.new)) self.old self.new) }
+        ensures given { IfOk result (λ n. Reaches area (HasReadFile at (length into.new) (take n into.new)) self.old self.new) }
         ensures kept { OnErr result (FailsAt area Same self.old self.new) }
         ensures doubt { self.new.is_doubtful ≡ self.old.is_doubtful }
     {

@@ -1,6 +1,6 @@
 // The disk as files of a folder.
 ghost use Rattle.std.specs.Prelude.{◌≡◌, ◌≤◌, None, true, length, take, IsSome, IfOk, OnOk, OnErr};
-ghost use Rattle.outside_os.specs.Files.{Changes, Writes, Tears, Shortens, CutsInPart, Same, HasLength, HasRead, IsSynced, Reaches, FailsAt, file_of, nothing_opened};
+ghost use Rattle.outside_os.specs.Files.{Changes, Writes, Tears, Shortens, CutsInPart, Same, HasLength, HasReadFile, IsSynced, Reaches, FailsAt, file_of, nothing_opened};
 ghost use Rattle.std.proofs.Common.{lit≤, refl};
 ghost use Rattle.outside.specs.Causes.{counted, up_to_last, within_last};
 ghost use Rattle.outside.specs.Disk.{IsWithinLimit};
@@ -101,7 +101,7 @@ where
 
     fn read(&mut self, area: Area, at: u64, into: &mut [u8]) -> Result<usize, Failed>
         ensures fits { IfOk result (λ n. n ≤ length into.new) }
-        ensures given { IfOk result (λ n. Reaches area (HasRead at (length into.new) (take n into.new)) self.old.files self.new.files) }
+        ensures given { IfOk result (λ n. Reaches area (HasReadFile at (length into.new) (take n into.new)) self.old.files self.new.files) }
         ensures kept { OnErr result (FailsAt area Same self.old.files self.new.files) }
         ensures doubt { self.new.files.is_doubtful ≡ self.old.files.is_doubtful }
         ensures unchanged { OnOk result (self.new.failed ≡ self.old.failed) }

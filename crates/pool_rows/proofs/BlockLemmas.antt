@@ -3,7 +3,7 @@ use Rattle.std.proofs.Common.{◌≡◌, ℕ, ◌+◌, ◌^◌, ◌<◌, List, [
 use Rattle.std.proofs.lemmas.Bool.{and_from}
 use Rattle.chain_defs.specs.Molecule as molecule
 use Rattle.chain_defs.specs.Molecule.{IsTable}
-use Rattle.chain_defs.specs.Shape.{IsA, encoded, dynvec, fixvec}
+use Rattle.chain_defs.specs.Shape.{IsEncoding, encoded, dynvec, fixvec}
 use Rattle.chain_defs.specs.Schema as schema
 use Rattle.pool_rows.specs.Block.{block_with}
 use Rattle.pool_rows.proofs.Fits.{table-fits}
@@ -17,8 +17,8 @@ pub table-is : (n : ℕ) (fields : List (List ℕ)) (first second third fourth b
 table-is n fields first second third fourth bytes same is = record { encoding = is.encoding ∙ ap molecule.dynvec same; size = is.size; count = refl }
 
 pub block-is : (h : schema.Header) (ts : List schema.Transaction) (ids : List (List ℕ)) (bytes header transactions proposals : List ℕ)
-    → IsA schema.header header h → IsA (dynvec schema.transaction) transactions ts → IsA (fixvec 10 schema.proposal_short_id) proposals ids
-    → IsTable 4 bytes (header ∷ (4 ∷ 0 ∷ 0 ∷ 0 ∷ []) ∷ transactions ∷ proposals ∷ []) → IsA schema.block bytes (block_with h ts ids)
+    → IsEncoding schema.header header h → IsEncoding (dynvec schema.transaction) transactions ts → IsEncoding (fixvec 10 schema.proposal_short_id) proposals ids
+    → IsTable 4 bytes (header ∷ (4 ∷ 0 ∷ 0 ∷ 0 ∷ []) ∷ transactions ∷ proposals ∷ []) → IsEncoding schema.block bytes (block_with h ts ids)
 unfolding schema.block molecule.dynvec molecule.full_size molecule.header_size molecule.offsets
 block-is h ts ids bytes header transactions proposals head listed written table =
     let encoding : bytes ≡ encoded schema.block (block_with h ts ids) =

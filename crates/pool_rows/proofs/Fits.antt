@@ -3,7 +3,7 @@ use Rattle.std.proofs.Common.{◌≡◌, ℕ, ◌^◌, ◌<◌, List, [], ◌∷
 use Rattle.std.specs.Prelude.{IsTrue, IfOk}
 use Rattle.std.proofs.lemmas.Bool.{and_from, lt-ltb, eq-eqb}
 use Rattle.chain_defs.specs.Molecule as molecule
-use Rattle.chain_defs.specs.Shape.{Encoding, Shape, IsA, encoded, bytes, byte_array, u32, u64, all_fit, table, fixvec, dynvec, option}
+use Rattle.chain_defs.specs.Shape.{Encoding, Shape, IsEncoding, encoded, bytes, byte_array, u32, u64, all_fit, table, fixvec, dynvec, option}
 use Rattle.chain_defs.specs.Schema as schema
 use Rattle.chain_defs.specs.Checked.{AreBytes}
 use Rattle.chain_defs.proofs.ShapeLaws.{are_bytes-from}
@@ -22,7 +22,7 @@ content-fits content are short = and_from _ _ (lt-ltb _ _ short) (are_bytes-from
 array-fits : (n : ℕ) (items : List ℕ) → AreBytes items → length items ≡ n → IsTrue ((byte_array n).encoding items).fits
 array-fits n items are long = and_from _ _ (eq-eqb (length items) n long) (are_bytes-from items are)
 
-pub array-is : (n : ℕ) (items : List ℕ) → AreBytes items → length items ≡ n → IsA (byte_array n) items items
+pub array-is : (n : ℕ) (items : List ℕ) → AreBytes items → length items ≡ n → IsEncoding (byte_array n) items items
 array-is n items are long = record { fits = array-fits n items are long; encoding = refl }
 
 u32-fits : (n : ℕ) → n < 2 ^ 32 → IsTrue (u32.encoding n).fits
@@ -32,32 +32,32 @@ u64-fits : (n : ℕ) → n < 2 ^ 64 → IsTrue (u64.encoding n).fits
 u64-fits n few = lt-ltb n _ few
 
 -- a vector of one item
-pub vector-of-one : {V : Type 0} (s : Shape V) (v : V) (bytes row : List ℕ) → IsA s row v → bytes ≡ molecule.dynvec (row ∷ []) → length bytes < 2 ^ 32
-    → IsA (dynvec s) bytes (v ∷ [])
+pub vector-of-one : {V : Type 0} (s : Shape V) (v : V) (bytes row : List ℕ) → IsEncoding s row v → bytes ≡ molecule.dynvec (row ∷ []) → length bytes < 2 ^ 32
+    → IsEncoding (dynvec s) bytes (v ∷ [])
 vector-of-one s v bytes row item is short =
     let encoding : bytes ≡ encoded (dynvec s) (v ∷ []) = is ∙ ap (λ (l : List ℕ). molecule.dynvec (l ∷ [])) item.encoding in
     record { fits = table-fits (s.encoding v ∷ []) encoding short (and_from _ _ item.fits refl); encoding = encoding }
 
 -- bytes as an item
-pub content-is : (row content inner : List ℕ) → row ≡ encoded bytes content → AreBytes content → length content < 2 ^ 32 → content ≡ inner → IsA bytes row inner
+pub content-is : (row content inner : List ℕ) → row ≡ encoded bytes content → AreBytes content → length content < 2 ^ 32 → content ≡ inner → IsEncoding bytes row inner
 content-is row content inner is are short same =
-    let here : IsA bytes row content = record { fits = content-fits content are short; encoding = is } in
-    subst (λ (l : List ℕ). IsA bytes row l) same here
+    let here : IsEncoding bytes row content = record { fits = content-fits content are short; encoding = is } in
+    subst (λ (l : List ℕ). IsEncoding bytes row l) same here
 
 -- ---- The cellbase
 
 -- no item, and an item of no bytes
-pub none-is : {V : Type 0} (s : Shape V) → IsA (dynvec s) (4 ∷ 0 ∷ 0 ∷ 0 ∷ []) []
+pub none-is : {V : Type 0} (s : Shape V) → IsEncoding (dynvec s) (4 ∷ 0 ∷ 0 ∷ 0 ∷ []) []
 unfolding molecule.dynvec molecule.full_size molecule.header_size molecule.offsets
 none-is s = record { fits = refl; encoding = refl }
 
-pub nothing-is : IsA bytes (0 ∷ 0 ∷ 0 ∷ 0 ∷ []) []
+pub nothing-is : IsEncoding bytes (0 ∷ 0 ∷ 0 ∷ 0 ∷ []) []
 unfolding molecule.fixvec
 nothing-is = record { fits = refl; encoding = refl }
 
-pub output-is : (capacity : ℕ) (lock : schema.Script) (row lock_row : List ℕ) → capacity < 2 ^ 64 → IsA schema.script lock_row lock
+pub output-is : (capacity : ℕ) (lock : schema.Script) (row lock_row : List ℕ) → capacity < 2 ^ 64 → IsEncoding schema.script lock_row lock
     → row ≡ encoded schema.cell_output (record { capacity = capacity; lock = lock; type_script = None }) → length row < 2 ^ 32
-    → IsA schema.cell_output row (record { capacity = capacity; lock = lock; type_script = None })
+    → IsEncoding schema.cell_output row (record { capacity = capacity; lock = lock; type_script = None })
 unfolding schema.cell_output
 output-is capacity lock row lock_row few locked is short = record {
   fits = table-fits (u64.encoding capacity ∷ schema.script.encoding lock ∷ (option schema.script).encoding None ∷ []) is short
@@ -70,7 +70,7 @@ unfolding schema.cell_input schema.out_point null_index
 input-fits height few = and_from _ _ (u64-fits height few) refl
 
 raw-fits : (height : ℕ) (list : List schema.CellOutput) (w : schema.CellbaseWitness) {raw outputs contents : List ℕ} → height < 2 ^ 64
-    → IsA (dynvec schema.cell_output) outputs list → IsA (dynvec bytes) contents (map (λ output. []) list)
+    → IsEncoding (dynvec schema.cell_output) outputs list → IsEncoding (dynvec bytes) contents (map (λ output. []) list)
     → raw ≡ encoded schema.raw_transaction (cellbase_with height list w).raw → length raw < 2 ^ 32
     → IsTrue (schema.raw_transaction.encoding (cellbase_with height list w).raw).fits
 unfolding schema.raw_transaction
@@ -82,11 +82,11 @@ raw-fits height list w few outputs contents is short =
     (and_from _ _ outputs.fits (and_from _ _ contents.fits refl))))))
 
 pub cellbase-is : (height : ℕ) (list : List schema.CellOutput) (w : schema.CellbaseWitness) {raw outputs contents witnesses : List ℕ} (t : List ℕ) → height < 2 ^ 64
-    → IsA (dynvec schema.cell_output) outputs list → IsA (dynvec bytes) contents (map (λ output. []) list)
+    → IsEncoding (dynvec schema.cell_output) outputs list → IsEncoding (dynvec bytes) contents (map (λ output. []) list)
     → raw ≡ encoded schema.raw_transaction (cellbase_with height list w).raw → length raw < 2 ^ 32
-    → IsA (dynvec bytes) witnesses (cellbase_with height list w).witnesses
+    → IsEncoding (dynvec bytes) witnesses (cellbase_with height list w).witnesses
     → t ≡ encoded schema.transaction (cellbase_with height list w) → length t < 2 ^ 32
-    → IsA schema.transaction t (cellbase_with height list w)
+    → IsEncoding schema.transaction t (cellbase_with height list w)
 unfolding schema.transaction
 cellbase-is height list w t few outputs contents raw_is raw_short witnesses is short = record {
   fits = table-fits (schema.raw_transaction.encoding (cellbase_with height list w).raw ∷ (dynvec bytes).encoding (cellbase_with height list w).witnesses ∷ []) is short
@@ -119,5 +119,5 @@ both-of (Ok value) both first second = both value first second
 both-of (Err stop) both first second = tt
 
 -- the same bytes
-pub seen-as : {V : Type 0} (s : Shape V) (b other : List ℕ) (v : V) → other ≡ b → IsA s b v → IsA s other v
+pub seen-as : {V : Type 0} (s : Shape V) (b other : List ℕ) (v : V) → other ≡ b → IsEncoding s b v → IsEncoding s other v
 seen-as s b other v same is = record { fits = is.fits; encoding = same ∙ is.encoding }

@@ -8,7 +8,7 @@ use Rattle.std.proofs.lemmas.List.{drop_all}
 use Rattle.chain_defs.specs.Molecule as molecule
 use Rattle.chain_defs.specs.Molecule.{IsDynvec}
 use Rattle.chain_defs.proofs.MoleculeLaws.{length-dynvec}
-use Rattle.chain_defs.specs.Shape.{IsA, encoded, parts, all_fit, fixvec}
+use Rattle.chain_defs.specs.Shape.{IsEncoding, encoded, parts, all_fit, fixvec}
 use Rattle.chain_defs.specs.Schema.{Transaction, transaction, proposal_short_id}
 
 -- ---- The transactions
@@ -42,7 +42,7 @@ pub record AreWritten (ids : List (List ℕ)) (place : ℕ) (bytes : List ℕ) :
   pub size : length bytes + 10 * length (drop place ids) ≡ 4 + 10 * length ids
 
 pub one-written : (ids : List (List ℕ)) (place : ℕ) (bytes more id : List ℕ) → AreWritten ids place bytes → drop place ids ≡ id ∷ drop (place + 1) ids
-    → IsA proposal_short_id id id → more ≡ bytes ++ id → length more ≡ length bytes + 10 → AreWritten ids (place + 1) more
+    → IsEncoding proposal_short_id id id → more ≡ bytes ++ id → length more ≡ length bytes + 10 → AreWritten ids (place + 1) more
 one-written ids place bytes more id so_far left is grown long = record {
   bytes_are = ap (λ (list : List ℕ). list ++ concat (drop (place + 1) ids)) grown
       ∙ append_assoc bytes id (concat (drop (place + 1) ids))
@@ -65,7 +65,7 @@ unfolding molecule.fixvec
 encoding-of ids = ap (λ (list : List (List ℕ)). to_le_bytes w32 (length list) ++ concat list) (same-parts ids)
 
 pub all-written : (ids : List (List ℕ)) (place : ℕ) (bytes : List ℕ) → AreWritten ids place bytes → length ids ≤ place → length ids < 2 ^ 32
-    → IsA (fixvec 10 proposal_short_id) bytes ids
+    → IsEncoding (fixvec 10 proposal_short_id) bytes ids
 all-written ids place bytes so_far past few =
     let none = drop_all place ids past in
     record {

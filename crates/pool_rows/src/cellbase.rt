@@ -1,6 +1,6 @@
 // The cellbase of the block that is assembled.
 ghost use Rattle.std.specs.Prelude.{◌≡◌, ◌<◌, ◌≤◌, ◌^◌, List, [], ◌∷◌, map, length, None, IfOk};
-ghost use Rattle.chain_defs.specs.Shape.{IsA, encoded, bytes, dynvec};
+ghost use Rattle.chain_defs.specs.Shape.{IsEncoding, encoded, bytes, dynvec};
 ghost use Rattle.chain_defs.specs.Schema as schema;
 ghost use Rattle.pool_defs.specs.Start.{cellbase_with};
 
@@ -34,9 +34,9 @@ fn cellbase_of(
     requires outputs { length outputs.now < 2 ^ 29 }
     requires contents { length contents.now ≤ 12 }
     requires witness { length witness.now < 2 ^ 28 }
-    ensures cellbase { (list : List schema.CellOutput) (w : schema.CellbaseWitness) → IsA (dynvec schema.cell_output) outputs.now list
-        → IsA (dynvec bytes) contents.now (map (λ output. []) list) → IsA schema.cellbase_witness witness.now w
-        → IfOk result (λ bytes. IsA schema.transaction bytes.items (cellbase_with height list w)) }
+    ensures cellbase { (list : List schema.CellOutput) (w : schema.CellbaseWitness) → IsEncoding (dynvec schema.cell_output) outputs.now list
+        → IsEncoding (dynvec bytes) contents.now (map (λ output. []) list) → IsEncoding schema.cellbase_witness witness.now w
+        → IfOk result (λ bytes. IsEncoding schema.transaction bytes.items (cellbase_with height list w)) }
     ensures size { IfOk result (λ bytes. length bytes.items < 2 ^ 30) }
 {
     let inputs = fixvec_of(alloc, &input_row(alloc, height, &[0; 32], NULL_INDEX)?)?;
@@ -52,7 +52,7 @@ pub fn cellbase_alone(
     witness: &CellbaseWitnessView<'_>,
 ) -> Result<Vec<u8>, NoMemory>
     requires witness { length (encoded schema.cellbase_witness witness.now) < 2 ^ 28 }
-    ensures cellbase { IfOk result (λ bytes. IsA schema.transaction bytes.items (cellbase_with height [] witness.now)) }
+    ensures cellbase { IfOk result (λ bytes. IsEncoding schema.transaction bytes.items (cellbase_with height [] witness.now)) }
     ensures size { IfOk result (λ bytes. length bytes.items < 2 ^ 30) }
 {
     cellbase_of(alloc, height, &NO_PARTS, &NO_PARTS, witness.bytes())
@@ -67,7 +67,7 @@ pub fn cellbase_paying(
     witness: &CellbaseWitnessView<'_>,
 ) -> Result<Vec<u8>, NoMemory>
     requires witness { length (encoded schema.cellbase_witness witness.now) < 2 ^ 28 }
-    ensures cellbase { IfOk result (λ bytes. IsA schema.transaction bytes.items
+    ensures cellbase { IfOk result (λ bytes. IsEncoding schema.transaction bytes.items
         (cellbase_with height (record { capacity = capacity; lock = lock.now; type_script = None } ∷ []) witness.now)) }
     ensures size { IfOk result (λ bytes. length bytes.items < 2 ^ 30) }
 {

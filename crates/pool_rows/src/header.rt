@@ -1,6 +1,6 @@
 // The header of the block that is assembled.
 ghost use Rattle.std.specs.Prelude.{◌≡◌, ◌+◌, ◌++◌, length, IfOk, OnOk};
-ghost use Rattle.chain_defs.specs.Shape.{IsA};
+ghost use Rattle.chain_defs.specs.Shape.{IsEncoding};
 ghost use Rattle.chain_defs.specs.Schema as schema;
 ghost use Rattle.pool_defs.specs.Start.{next_timestamp};
 ghost use Rattle.pool_rows.specs.Header.{header_with};
@@ -31,7 +31,7 @@ pub fn timestamp_after(median: u64) -> u64
 fn push_hash(row: &mut Vec<u8>, hash: &[u8; 32]) -> Result<(), NoMemory>
     ensures items { OnOk result (row.new.items ≡ row.old.items ++ hash.now) }
     ensures size { OnOk result (length row.new.items ≡ length row.old.items + 32) }
-    ensures hash { IsA schema.byte32 hash.now hash.now }
+    ensures hash { IsEncoding schema.byte32 hash.now hash.now }
 {
     row.extend_from_slice(hash)?;
     Ok(())
@@ -47,7 +47,7 @@ pub fn header_row(
     parent_hash: &[u8; 32],
     commitments: &Commitments,
 ) -> Result<Vec<u8>, NoMemory>
-    ensures header { IfOk result (λ row. IsA schema.header row.items (header_with compact_target timestamp number epoch parent_hash.now commitments.now)) }
+    ensures header { IfOk result (λ row. IsEncoding schema.header row.items (header_with compact_target timestamp number epoch parent_hash.now commitments.now)) }
     ensures size { IfOk result (λ row. length row.items ≡ 208) }
 {
     let mut row = Vec::with_capacity(alloc, 208)?;

@@ -4,10 +4,10 @@ use Rattle.std.specs.Prelude.{IsTrue, nat_lt, ◌==◌, ◌&&◌}
 use Rattle.std.proofs.lemmas.Bool.{and_parts, ltb-true}
 use Rattle.std.proofs.lemmas.Bool.Decides.{Decides-eqb}
 use Rattle.chain_defs.specs.Molecule as molecule
-use Rattle.chain_defs.specs.Shape.{Encoding, IsA, encoded, decoded, encode_field, parts, all_fit, are_bytes, table, u32, u64, u128, fixvec, dynvec}
+use Rattle.chain_defs.specs.Shape.{Encoding, IsEncoding, encoded, decoded, encode_field, parts, all_fit, are_bytes, table, u32, u64, u128, fixvec, dynvec}
 use Rattle.chain_defs.specs.Schema.{Header, Block, header, block, byte32, uncle_block, transaction, proposal_short_id}
 use Rattle.chain_defs.proofs.MoleculeLaws.{length-dynvec, parts_of-dynvec}
-use Rattle.chain_defs.proofs.ShapeLaws.{IsA-decoded, AllFit, AllFit-from}
+use Rattle.chain_defs.proofs.ShapeLaws.{IsEncoding-decoded, AllFit, AllFit-from}
 use Rattle.chain_defs.specs.CkbHash.{ckbhash}
 use Rattle.chain_defs.specs.Kept.{header_hash, block_hash}
 
@@ -33,7 +33,7 @@ parts_back b short =
 pub same_header_bytes : (b read : Block) → decoded block (encoded block b) ≡ Some read → encoded header read.header ≡ encoded header b.header
 unfolding header
 same_header_bytes b read is =
-    let a : IsA block (encoded block b) read = IsA-decoded block (encoded block b) read is in
+    let a : IsEncoding block (encoded block b) read = IsEncoding-decoded block (encoded block b) read is in
     let short_read = short_table read a.fits in
     let short : length (encoded block b) < 2 ^ 32 = subst (λ (bytes : List ℕ). length bytes < 2 ^ 32) (sym a.encoding) short_read in
     let same : parts (fields_of read) ≡ parts (fields_of b) =
@@ -74,7 +74,7 @@ parent_size b fits =
 pub same_parent : (b read : Block) → length b.header.parent_hash ≡ 32 → decoded block (encoded block b) ≡ Some read
     → read.header.parent_hash ≡ b.header.parent_hash
 same_parent b read size is =
-    let a : IsA block (encoded block b) read = IsA-decoded block (encoded block b) read is in
+    let a : IsEncoding block (encoded block b) read = IsEncoding-decoded block (encoded block b) read is in
     sym (parent_in read.header (parent_size read a.fits))
     ∙ ap (λ (bytes : List ℕ). take 32 (drop 32 bytes)) (same_header_bytes b read is)
     ∙ parent_in b.header size

@@ -26,19 +26,19 @@ abbrev pub IsPinnedSimulation : simulations.Simulation → Type 0
 IsPinnedSimulation (Make seed count) = Unit {0}
 IsPinnedSimulation (Soak seed count) = HashesDiffer seed count
 
-abbrev pub IsPinned : Option Command → Type 0
-IsPinned None = Unit {0}
-IsPinned (Some Init) = Unit {0}
-IsPinned (Some (Import watched)) = Unit {0}
-IsPinned (Some (Migrate epoch)) = Unit {0}
-IsPinned (Some (Query query)) = Unit {0}
-IsPinned (Some (Question question)) = Unit {0}
-IsPinned (Some (Standalone command)) = Unit {0}
-IsPinned (Some (Simulation simulation)) = IsPinnedSimulation simulation
+abbrev pub HasPinnedReport : Option Command → Type 0
+HasPinnedReport None = Unit {0}
+HasPinnedReport (Some Init) = Unit {0}
+HasPinnedReport (Some (Import watched)) = Unit {0}
+HasPinnedReport (Some (Migrate epoch)) = Unit {0}
+HasPinnedReport (Some (Query query)) = Unit {0}
+HasPinnedReport (Some (Question question)) = Unit {0}
+HasPinnedReport (Some (Standalone command)) = Unit {0}
+HasPinnedReport (Some (Simulation simulation)) = IsPinnedSimulation simulation
 
 -- what such words ask for, an input and a store have at most one report
 abbrev pub OneReport : Type 0
-OneReport = (command : Option Command) (input : List ℕ) (store : Store) (one other : Report) → IsPinned command
+OneReport = (command : Option Command) (input : List ℕ) (store : Store) (one other : Report) → HasPinnedReport command
     → IsReport command input store one → IsReport command input store other → one ≡ other
 
 -- and it has a status of the command

@@ -2,7 +2,7 @@
 use Rattle.std.specs.Prelude.{◌≡◌, ◌⊎◌, ℕ, ◌^◌, ◌<◌, ◌≤◌, List, [], ◌∷◌, ◌++◌, map, length, Option, Some, None, if◌then◌else◌}
 use Rattle.std.specs.List.{concat, list_any}
 use Rattle.std.specs.Option.{option_map}
-use Rattle.chain_defs.specs.Shape.{decoded, IsA}
+use Rattle.chain_defs.specs.Shape.{decoded, IsEncoding}
 use Rattle.chain_defs.specs.Schema.{block, Block, cellbase_witness, CellbaseWitness}
 use Rattle.chain_defs.specs.Fold.{verdicts}
 use Rattle.chain_defs.specs.Tip.{tip}
@@ -260,7 +260,7 @@ file_limit Unjson = 2 ^ 24
 
 -- a text is read as a block that these bytes encode
 abbrev pub IsBlockOf : List ℕ → List ℕ → Type 0
-IsBlockOf text encoding = (v : Block) × IsA block encoding v × IsReadAs blocks.block text v
+IsBlockOf text encoding = (v : Block) × IsEncoding block encoding v × IsReadAs blocks.block text v
 
 -- The report of a file within the limit. It is a relation, as the code of a text and the block of a text are. Of a file there is at most one.
 abbrev pub IsAnswerToFile : files.Standalone → List ℕ → Report → Type 0

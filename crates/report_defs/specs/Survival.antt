@@ -124,21 +124,21 @@ IsRefused (Some status) = IsOneOf refusals status
 
 -- What a run may leave of the edition of what was kept: it is as before, or `migrate` gave it the one that was asked for; where that is done, it did,
 -- and where it was refused, it did not.
-abbrev pub IsUnder : Option Command → Option Status → Chain → Chain → Type 0
-IsUnder None status before under = under ≡ before
-IsUnder (Some Init) status before under = under ≡ before
-IsUnder (Some (Import watched)) status before under = under ≡ before
-IsUnder (Some (Migrate epoch)) status before under = ((status ≡ Some Done → ⊥) × (under ≡ before)) ⊎ ((IsRefused status → ⊥) × (under ≡ migrated epoch before))
-IsUnder (Some (Query query)) status before under = under ≡ before
-IsUnder (Some (Question question)) status before under = under ≡ before
-IsUnder (Some (Standalone command)) status before under = under ≡ before
-IsUnder (Some (Simulation simulation)) status before under = under ≡ before
+abbrev pub IsUnderEdition : Option Command → Option Status → Chain → Chain → Type 0
+IsUnderEdition None status before under = under ≡ before
+IsUnderEdition (Some Init) status before under = under ≡ before
+IsUnderEdition (Some (Import watched)) status before under = under ≡ before
+IsUnderEdition (Some (Migrate epoch)) status before under = ((status ≡ Some Done → ⊥) × (under ≡ before)) ⊎ ((IsRefused status → ⊥) × (under ≡ migrated epoch before))
+IsUnderEdition (Some (Query query)) status before under = under ≡ before
+IsUnderEdition (Some (Question question)) status before under = under ≡ before
+IsUnderEdition (Some (Standalone command)) status before under = under ≡ before
+IsUnderEdition (Some (Simulation simulation)) status before under = under ≡ before
 
 -- What a run may leave of what was kept before it: it gave it an edition, or added what joined of a prefix of its items, and a query or a question that
 -- is done answered over what was kept.
 pub record IsKeptAfter (before : Chain) (run : Run) (kept : Chain) : Type 0 where
   pub under : Chain
-  pub edition : IsUnder run.command run.status before under
+  pub edition : IsUnderEdition run.command run.status before under
   pub count : ℕ
   pub prefix : IsKeptPrefix (watched_of run.command) before (items_of run.command run.given) run.taken count
   pub added : kept ≡ chain_over under (take count (items_of run.command run.given))

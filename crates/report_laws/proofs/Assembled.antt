@@ -6,7 +6,7 @@ use Rattle.std.proofs.lemmas.Bool.Decides.{eqb_tells}
 use Rattle.std.proofs.lemmas.Option.{slice_get_within}
 use Rattle.outside.specs.Image.{Image}
 use Rattle.chain_defs.specs.Shape.{encoded, decoded}
-use Rattle.chain_defs.proofs.ShapeLaws.{IsA-decoded}
+use Rattle.chain_defs.proofs.ShapeLaws.{IsEncoding-decoded}
 use Rattle.chain_defs.specs.Schema as schema
 use Rattle.chain_defs.specs.Schema.{Block, CellbaseWitness, cellbase_witness}
 use Rattle.chain_defs.specs.First.{first_failing}
@@ -97,7 +97,7 @@ module _ (what_joined : StandsForWhatJoined) (breaks_few : BreaksFew) (unbroken_
         → Tells (report_with_witness chain found items)
     by-witness first None items is = inr (record { rule = 17; breakable_by = refl; last = ([], refl) })
     by-witness first (Some witness) items is =
-        by-broken witness items (assembled chain witness items).broken (IsA-decoded cellbase_witness first witness is).fits refl
+        by-broken witness items (assembled chain witness items).broken (IsEncoding-decoded cellbase_witness first witness is).fits refl
 
     by-items : (items : List (List ℕ)) → Judged (report_of_assembly chain items).status → Tells (report_of_assembly chain items)
     by-items [] (inl is) = absurd (cc)

@@ -11,7 +11,7 @@ use Rattle.chain_defs.specs.Molecule as molecule
 use Rattle.chain_defs.specs.Shape.{Encoding, are_bytes, encoded, decoded, parts, all_fit, table, u32, u64, bytes, dynvec, fixvec, option}
 use Rattle.chain_defs.specs.Schema.{Script, script, CellOutput, cell_output, cell_dep, cell_input, out_point, raw_transaction, Transaction, transaction, Header, header, UncleBlock, uncle_block, Block, block, CellbaseWitness, cellbase_witness, byte32, proposal_short_id}
 use Rattle.chain_defs.proofs.MoleculeLaws.{length-dynvec, length-fixvec}
-use Rattle.chain_defs.proofs.ShapeLaws.{IsA-decoded}
+use Rattle.chain_defs.proofs.ShapeLaws.{IsEncoding-decoded}
 use Rattle.chain_defs.specs.Root.{node, node_within}
 use Rattle.chain_defs.specs.Specification.{Specification, keeps_s2}
 use Rattle.chain_defs.specs.Dao.{DaoField, field_bytes}
@@ -70,7 +70,7 @@ named-fits t = by_witness (slice_get t.witnesses 0)
     by_decoded : (item : List ℕ) (found : Option CellbaseWitness) → decoded cellbase_witness item ≡ found
         → IfSome (option_map (λ (w : CellbaseWitness). w.lock) found) (λ lock. IsTrue (script.encoding lock).fits)
     by_decoded item None is = tt
-    by_decoded item (Some w) is = lock-in w (IsA-decoded cellbase_witness item w is).fits
+    by_decoded item (Some w) is = lock-in w (IsEncoding-decoded cellbase_witness item w is).fits
 
     by_witness : (found : Option (List ℕ))
         → IfSome (option_map (λ (w : CellbaseWitness). w.lock) (option_and_then (decoded cellbase_witness) found)) (λ lock. IsTrue (script.encoding lock).fits)

@@ -8,7 +8,7 @@ use Rattle.std.proofs.lemmas.Option.{same_Some}
 use Rattle.std.proofs.lemmas.List.Elements.{All-nil, All-cons, All-head, All-tail, All-push}
 use Rattle.chain_defs.specs.Shape.{decoded}
 use Rattle.chain_defs.specs.Schema.{Header, header, Block, block}
-use Rattle.chain_defs.proofs.ShapeLaws.{IsA-decoded}
+use Rattle.chain_defs.proofs.ShapeLaws.{IsEncoding-decoded}
 use Rattle.chain_defs.specs.First.{AllHold}
 use Rattle.chain_defs.proofs.FirstLemmas.{finds_none}
 use Rattle.chain_defs.specs.Specification.{specification_of, broken_specification_rule, keeps_s1, keeps_s2, keeps_s3, keeps_s4, keeps_s5, keeps_s6, keeps_s7}
@@ -26,7 +26,7 @@ abbrev HasEncoding : Block → Type 0
 HasEncoding b = IsTrue (block.encoding b).fits
 
 of-decoded : (item : List ℕ) (b : Block) → decoded block item ≡ Some b → HasEncoding b
-of-decoded item b is = (IsA-decoded block item b is).fits
+of-decoded item b is = (IsEncoding-decoded block item b is).fits
 
 of-test : (holds : Bool) (found : Option Block) (b : Block) → block_if holds found ≡ Some b → found ≡ Some b
 of-test true found b is = is

@@ -5,7 +5,7 @@ use Rattle.std.proofs.lemmas.Bool.{and_from, and_parts, eq-eqb}
 use Rattle.std.proofs.lemmas.List.{length-take-le}
 use Rattle.chain_defs.specs.Shape.{Shape, are_bytes, all_fit, decoded}
 use Rattle.chain_defs.specs.Schema.{Transaction, transaction, Block, CellbaseWitness, proposal_short_id}
-use Rattle.chain_defs.proofs.ShapeLaws.{IsA-decoded}
+use Rattle.chain_defs.proofs.ShapeLaws.{IsEncoding-decoded}
 use Rattle.chain_defs.specs.First.{first_failing}
 use Rattle.chain_defs.specs.Specification.{Specification}
 use Rattle.chain_defs.specs.Hashes.{transaction_hash, proposal_id}
@@ -64,7 +64,7 @@ shape-next spec on first so_far item are = by_step spec on so_far item (AreOfSha
     commits t is unbroken = record {
       later = are.later ++ t ∷ [];
       transactions_are = ap (λ (ts : List Transaction). ts ++ t ∷ []) are.transactions_are;
-      later_fit = fit-push transaction are.later t are.later_fit (IsA-decoded transaction item t is).fits;
+      later_fit = fit-push transaction are.later t are.later_fit (IsEncoding-decoded transaction item t is).fits;
       ids_fit = are.ids_fit;
     }
 

@@ -1,7 +1,7 @@
 -- An input has at most one report.
 use Rattle.std.proofs.Common.{◌≡◌, ◌⊎◌, inl, inr, ℕ, ◌<◌, ◌≤◌, List, length, refl, sym, ap, ◌∙◌, arith}
 use Rattle.std.specs.Prelude.{Option, Some, None}
-use Rattle.chain_defs.specs.Shape.{encoded, IsA}
+use Rattle.chain_defs.specs.Shape.{encoded, IsEncoding}
 use Rattle.chain_defs.specs.Schema as schema
 use Rattle.machine_defs.specs.Assembly.{lines_of}
 use Rattle.machine_defs.specs.File.{elf_file}

@@ -155,7 +155,7 @@ impl Rule {
             Rule::Inputs => "its inputs are live, and no cell is spent twice",
             Rule::CellDeps => "each of its cell deps is there (\"Deps\")",
             Rule::HeaderDeps =>
-                "each header dep is the hash of an ancestor, genesis among them, from which the span `maturity` is over (*own*)",
+                "each header dep is the hash of an ancestor, genesis among them; under the first edition one from which the span `maturity` is over (*own*)",
             Rule::Maturity =>
                 "from the block of each input and resolved dep that a cellbase made, but for the genesis, the span `maturity` is over",
             Rule::Since => "each since is valid and met",

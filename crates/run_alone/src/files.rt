@@ -4,7 +4,7 @@ ghost use Rattle.outside.specs.Causes.{CountsFault};
 ghost use Rattle.report_defs.specs.Report.{IsAnswerToFile, IsReportOfFile, file_limit, report_without_lines};
 ghost use Rattle.report_defs.specs.Status.{IsOneOf};
 ghost use Rattle.report_defs.specs.Promise.{MatchesReport, ReadsFileInOrder, standalone_statuses};
-ghost use Rattle.run_text.specs.Items.{Gave};
+ghost use Rattle.run_text.specs.Items.{SourceGave};
 ghost use Rattle.run_text.specs.Output.{Transfers};
 ghost use Rattle.run_alone.specs.Standalone.{IsFile, IsUnread};
 ghost use Rattle.run_text.specs.Words.{IsWithinBudget};
@@ -53,7 +53,7 @@ fn limit_of(command: Standalone) -> usize
 /// Reads a file: all of the input, or of one that is too long a byte more than the limit.
 fn read_file<S: Source>(alloc: Global, input: &mut S, limit: usize) -> Result<Vec<u8>, Status>
     requires { limit ≤ 2 ^ 24 }
-    ensures file { Gave (S.left input.old) (S.left input.new)
+    ensures file { SourceGave (S.left input.old) (S.left input.new)
         (λ given. MatchResult result (λ file. IsFile limit (S.left input.new) file.items given) (λ status. IsUnread limit status given)) }
     ensures faults { CountsFault (S.faults input.old) (S.faults input.new) (result ≡ Err Status.InputFault) }
 {

@@ -12,9 +12,9 @@ use Rattle.store_defs.specs.Store.{Keeps, store_of, StandsFor, IsSound}
 use Rattle.report_defs.specs.Items.{Split, split_of}
 use Rattle.report_defs.specs.Report.{item_limit, input_limit, import_limits}
 use Rattle.report_defs.specs.Survival.{NoneJoins}
-use Rattle.run_text.specs.Items.{Gave, IsPartial, IsItemAt}
+use Rattle.run_text.specs.Items.{SourceGave, IsPartial, IsItemAt}
 use Rattle.run_text.proofs.Reading.{few_partial}
-use Rattle.node_store.specs.Node.{NodeValue, IsSoundNode, IsSoundOn}
+use Rattle.node_store.specs.Node.{NodeValue, IsSoundNode, IsSoundWhereTold}
 use Rattle.node_store.specs.OpeningSteps.{moves_to_open}
 use Rattle.node_store.specs.Steps.{moves_for, steps_over}
 use Rattle.run_import.specs.Import.{AreGiven}
@@ -34,7 +34,7 @@ module _ (watched : Option (List ℕ)) (chain : Chain) (offset : ℕ) (left_old 
     (whole : Whole watched chain offset left_old left taken_old taken now refused were_sound are_sound was_on is_on leaves steps_old steps_now) where
   -- What has P of the items, where no whole one stands after them.
   pub part_also : (P : List (List ℕ) → Type 0) → P whole.items → (given : List ℕ) → Gives left left_new given
-      → IsPartial item_limit (Some input_limit) offset given → Gave left_old left_new (λ given. P (split_of import_limits given).items)
+      → IsPartial item_limit (Some input_limit) offset given → SourceGave left_old left_new (λ given. P (split_of import_limits given).items)
   part_also P has given gives partial = (
     concat whole.items ++ given,
     gives_more left_old left left_new (concat whole.items) given whole.gives gives,
@@ -48,7 +48,7 @@ module _ (watched : Option (List ℕ)) (chain : Chain) (offset : ℕ) (left_old 
 
   -- where an item stands after them
   pub item_also : (P : List (List ℕ) → Type 0) (item given : List ℕ) → IsItemAt item_limit (Some input_limit) offset item given → Gives left left_new given
-      → P (whole.items ++ item ∷ []) → Gave left_old left_new (λ given. P (split_of import_limits given).items)
+      → P (whole.items ++ item ∷ []) → SourceGave left_old left_new (λ given. P (split_of import_limits given).items)
   item_also P item given at gives has = (
     concat whole.items ++ item,
     gives_more left_old left left_new (concat whole.items) item whole.gives (subst (Gives left left_new) at.same gives),
@@ -64,7 +64,7 @@ module _ (watched : Option (List ℕ)) (chain : Chain) (offset : ℕ) (left_old 
   pub stop_also : (P : List (List ℕ) → Type 0) → P whole.items → (given : List ℕ) → Gives left left_new given
       → P (whole.items ++ given ∷ [])
       → IsPartial item_limit (Some input_limit) offset given ⊎ IsItemAt item_limit (Some input_limit) offset given given
-      → Gave left_old left_new (λ given. P (split_of import_limits given).items)
+      → SourceGave left_old left_new (λ given. P (split_of import_limits given).items)
   stop_also P has given gives more (inl partial) = part_also P has given gives partial
   stop_also P has given gives more (inr item) = item_also P given given item gives more
 
@@ -80,20 +80,20 @@ module _ (watched : Option (List ℕ)) (chain : Chain) (offset : ℕ) (left_old 
 
   -- what stands after them holds no whole item
   pub counted_to_part : (given : List ℕ) → Gives left left_new given → IsPartial item_limit (Some input_limit) offset given
-      → Gave left_old left_new (λ given. were_sound → steps_now ≤ steps_old + steps_over chain (split_of import_limits given).items)
+      → SourceGave left_old left_new (λ given. were_sound → steps_now ≤ steps_old + steps_over chain (split_of import_limits given).items)
   counted_to_part given gives partial = part_also (λ xs. were_sound → steps_now ≤ steps_old + steps_over chain xs) whole.steps given gives partial
 
   -- an item stands after them
   pub counted_to_item : (steps_new : ℕ) (item given : List ℕ) → IsItemAt item_limit (Some input_limit) offset item given → Gives left left_new given
       → steps_new ≤ steps_now + moves_for now item
-      → Gave left_old left_new (λ given. were_sound → steps_new ≤ steps_old + steps_over chain (split_of import_limits given).items)
+      → SourceGave left_old left_new (λ given. were_sound → steps_new ≤ steps_old + steps_over chain (split_of import_limits given).items)
   counted_to_item steps_new item given at gives most =
       item_also (λ xs. were_sound → steps_new ≤ steps_old + steps_over chain xs) item given at gives (steps_more steps_new item most)
 
   -- the reading was stopped
   pub counted_to_stop : (given : List ℕ) → Gives left left_new given
       → IsPartial item_limit (Some input_limit) offset given ⊎ IsItemAt item_limit (Some input_limit) offset given given
-      → Gave left_old left_new (λ given. were_sound → steps_now ≤ steps_old + steps_over chain (split_of import_limits given).items)
+      → SourceGave left_old left_new (λ given. were_sound → steps_now ≤ steps_old + steps_over chain (split_of import_limits given).items)
   counted_to_stop given gives =
       stop_also (λ xs. were_sound → steps_now ≤ steps_old + steps_over chain xs) whole.steps given gives (steps_more steps_now given (omega arith))
 
@@ -113,7 +113,7 @@ stays_there chain now items item is stays = ap (λ (k : Chain). joins (verdict_o
 -- the chain that was opened is the one that the disk read as, and the node is sound
 pub opened_over : (before after : Option Image) (opened : NodeValue) (chain : Chain) (now : Image)
     → IfSome before (λ image. store_of image ≡ Keeps opened.chain) → IsKnownAsBefore before after → (IsSound now → IsSoundNode opened) → before ≡ Some now → StandsFor chain now
-    → (opened.chain ≡ chain) × IsSoundOn opened after
+    → (opened.chain ≡ chain) × IsSoundWhereTold opened after
 opened_over before after opened chain now kept as_before sound told stands = (
   same_chain opened.chain chain (sym (if_told before (λ image. store_of image ≡ Keeps opened.chain) now kept told) ∙ store_of_stands chain now stands),
   opened_sound opened before after now as_before sound told (chain, stands),
@@ -124,7 +124,7 @@ none_over opened chain items same none = subst (λ (k : Chain). NoneJoins k item
 
 pub counted_over : (before after : Option Image) (opened : NodeValue) (chain : Chain) (now : Image) (items : List (List ℕ)) (steps_old steps_now steps_new : ℕ)
     → IfSome before (λ image. store_of image ≡ Keeps opened.chain) → IsKnownAsBefore before after → (IsSound now → IsSoundNode opened) → before ≡ Some now → StandsFor chain now
-    → steps_now ≤ steps_old + moves_to_open now → (IsSoundOn opened after → steps_new ≤ steps_now + steps_over opened.chain items)
+    → steps_now ≤ steps_old + moves_to_open now → (IsSoundWhereTold opened after → steps_new ≤ steps_now + steps_over opened.chain items)
     → steps_new ≤ steps_old + moves_to_open now + steps_over chain items
 counted_over before after opened chain now items steps_old steps_now steps_new kept as_before sound told stands most counts =
     let over = opened_over before after opened chain now kept as_before sound told stands in

@@ -26,7 +26,7 @@ use Rattle.report_defs.specs.Survival.{Each}
 use Rattle.run_text.specs.Items.{IsPartial, IsItemAt, EndsAt, IsReadingStop, IsNext}
 use Rattle.run_text.specs.declared.next.Next.{Next}
 use Rattle.run_text.proofs.Reading.{few_partial}
-use Rattle.node_store.specs.Node.{NodeValue, IsOn}
+use Rattle.node_store.specs.Node.{NodeValue, StandsOnDisk}
 use Rattle.node_store.specs.Steps.{moves_for, steps_over}
 use Rattle.run_text.specs.Output.{Transfers, IsPartOf, IsWritten, IsWritingStop, text_over}
 use Rattle.run_import.specs.Import.{AreImported, IsAnswered, IsCutShort, KeepsSome, item_stops}
@@ -106,7 +106,7 @@ keeps_either chain items item image (inl old) = keeps_more chain items item imag
 keeps_either chain items item image (inr new) = keeps_all chain (items ++ item ∷ []) image new
 
 -- each image of a disk that a node is on
-pub on_stands : (node : NodeValue) (chain : Chain) (reads : Option Image) (images : Image → Type 0) → node.chain ≡ chain → IsOn node reads images
+pub on_stands : (node : NodeValue) (chain : Chain) (reads : Option Image) (images : Image → Type 0) → node.chain ≡ chain → StandsOnDisk node reads images
     → (image : Image) → images image → StandsFor chain image
 on_stands node chain reads images is on image left =
     subst (λ (k : Chain). StandsFor k image) is (subst (λ (i : Image). StandsFor node.chain i) (sym (on.image.one image left)) on.image.stands)
@@ -134,7 +134,7 @@ module _ {D : Type 0} (images : D → Image → Type 0) (moment : D → ℕ) (le
 
   -- before the first item
   pub leaves_none : ((disk : D) (image : Image) → left_since disk (moment disk) image → images disk image) → (disk : D) (node : NodeValue) (reads : Option Image)
-      → IsOn node reads (images disk) → LeavesOnly moment left_since disk disk (KeepsSome node.chain [])
+      → StandsOnDisk node reads (images disk) → LeavesOnly moment left_since disk disk (KeepsSome node.chain [])
   leaves_none only_now disk node reads on =
       started moment left_since disk (KeepsSome node.chain [])
       (λ image left. keeps_all node.chain [] image (on_stands node node.chain reads (images disk) refl on image (only_now disk image left)))

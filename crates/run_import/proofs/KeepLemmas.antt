@@ -13,7 +13,7 @@ use Rattle.verdict_defs.specs.Chain.{Chain, chain_after, verdict_over}
 use Rattle.report_defs.specs.Text.{line}
 use Rattle.report_defs.specs.Report.{balance_over, line_over}
 use Rattle.node_store.specs.Import.{IsImported, LeavesEither}
-use Rattle.node_store.specs.Node.{NodeValue, IsOf, IsItsOwn, IsSoundNode, IsSoundOn, IsOnlyImage, IsOn, LeavesAll, IsSettledAfter}
+use Rattle.node_store.specs.Node.{NodeValue, IsOwnDisk, IsOwnDiskWhereTold, IsSoundNode, IsSoundWhereTold, IsOnlyImage, StandsOnDisk, LeavesAll, IsSettledAfter}
 use Rattle.run_text.proofs.StoreLemmas.{if_told}
 use Rattle.run_store.proofs.DiskLemmas.{sound_after}
 use Rattle.run_store.proofs.LookLemmas.{leaves_looked}
@@ -110,15 +110,15 @@ module _ {D C : Type 0} (content_of : D → C) (reads_as : D → Option Image) (
             let only = only-still node.chain (reads_as mid) (reads_as new) (images mid) (images new) as_before.reads as_before.images here.image in
             record {
               image = subst (λ (chain : Chain). IsOnlyImage chain (reads_as new) (images new)) (sym same) only;
-              of = if_told (reads_as new) (λ _. IsOf next (reads_as new) (images new)) only.now left.own only.told;
+              of = if_told (reads_as new) (λ _. IsOwnDisk next (reads_as new) (images new)) only.now left.own only.told;
               sound = sound-still node next left.node here.sound;
             };
         watching = λ watched sound. subst (λ (chain : Chain). IsWatching watched chain.blocks later) (sym same) (watches watched sound);
       }
 
 -- the node is sound after it
-pub sound-there : (before mid : NodeValue) (reads_old reads_mid : Option Image) → IsKnownAsBefore reads_old reads_mid → (IsSoundOn before reads_old → IsSoundNode mid)
-    → IsSoundOn before reads_old → IsSoundOn mid reads_mid
+pub sound-there : (before mid : NodeValue) (reads_old reads_mid : Option Image) → IsKnownAsBefore reads_old reads_mid → (IsSoundWhereTold before reads_old → IsSoundNode mid)
+    → IsSoundWhereTold before reads_old → IsSoundWhereTold mid reads_mid
 sound-there before mid reads_old reads_mid told sound is = sound_after mid reads_old reads_mid is.told told (sound is)
 
 -- ---- The line of an item that was kept

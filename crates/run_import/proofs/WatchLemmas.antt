@@ -16,14 +16,14 @@ use Rattle.cell_defs.specs.ByLock.{of_lock, cells_by_lock, IsByLock}
 use Rattle.cell_defs.specs.Row.{Row, live_row}
 use Rattle.cell_defs.proofs.ByLockLaws.{lists-by-lock}
 use Rattle.cell_state.proofs.RowLemmas.{live_row-prefix}
-use Rattle.cell_index.specs.Index.{IndexValue, StandsFor}
+use Rattle.cell_index.specs.Index.{IndexValue, IndexesBranch}
 use Rattle.cell_index.specs.Follow.{CanBeFollowed}
 use Rattle.verdict_defs.specs.Chain.{Chain}
 use Rattle.report_defs.specs.Queries.{cells_on, total_of}
 use Rattle.report_defs.specs.Report.{balance_over}
 use Rattle.verdict_defs.specs.Verdict.{joins, verdict, kept_after}
 use Rattle.store_defs.specs.Store.{AreJoined}
-use Rattle.rewards.specs.Reading.{ComesTo}
+use Rattle.rewards.specs.Reading.{YieldsUndamaged}
 use Rattle.node_store.specs.Kept.{KeptValue, kept_of, AreKept}
 use Rattle.node_store.proofs.WayLaws.{joined-can-be-taken-back}
 use Rattle.run_import.specs.declared.watching.Watch.{Watch}
@@ -39,21 +39,21 @@ way-there spec stored entries index kept whole are from to joined place parent i
     place parent it found named
 
 -- what is not stopped by damage comes to what it is, where it ends well
-pub comes-to : {T : Type 0} (P : T → Type 0) (result : Result T ReadStop) → IfOk result P → ((damage : Damage) → result ≡ Err (Damaged damage) → ⊥) → ComesTo P result
+pub comes-to : {T : Type 0} (P : T → Type 0) (result : Result T ReadStop) → IfOk result P → ((damage : Damage) → result ≡ Err (Damaged damage) → ⊥) → YieldsUndamaged P result
 comes-to P (Ok value) has none = has
 comes-to P (Err DiskFault) has none = tt
 comes-to P (Err NoMemory) has none = tt
 comes-to P (Err (Damaged damage)) has none = absurd (none damage refl)
 
 -- and to what follows from that
-pub comes-then : {T : Type 0} (P Q : T → Type 0) (result : Result T ReadStop) → ((value : T) → P value → Q value) → ComesTo P result → ComesTo Q result
+pub comes-then : {T : Type 0} (P Q : T → Type 0) (result : Result T ReadStop) → ((value : T) → P value → Q value) → YieldsUndamaged P result → YieldsUndamaged Q result
 comes-then P Q (Ok value) more has = more value has
 comes-then P Q (Err stop) more has = has
 
 -- ---- Blocks more
 
 -- an index stands for a branch still where blocks came behind
-pub stands-more : (kept more : List Block) (place : ℕ) (index : IndexValue) → place < length kept → StandsFor kept place index → StandsFor (kept ++ more) place index
+pub stands-more : (kept more : List Block) (place : ℕ) (index : IndexValue) → place < length kept → IndexesBranch kept place index → IndexesBranch (kept ++ more) place index
 stands-more kept more place index below stands lock o = stands lock o ∙ sym (ap (of_lock lock) (live_row-prefix kept more place o below))
 
 -- the blocks after an item are those before it, and perhaps more
@@ -90,14 +90,14 @@ watching-none (Some lock) kept from place watch is none (w, some, own, stands) =
 
 -- what an index says of its lock is the balance
 pub balance-is : (watched : Option (List ℕ)) (chain : Chain) (watch : Option Watch) (w : Watch) (total : ℕ × ℕ) → watch ≡ Some w
-    → ((place : ℕ) (list : List (OutPoint × Row)) → StandsFor chain.blocks place w.index → IsByLock chain.blocks place w.lock list → total ≡ total_of list)
+    → ((place : ℕ) (list : List (OutPoint × Row)) → IndexesBranch chain.blocks place w.index → IsByLock chain.blocks place w.lock list → total ≡ total_of list)
     → IsWatching watched chain.blocks watch → Some total ≡ balance_over watched chain
 balance-is None chain watch w total some says watching = let none : watch ≡ None = watching.at in absurd (cc)
 balance-is (Some lock) chain watch w total some says watching =
     let at = watching.at in
     let same : at.0 ≡ w = same_Some at.0 w (sym at.1 ∙ some) in
     let own : w.lock ≡ lock = sym (ap (λ (it : Watch). it.lock) same) ∙ at.2 in
-    let stands : StandsFor chain.blocks watching.tip w.index = subst (λ (it : Watch). StandsFor chain.blocks watching.tip it.index) same at.3 in
+    let stands : IndexesBranch chain.blocks watching.tip w.index = subst (λ (it : Watch). IndexesBranch chain.blocks watching.tip it.index) same at.3 in
     let list = cells_by_lock chain.blocks watching.tip lock in
     let by : IsByLock chain.blocks watching.tip w.lock list =
     subst (λ (l : List ℕ). IsByLock chain.blocks watching.tip l list) (sym own) ((lists-by-lock chain.blocks watching.tip lock list).1 refl) in

@@ -15,13 +15,13 @@ ghost use Rattle.report_defs.specs.Text.{line};
 ghost use Rattle.report_defs.specs.Promise.{import_statuses};
 ghost use Rattle.report_defs.specs.Survival.{NoneJoins, AreOfSome, GoesOn, KeepsRecords};
 ghost use Rattle.report_defs.specs.declared.command.Command.TheVariants.{Import};
-ghost use Rattle.run_text.specs.Items.{Gave, IsNext};
+ghost use Rattle.run_text.specs.Items.{SourceGave, IsNext};
 ghost use Rattle.node_store.specs.Import.{LeavesEither};
-ghost use Rattle.node_store.specs.Node.{IsItsOwn, IsSoundOn, IsOn, IsSettledAfter};
+ghost use Rattle.node_store.specs.Node.{IsOwnDiskWhereTold, IsSoundWhereTold, StandsOnDisk, IsSettledAfter};
 ghost use Rattle.node_store.specs.OpeningSteps.{moves_to_open};
 ghost use Rattle.node_store.specs.Steps.{moves_for, steps_over};
-ghost use Rattle.run_text.specs.Output.{Took, Transfers};
-ghost use Rattle.run_text.specs.Store.{Delivers, opening_stops};
+ghost use Rattle.run_text.specs.Output.{SinkTook, Transfers};
+ghost use Rattle.run_text.specs.Store.{DeliversCommand, opening_stops};
 ghost use Rattle.run_import.specs.Import.{IsAnswered, AreImported, item_stops};
 ghost use Rattle.report_defs.specs.Report.{line_over};
 ghost use Rattle.run_import.specs.Watching.{IsSoundWatching, IsFollowed};
@@ -55,7 +55,7 @@ struct Ended {
 /// Reads the next item, which stands at this offset.
 fn next_block<S: Source>(alloc: Global, input: &mut S, offset: u64) -> Result<Next, Status>
     requires { offset ≤ reports.input_limit }
-    ensures next { Gave (S.left input.old) (S.left input.new) (IsNext reports.item_limit (Some reports.input_limit) offset (S.left input.new) result) }
+    ensures next { SourceGave (S.left input.old) (S.left input.new) (IsNext reports.item_limit (Some reports.input_limit) offset (S.left input.new) result) }
     ensures faults { CountsFault (S.faults input.old) (S.faults input.new) (result ≡ Err Status.InputFault) }
 {
     next_item(alloc, input, ITEM_LIMIT, Some(INPUT_LIMIT), offset)
@@ -68,7 +68,7 @@ fn write_line<K: Sink>(
     verdict: &Verdict,
     balance: Option<(u64, u128)>,
 ) -> Result<(), Status>
-    ensures written { Took (K.taken out.old) (K.taken out.new) (IsAnswered (line verdict.now balance) result) }
+    ensures written { SinkTook (K.taken out.old) (K.taken out.new) (IsAnswered (line verdict.now balance) result) }
     ensures status { (status : Status) → result ≡ Err status → IsOneOf (Status.SinkFault ∷ Status.NoMemory ∷ []) status }
     ensures faults { CountsFault (K.faults out.old) (K.faults out.new) (result ≡ Err Status.SinkFault) }
 {
@@ -88,15 +88,15 @@ fn keep_item<D: Disk, L: Ledger>(
     steps: &mut Steps<L>,
 ) -> Result<(Node, Option<Watch>, Verdict), Status>
     requires size { length item.now < 2 ^ 31 }
-    requires own { IsItsOwn node (D.reads_as disk.old) (D.images disk.old) }
+    requires own { IsOwnDiskWhereTold node (D.reads_as disk.old) (D.images disk.old) }
     ensures imported { IfOk result (λ answer. IsFollowed node answer.0 watch answer.1 item.now answer.2 (D.reads_as disk.old) (D.reads_as disk.new) (D.images disk.old) (D.images disk.new)) }
-    ensures left { LeavesEither D.reads_as D.images D.moment D.left_since disk.old disk.new (IsSoundOn node (D.reads_as disk.old)) node item.now }
+    ensures left { LeavesEither D.reads_as D.images D.moment D.left_since disk.old disk.new (IsSoundWhereTold node (D.reads_as disk.old)) node item.now }
     ensures status { (status : Status) → result ≡ Err status → IsOneOf opening_stops status }
     ensures sound { (watched : Option (List ℕ)) → IsSoundWatching watched node watch (D.reads_as disk.old) → result ≡ Err Status.NotAStore → ⊥ }
     ensures told { IsKnownAsBefore (D.reads_as disk.old) (D.reads_as disk.new) }
     ensures settled { (records : List Record) → IsSettled node.place records (D.reads_as disk.old) (D.images disk.old)
         → IfOk result (λ answer. IsSettledAfter records item.now answer.2 answer.0.place (D.reads_as disk.new) (D.images disk.new)) }
-    ensures still { IsSoundOn node (D.reads_as disk.old) → joins (verdict_over node.chain item.now) ≡ false → D.content_of disk.new ≡ D.content_of disk.old }
+    ensures still { IsSoundWhereTold node (D.reads_as disk.old) → joins (verdict_over node.chain item.now) ≡ false → D.content_of disk.new ≡ D.content_of disk.old }
     ensures cause { CountsFault (D.faults disk.old) (D.faults disk.new) (result ≡ Err Status.DiskFault) }
     ensures most { steps.new ≤ steps.old + moves_for node.chain item.now }
 {
@@ -131,16 +131,16 @@ fn import_item<K: Sink, D: Disk, L: Ledger>(
     steps: &mut Steps<L>,
 ) -> Result<(Node, Option<Watch>, Verdict), Status>
     requires size { length item.now < 2 ^ 31 }
-    requires own { IsItsOwn node (D.reads_as disk.old) (D.images disk.old) }
+    requires own { IsOwnDiskWhereTold node (D.reads_as disk.old) (D.images disk.old) }
     ensures imported { IfOk result (λ answer. IsFollowed node answer.0 watch answer.1 item.now answer.2 (D.reads_as disk.old) (D.reads_as disk.new) (D.images disk.old) (D.images disk.new)) }
-    ensures left { LeavesEither D.reads_as D.images D.moment D.left_since disk.old disk.new (IsSoundOn node (D.reads_as disk.old)) node item.now }
-    ensures written { Took (K.taken out.old) (K.taken out.new) (λ taken. (watched : Option (List ℕ)) → IsSoundWatching watched node watch (D.reads_as disk.old)
+    ensures left { LeavesEither D.reads_as D.images D.moment D.left_since disk.old disk.new (IsSoundWhereTold node (D.reads_as disk.old)) node item.now }
+    ensures written { SinkTook (K.taken out.old) (K.taken out.new) (λ taken. (watched : Option (List ℕ)) → IsSoundWatching watched node watch (D.reads_as disk.old)
         → IsAnswered (line_over watched node.chain item.now) result taken) }
     ensures status { (status : Status) → result ≡ Err status → IsOneOf item_stops status }
     ensures told { IsKnownAsBefore (D.reads_as disk.old) (D.reads_as disk.new) }
     ensures settled { (records : List Record) → IsSettled node.place records (D.reads_as disk.old) (D.images disk.old)
         → IfOk result (λ answer. IsSettledAfter records item.now answer.2 answer.0.place (D.reads_as disk.new) (D.images disk.new)) }
-    ensures still { IsSoundOn node (D.reads_as disk.old) → joins (verdict_over node.chain item.now) ≡ false → D.content_of disk.new ≡ D.content_of disk.old }
+    ensures still { IsSoundWhereTold node (D.reads_as disk.old) → joins (verdict_over node.chain item.now) ≡ false → D.content_of disk.new ≡ D.content_of disk.old }
     ensures out_faults { CountsFault (K.faults out.old) (K.faults out.new) (result ≡ Err Status.SinkFault) }
     ensures disk_faults { CountsFault (D.faults disk.old) (D.faults disk.new) (result ≡ Err Status.DiskFault) }
     ensures most { steps.new ≤ steps.old + moves_for node.chain item.now }
@@ -169,21 +169,21 @@ fn import_items<S: Source, K: Sink, D: Disk, L: Ledger>(
     watched: Option<[u8; 32]>,
     steps: &mut Steps<L>,
 ) -> Result<Ended, Status>
-    requires own { IsItsOwn opened (D.reads_as disk.old) (D.images disk.old) }
+    requires own { IsOwnDiskWhereTold opened (D.reads_as disk.old) (D.images disk.old) }
     ensures imported { Transfers (S.left input.old) (S.left input.new) (K.taken out.old) (K.taken out.new)
-        (λ given taken. IsSoundOn opened (D.reads_as disk.old) → AreImported watched opened.chain (S.left input.new) result (IsOn opened (D.reads_as disk.old) (D.images disk.old))
+        (λ given taken. IsSoundWhereTold opened (D.reads_as disk.old) → AreImported watched opened.chain (S.left input.new) result (StandsOnDisk opened (D.reads_as disk.old) (D.images disk.old))
         (D.images disk.new) (LeavesOnly D.moment D.left_since disk.old disk.new) given taken) }
     ensures told { IsKnownAsBefore (D.reads_as disk.old) (D.reads_as disk.new) }
     ensures status { (status : Status) → result ≡ Err status → IsOneOf (Status.InputFault ∷ item_stops) status }
     ensures input_faults { CountsFault (S.faults input.old) (S.faults input.new) (result ≡ Err Status.InputFault) }
     ensures out_faults { CountsFault (K.faults out.old) (K.faults out.new) (result ≡ Err Status.SinkFault) }
     ensures disk_faults { CountsFault (D.faults disk.old) (D.faults disk.new) (result ≡ Err Status.DiskFault) }
-    ensures steps { Gave (S.left input.old) (S.left input.new) (λ given. IsSoundOn opened (D.reads_as disk.old)
+    ensures steps { SourceGave (S.left input.old) (S.left input.new) (λ given. IsSoundWhereTold opened (D.reads_as disk.old)
         → steps.new ≤ steps.old + steps_over opened.chain (split_of reports.import_limits given).items) }
-    ensures records { Gave (S.left input.old) (S.left input.new) (λ given. (records : List Record)
+    ensures records { SourceGave (S.left input.old) (S.left input.new) (λ given. (records : List Record)
         → IsSettled opened.place records (D.reads_as disk.old) (D.images disk.old)
         → LeavesOnly D.moment D.left_since disk.old disk.new (λ image. GoesOn (AreOfSome (split_of reports.import_limits given).items) records image.log)) }
-    ensures still { Gave (S.left input.old) (S.left input.new) (λ given. IsSoundOn opened (D.reads_as disk.old)
+    ensures still { SourceGave (S.left input.old) (S.left input.new) (λ given. IsSoundWhereTold opened (D.reads_as disk.old)
         → NoneJoins opened.chain (split_of reports.import_limits given).items → D.content_of disk.new ≡ D.content_of disk.old) }
 {
     let mut watch = match watch_of(alloc, &opened, watched) {
@@ -253,7 +253,7 @@ pub fn import<S: Source, K: Sink, D: Disk, L: Ledger>(
     steps: &mut Steps<L>,
 ) -> Status
     ensures import { Transfers (S.left input.old) (S.left input.new) (K.taken out.old) (K.taken out.new)
-        (λ given taken. Delivers (Import watched) (D.reads_as disk.old) (D.images disk.old) (D.images disk.new) (D.left_since disk.new (D.moment disk.old))
+        (λ given taken. DeliversCommand (Import watched) (D.reads_as disk.old) (D.images disk.old) (D.images disk.new) (D.left_since disk.new (D.moment disk.old))
         (S.left input.new) given taken result) }
     ensures status { IsOneOf import_statuses result }
     ensures told { IsKnownAsBefore (D.reads_as disk.old) (D.reads_as disk.new) }
@@ -262,11 +262,11 @@ pub fn import<S: Source, K: Sink, D: Disk, L: Ledger>(
     ensures input_faults { CountsFault (S.faults input.old) (S.faults input.new) (result ≡ Status.InputFault) }
     ensures out_faults { CountsFault (K.faults out.old) (K.faults out.new) (result ≡ Status.SinkFault) }
     ensures disk_faults { CountsFault (D.faults disk.old) (D.faults disk.new) (result ≡ Status.DiskFault) }
-    ensures steps { Gave (S.left input.old) (S.left input.new) (λ given. (now : Image) (chain : Chain) → D.reads_as disk.old ≡ Some now → StandsFor chain now
+    ensures steps { SourceGave (S.left input.old) (S.left input.new) (λ given. (now : Image) (chain : Chain) → D.reads_as disk.old ≡ Some now → StandsFor chain now
         → steps.new ≤ steps.old + moves_to_open now + steps_over chain (split_of reports.import_limits given).items) }
-    ensures records { Gave (S.left input.old) (S.left input.new) (λ given. (now : Image) (chain : Chain) → D.reads_as disk.old ≡ Some now → store_of now ≡ Keeps chain
+    ensures records { SourceGave (S.left input.old) (S.left input.new) (λ given. (now : Image) (chain : Chain) → D.reads_as disk.old ≡ Some now → store_of now ≡ Keeps chain
         → KeepsRecords (AreOfSome (split_of reports.import_limits given).items) now (D.images disk.old) (D.images disk.new) (D.left_since disk.new (D.moment disk.old))) }
-    ensures still { Gave (S.left input.old) (S.left input.new) (λ given. (now : Image) (chain : Chain) → D.reads_as disk.old ≡ Some now → StandsFor chain now
+    ensures still { SourceGave (S.left input.old) (S.left input.new) (λ given. (now : Image) (chain : Chain) → D.reads_as disk.old ≡ Some now → StandsFor chain now
         → slice_index now.log (end_of_log now.log) ≢ 1 → NoneJoins chain (split_of reports.import_limits given).items
         → IsOnlyRead D.reads_as D.images D.moment D.left_since disk.old disk.new) }
 {

@@ -4,11 +4,11 @@ ghost use Rattle.chain_defs.specs.Schema.{Block};
 ghost use Rattle.chain_tree.specs.Reading.{HasRead, stop_of};
 ghost use Rattle.cell_state.specs.State.{rows};
 ghost use Rattle.cell_index.specs.Index as indexes;
-ghost use Rattle.rewards.specs.Reading.{ComesTo};
+ghost use Rattle.rewards.specs.Reading.{YieldsUndamaged};
 ghost use Rattle.store_defs.specs.Store.{AreJoined};
 ghost use Rattle.verdict_defs.specs.Chain.{Chain};
-ghost use Rattle.node_store.specs.Kept.{AreOfTip, HoldsJoined};
-ghost use Rattle.node_store.specs.Node.{IsItsOwn, IsReadBy, IsSoundOn, HasOnlyRead, LeavesAll};
+ghost use Rattle.node_store.specs.Kept.{AreRowsOfTip, HoldsJoined};
+ghost use Rattle.node_store.specs.Node.{IsOwnDiskWhereTold, LogHoldsKept, IsSoundWhereTold, HasOnlyRead, LeavesAll};
 ghost use Rattle.report_defs.specs.Report.{balance_over};
 ghost use Rattle.run_import.specs.Watching.{IsWatchAt, IsWatching, StandsForTip};
 
@@ -31,7 +31,7 @@ pub fn watch_of(
     node: &Node,
     watched: Option<[u8; 32]>,
 ) -> Result<Option<Watch>, NoMemory>
-    ensures { AreOfTip node.now.chain.blocks (rows node.now.cells) → IfOk result (IsWatching watched node.now.chain.blocks) }
+    ensures { AreRowsOfTip node.now.chain.blocks (rows node.now.cells) → IfOk result (IsWatching watched node.now.chain.blocks) }
 {
     // (there is a tip)
     let _tip = node.tree().tip();
@@ -63,8 +63,8 @@ fn moved<B: Blocks>(
     requires from { from < length kept.now.chain.blocks }
     requires counts { B.count blocks.old ≡ length kept.now.chain.blocks }
     ensures read { HasRead B.told B.count B.loans_of B.faults B.damages blocks.old blocks.new (stop_of result) }
-    ensures followed { HoldsJoined kept.now (B.told blocks.old) → indexes.StandsFor kept.now.chain.blocks from index
-        → ComesTo (StandsForTip kept.now.chain.blocks) result }
+    ensures followed { HoldsJoined kept.now (B.told blocks.old) → indexes.IndexesBranch kept.now.chain.blocks from index
+        → YieldsUndamaged (StandsForTip kept.now.chain.blocks) result }
 {
     index.follow(alloc, &kept.tree, blocks, from, kept.tree.tip())
 }
@@ -79,10 +79,10 @@ fn moved_on_disk<D: Disk>(
     from: u32,
 ) -> Result<Index, ReadStop>
     requires from { from < length kept.now.chain.blocks }
-    requires own { IfSome (D.reads_as disk.old) (IsReadBy kept.now cache.old.held) }
+    requires own { IfSome (D.reads_as disk.old) (LogHoldsKept kept.now cache.old.held) }
     ensures looked { HasOnlyRead D.content_of D.reads_as D.faults disk.old disk.new kept.now cache.old cache.new (stop_of result) }
-    ensures followed { IsSome (D.reads_as disk.old) → AreJoined kept.now.chain kept.now.exts → indexes.StandsFor kept.now.chain.blocks from index
-        → ComesTo (StandsForTip kept.now.chain.blocks) result }
+    ensures followed { IsSome (D.reads_as disk.old) → AreJoined kept.now.chain kept.now.exts → indexes.IndexesBranch kept.now.chain.blocks from index
+        → YieldsUndamaged (StandsForTip kept.now.chain.blocks) result }
 {
     let mut store = Store::new(alloc, disk, &kept.tree, cache);
     moved(alloc, kept, &mut store, index, from)
@@ -97,10 +97,10 @@ fn moved_on_node<D: Disk>(
     from: u32,
 ) -> Result<Index, ReadStop>
     requires from { from < length node.old.chain.blocks }
-    requires own { IsItsOwn node.old (D.reads_as disk.old) (D.images disk.old) }
+    requires own { IsOwnDiskWhereTold node.old (D.reads_as disk.old) (D.images disk.old) }
     ensures left { LeavesAll D.content_of D.reads_as D.images D.faults disk.old disk.new node.old node.new (stop_of result) }
-    ensures followed { IsSoundOn node.old (D.reads_as disk.old) → indexes.StandsFor node.old.chain.blocks from index
-        → ComesTo (StandsForTip node.old.chain.blocks) result }
+    ensures followed { IsSoundWhereTold node.old (D.reads_as disk.old) → indexes.IndexesBranch node.old.chain.blocks from index
+        → YieldsUndamaged (StandsForTip node.old.chain.blocks) result }
 {
     moved_on_disk(alloc, disk, &mut node.cache, &node.kept, index, from)
 }
@@ -114,10 +114,10 @@ pub fn follow<D: Disk>(
     from: u32,
 ) -> Result<Option<Watch>, ReadStop>
     requires from { from < length node.old.chain.blocks }
-    requires own { IsItsOwn node.old (D.reads_as disk.old) (D.images disk.old) }
+    requires own { IsOwnDiskWhereTold node.old (D.reads_as disk.old) (D.images disk.old) }
     ensures left { LeavesAll D.content_of D.reads_as D.images D.faults disk.old disk.new node.old node.new (stop_of result) }
-    ensures followed { (watched : Option (List ℕ)) → IsSoundOn node.old (D.reads_as disk.old) → IsWatchAt watched node.old.chain.blocks from watch
-        → ComesTo (IsWatching watched node.old.chain.blocks) result }
+    ensures followed { (watched : Option (List ℕ)) → IsSoundWhereTold node.old (D.reads_as disk.old) → IsWatchAt watched node.old.chain.blocks from watch
+        → YieldsUndamaged (IsWatching watched node.old.chain.blocks) result }
 {
     // (there is a tip)
     let _tip = node.tree().tip();

@@ -24,7 +24,7 @@ use Rattle.run_text.specs.declared.whole.Whole.{Whole}
 use Rattle.run_text.specs.declared.whole.Whole.TheVariants.{Items}
 use Rattle.run_text.proofs.FurtherLemmas.{items_no_further}
 use Rattle.run_text.proofs.WholeLemmas.{few_items}
-use Rattle.run_text.specs.Store.{Delivers}
+use Rattle.run_text.specs.Store.{DeliversCommand}
 use Rattle.run_text.specs.Output.{IsStop, MatchesReportOf, IsSaid, IsWrittenAnswer, early_ends}
 use Rattle.run_init.specs.Init.{StandsAlone, new_statuses}
 use Rattle.run_text.proofs.Limits.{item_limit-is}
@@ -112,7 +112,7 @@ Tells left given taken status = MatchesReportOf full given left taken status × 
 unread : (left : Option (List ℕ)) (status : Status) → IsStop status → Tells left [] [] status
 unread left status stop = whole_stopped init_items 2 report_of_items (Done ∷ BadGenesis ∷ []) (tt, (tt, tt)) left [] status stop (items_no_further init_limits [] tt tt [] refl)
 
-pub fault_at_once : (reads : Option Image) (at_start at_exit meanwhile : Image → Type 0) (left : Option (List ℕ)) → Delivers Init reads at_start at_exit meanwhile left [] [] DiskFault
+pub fault_at_once : (reads : Option Image) (at_start at_exit meanwhile : Image → Type 0) (left : Option (List ℕ)) → DeliversCommand Init reads at_start at_exit meanwhile left [] [] DiskFault
 fault_at_once reads at_start at_exit meanwhile left = record {
   text = λ store found. stop_says (λ whole said. IsReport (Some Init) whole store said) [] left DiskFault tt;
   order = λ store found. record {
@@ -128,7 +128,7 @@ there_text left NotALog other = record { prefix = λ more is. inl refl; whole = 
 there_text left (Keeps chain) other = record { prefix = λ more is. inl refl; whole = λ more is told. (report_without_lines [] StoreThere, refl, refl, refl) }
 
 pub there_at_once : (reads : Option Image) (at_start at_exit meanwhile : Image → Type 0) (left : Option (List ℕ))
-    → ((store : Store) → IsStoreOf reads store → store ≡ NoLog → ⊥) → Delivers Init reads at_start at_exit meanwhile left [] [] StoreThere
+    → ((store : Store) → IsStoreOf reads store → store ≡ NoLog → ⊥) → DeliversCommand Init reads at_start at_exit meanwhile left [] [] StoreThere
 there_at_once reads at_start at_exit meanwhile left other = record {
   text = λ store found. there_text left store (other store found);
   order = λ store found. record {
@@ -149,7 +149,7 @@ there_at_once reads at_start at_exit meanwhile left other = record {
 delivers_new : (reads : Option Image) (at_start at_exit meanwhile : Image → Type 0) (left : Option (List ℕ)) (given taken : List ℕ) (status : Status)
     → ((store : Store) → IsStoreOf reads store → store ≡ NoLog) → Tells left given taken status
     → ((now : Image) → reads ≡ Some now → status ≡ Done → IsNewStore given at_exit)
-    → Delivers Init reads at_start at_exit meanwhile left given taken status
+    → DeliversCommand Init reads at_start at_exit meanwhile left given taken status
 delivers_new reads at_start at_exit meanwhile left given taken status none tells disk = record {
   text = λ store found. subst (λ (s : Store). MatchesReport (λ whole said. IsReport (Some Init) whole s said) given left taken status) (sym (none store found))
       (by_function full (λ whole said. IsReport (Some Init) whole NoLog said) given left taken status (λ whole. refl) tells.0);
@@ -160,7 +160,7 @@ delivers_new reads at_start at_exit meanwhile left given taken status none tells
 -- the reading was stopped
 pub init_unread : (reads : Option Image) (at_start at_exit meanwhile : Image → Type 0) (left : Option (List ℕ)) (given : List ℕ) (status : Status)
     → ((store : Store) → IsStoreOf reads store → store ≡ NoLog) → IsStop status → ReadsNoFurther init_limits given
-    → Delivers Init reads at_start at_exit meanwhile left given [] status
+    → DeliversCommand Init reads at_start at_exit meanwhile left given [] status
 init_unread reads at_start at_exit meanwhile left given status none stop no_further =
     delivers_new reads at_start at_exit meanwhile left given [] status none
     (whole_stopped init_items 2 report_of_items (Done ∷ BadGenesis ∷ []) (tt, (tt, tt)) left given status stop no_further)
@@ -169,7 +169,7 @@ init_unread reads at_start at_exit meanwhile left given status none stop no_furt
 -- the input ends early
 pub init_early : (reads : Option Image) (at_start at_exit meanwhile : Image → Type 0) (left : Option (List ℕ)) (given taken : List ℕ) (end : End) (offset : ℕ) (status : Status)
     → ((store : Store) → IsStoreOf reads store → store ≡ NoLog) → EndsEarly init_items 2 left end offset given → IsSaid (report_of_end offset end) status taken
-    → Delivers Init reads at_start at_exit meanwhile left given taken status
+    → DeliversCommand Init reads at_start at_exit meanwhile left given taken status
 init_early reads at_start at_exit meanwhile left given taken end offset status none here said =
     delivers_new reads at_start at_exit meanwhile left given taken status none
     (whole_early init_items 2 report_of_items (Done ∷ BadGenesis ∷ []) (tt, (tt, tt)) left given taken end offset status here said)
@@ -185,7 +185,7 @@ pub init_both : (reads : Option Image) (at_start at_exit meanwhile : Image → T
     → ((store : Store) → IsStoreOf reads store → store ≡ NoLog) → IsWhole init_items 2 left (specification ∷ genesis ∷ []) given
     → IsSaid (report_of_new specification genesis) status taken
     → ((now : Image) → reads ≡ Some now → status ≡ Done → StandsAlone specification genesis at_exit)
-    → Delivers Init reads at_start at_exit meanwhile left given taken status
+    → DeliversCommand Init reads at_start at_exit meanwhile left given taken status
 init_both reads at_start at_exit meanwhile left given taken specification genesis status none both said made =
     delivers_new reads at_start at_exit meanwhile left given taken status none
     (whole_judged init_items 2 report_of_items (Done ∷ BadGenesis ∷ []) (tt, (tt, tt)) left (specification ∷ genesis ∷ []) given taken status both said (rules_no_stop genesis _ _))

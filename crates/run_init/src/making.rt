@@ -9,8 +9,8 @@ ghost use Rattle.report_defs.specs.Status.{IsOneOf};
 ghost use Rattle.report_defs.specs.Promise.{init_statuses};
 ghost use Rattle.report_defs.specs.Survival.{as_before};
 ghost use Rattle.report_defs.specs.declared.command.Command.TheVariants.{Init as init_command};
-ghost use Rattle.run_text.specs.Output.{Took, Transfers, IsSaid};
-ghost use Rattle.run_text.specs.Store.{Delivers};
+ghost use Rattle.run_text.specs.Output.{SinkTook, Transfers, IsSaid};
+ghost use Rattle.run_text.specs.Store.{DeliversCommand};
 ghost use Rattle.run_init.specs.Init.{StandsAlone, new_statuses, text_of_stop};
 
 use crate::lines::{bad_genesis_line, bad_spec_line, genesis_line};
@@ -103,7 +103,7 @@ fn make_and_answer<K: Sink, D: Disk>(
 ) -> Status
     requires specification { length specification.now < 2 ^ 32 }
     requires genesis { length genesis.now < 2 ^ 32 }
-    ensures said { Took (K.taken out.old) (K.taken out.new) (IsSaid (reports.report_of_new specification.now genesis.now) result) }
+    ensures said { SinkTook (K.taken out.old) (K.taken out.new) (IsSaid (reports.report_of_new specification.now genesis.now) result) }
     ensures status { IsOneOf new_statuses result }
     ensures made { IsSome (D.reads_as disk.old) → result ≡ Status.Done → StandsAlone specification.now genesis.now (D.images disk.new) }
     ensures unmade { result ≡ Status.BadGenesis → disk.new ≡ disk.old }
@@ -125,7 +125,7 @@ pub fn init<S: Source, K: Sink, D: Disk>(
     disk: &mut D,
 ) -> Status
     ensures init { Transfers (S.left input.old) (S.left input.new) (K.taken out.old) (K.taken out.new)
-        (λ given taken. Delivers init_command (D.reads_as disk.old) (D.images disk.old) (D.images disk.new) (D.left_since disk.new (D.moment disk.old))
+        (λ given taken. DeliversCommand init_command (D.reads_as disk.old) (D.images disk.old) (D.images disk.new) (D.left_since disk.new (D.moment disk.old))
         (S.left input.new) given taken result) }
     ensures status { IsOneOf init_statuses result }
     ensures told { IsKnownAsBefore (D.reads_as disk.old) (D.reads_as disk.new) }

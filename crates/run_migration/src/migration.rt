@@ -14,10 +14,10 @@ ghost use Rattle.report_defs.specs.Status.{IsOneOf};
 ghost use Rattle.report_defs.specs.Promise.{migrate_statuses};
 ghost use Rattle.report_defs.specs.Survival.{GoesOn, IsOfEdition, KeepsRecords, MayAdd, refusals};
 ghost use Rattle.report_defs.specs.declared.command.Command.TheVariants as commands;
-ghost use Rattle.node_store.specs.Node.{IsItsOwn, IsSoundOn, IsOn};
+ghost use Rattle.node_store.specs.Node.{IsOwnDiskWhereTold, IsSoundWhereTold, StandsOnDisk};
 ghost use Rattle.node_store.specs.OpeningSteps.{moves_to_open};
-ghost use Rattle.run_text.specs.Output.{Took, IsSaid};
-ghost use Rattle.run_text.specs.Store.{Delivers};
+ghost use Rattle.run_text.specs.Output.{SinkTook, IsSaid};
+ghost use Rattle.run_text.specs.Store.{DeliversCommand};
 ghost use Rattle.run_migration.specs.Migration.{LeavesMoved, moving_statuses, outcomes, telling_statuses};
 
 use node_store::{Moved, Node};
@@ -74,7 +74,7 @@ fn status_of_writing(stop: WriteStop) -> Status
 
 /// Tells what became of an edition from this epoch on.
 fn tell<K: Sink>(alloc: Global, out: &mut K, epoch: u64, moved: Moved) -> Status
-    ensures said { Took (K.taken out.old) (K.taken out.new) (IsSaid (reports.report_of_moved epoch moved) result) }
+    ensures said { SinkTook (K.taken out.old) (K.taken out.new) (IsSaid (reports.report_of_moved epoch moved) result) }
     ensures one_of { IsOneOf telling_statuses result }
     ensures told { IsOneOf outcomes result → result ≡ (reports.report_of_moved epoch moved).status }
     ensures faults { CountsFault (K.faults out.old) (K.faults out.new) (result ≡ Status.SinkFault) }
@@ -93,11 +93,11 @@ fn move_and_answer<K: Sink, D: Disk>(
     node: Node,
     epoch: u64,
 ) -> Status
-    requires own { IsItsOwn node (D.reads_as disk.old) (D.images disk.old) }
-    ensures said { Took (K.taken out.old) (K.taken out.new) (IsSaid (reports.report_of_migration epoch node.chain) result) }
+    requires own { IsOwnDiskWhereTold node (D.reads_as disk.old) (D.images disk.old) }
+    ensures said { SinkTook (K.taken out.old) (K.taken out.new) (IsSaid (reports.report_of_migration epoch node.chain) result) }
     ensures one_of { IsOneOf moving_statuses result }
-    ensures moved { IsOn node (D.reads_as disk.old) (D.images disk.old) → LeavesMoved epoch node.chain result (D.images disk.new) }
-    ensures moments { IsOn node (D.reads_as disk.old) (D.images disk.old)
+    ensures moved { StandsOnDisk node (D.reads_as disk.old) (D.images disk.old) → LeavesMoved epoch node.chain result (D.images disk.new) }
+    ensures moments { StandsOnDisk node (D.reads_as disk.old) (D.images disk.old)
         → LeavesOnly D.moment D.left_since disk.old disk.new (λ image. StandsFor node.chain image ⊎ StandsFor (migrated epoch node.chain) image) }
     ensures keeps { (records : List Record) → IsSettled node.place records (D.reads_as disk.old) (D.images disk.old)
         → LeavesOnly D.moment D.left_since disk.old disk.new (λ image. GoesOn (IsOfEdition epoch node.chain) records image.log) }
@@ -123,8 +123,8 @@ pub fn migrate<K: Sink, D: Disk, L: Ledger>(
     epoch: u64,
     steps: &mut Steps<L>,
 ) -> Status
-    ensures migration { Took (K.taken out.old) (K.taken out.new) (λ taken. (left : Option (List ℕ))
-        → Delivers (commands.Migrate epoch) (D.reads_as disk.old) (D.images disk.old) (D.images disk.new) (D.left_since disk.new (D.moment disk.old)) left [] taken result) }
+    ensures migration { SinkTook (K.taken out.old) (K.taken out.new) (λ taken. (left : Option (List ℕ))
+        → DeliversCommand (commands.Migrate epoch) (D.reads_as disk.old) (D.images disk.old) (D.images disk.new) (D.left_since disk.new (D.moment disk.old)) left [] taken result) }
     ensures status { IsOneOf migrate_statuses result }
     ensures records { (now : Image) (chain : Chain) → D.reads_as disk.old ≡ Some now → store_of now ≡ Keeps chain
         → KeepsRecords (MayAdd (Some (commands.Migrate epoch)) chain []) now (D.images disk.old) (D.images disk.new) (D.left_since disk.new (D.moment disk.old)) }

@@ -14,7 +14,7 @@ use Rattle.verdict_defs.specs.Chain.{Chain, verdict_over}
 use Rattle.tx_pool.specs.declared.assembling.Assembled.{Assembled}
 use Rattle.verdict_defs.specs.declared.verdict.Verdict.TheVariants.{Joined}
 use Rattle.store_defs.specs.Store.{AreJoined}
-use Rattle.node_store.specs.Kept.{KeptValue, kept_of, AreKept, AreOfTip}
+use Rattle.node_store.specs.Kept.{KeptValue, kept_of, AreKept, AreRowsOfTip}
 use Rattle.node_core.proofs.OwnLemmas.{have-own-fees}
 use Rattle.node_core.proofs.DecidingLemmas.{stands-tip}
 
@@ -22,12 +22,12 @@ use Rattle.node_core.proofs.DecidingLemmas.{stands-tip}
 
 -- all that a block after the tip is judged over
 pub whole-at-tip : (spec : Specification) (stored : List Stored) (entries : List Entry) (index : UnclesValue) (state : StateValue) (kept : KeptValue) (place : ℕ)
-    → kept_of spec stored entries ≡ kept → AreKept stored entries index → AreJoined kept.chain kept.exts → AreOfTip kept.chain.blocks (rows state)
+    → kept_of spec stored entries ≡ kept → AreKept stored entries index → AreJoined kept.chain kept.exts → AreRowsOfTip kept.chain.blocks (rows state)
     → tip_place (blocks_of stored) ≡ Some place → place < length entries → StandsWhole spec stored entries place (rows state) index
 whole-at-tip spec stored entries index state kept place whole are joined live is below =
     let before : AreJoined (kept_of spec stored entries).chain (kept_of spec stored entries).exts = subst (λ (k : KeptValue). AreJoined k.chain k.exts) (sym whole) joined in
     record {
-      stands = stands-tip spec stored entries index (rows state) place are (subst (λ (k : KeptValue). AreOfTip k.chain.blocks (rows state)) (sym whole) live)
+      stands = stands-tip spec stored entries index (rows state) place are (subst (λ (k : KeptValue). AreRowsOfTip k.chain.blocks (rows state)) (sym whole) live)
           before.joined is below;
       uncles = are.uncles;
       fees = have-own-fees spec stored before are.counted;

@@ -6,7 +6,7 @@ use Rattle.std.proofs.lemmas.Bool.Decides.{leb_tells}
 use Rattle.std.proofs.lemmas.List.{length-map, length-drop, length-replicate, get_or-replicate}
 use Rattle.std.proofs.lemmas.List.Elements.{All-nil, All-cons, All-drop}
 use Rattle.std.proofs.lemmas.Option.{same_Some, slice_get-get_or, slice_get_past}
-use Rattle.chain_defs.specs.Shape.{IsA, encoded, decoded}
+use Rattle.chain_defs.specs.Shape.{IsEncoding, encoded, decoded}
 use Rattle.chain_defs.specs.Schema.{CellbaseWitness, cellbase_witness}
 use Rattle.verdict_defs.specs.Chain.{Chain}
 use Rattle.pool_defs.specs.Size.{most_items, most_bytes}
@@ -98,7 +98,7 @@ first-and-rest (a ∷ more) vector item some vector_is item_is =
 -- the witness in the first of them
 pub witness-fits : (vectors : List (Vec ℕ Global)) (vector : Vec ℕ Global) (item : List ℕ) (witness : CellbaseWitness)
     → AreItems (whole_limits (assembly_items item_limit)) 0 (map (λ (v : Vec ℕ Global). v.items) vectors)
-    → 1 ≤ length vectors → vector ≡ get_or vectors 0 vector → item ≡ vector.items → IsA cellbase_witness item witness
+    → 1 ≤ length vectors → vector ≡ get_or vectors 0 vector → item ≡ vector.items → IsEncoding cellbase_witness item witness
     → length (encoded cellbase_witness witness) ≤ most_bytes
 witness-fits vectors vector item witness all some vector_is item_is is =
     let short = all-within 0 vectors all 0 vector (omega (arith, some)) in

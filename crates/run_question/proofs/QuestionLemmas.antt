@@ -19,7 +19,7 @@ use Rattle.report_defs.specs.Items.{ReadsNoFurther}
 use Rattle.report_defs.specs.Report.{Report, text_of, question_items, question_limits, answer_to_question, report_of_end}
 use Rattle.run_text.specs.Whole.{IsWhole, EndsEarly}
 use Rattle.run_text.proofs.FurtherLemmas.{items_no_further}
-use Rattle.node_store.specs.Node.{NodeValue, IsSoundNode, IsSoundOn, IsOn}
+use Rattle.node_store.specs.Node.{NodeValue, IsSoundNode, IsSoundWhereTold, StandsOnDisk}
 use Rattle.run_question.specs.Question.{IsAnswerTo, full, AnswersQuestion, DeliversAnswer}
 use Rattle.run_text.specs.Output.{IsStop, IsSaid, IsWrittenAnswer}
 use Rattle.run_text.specs.declared.output.Answer.{Answer}
@@ -115,16 +115,16 @@ module _ {D : Type 0} (reads_as : D → Option Image) (images : D → Image → 
   module _ {C : Type 0} (content_of : D → C) (rests : (old new : D) → content_of new ≡ content_of old → IsAsBefore reads_as images moment left_since old new) where
     pub question_opened : (question : Question) (old mid new : D) (node : NodeValue) (left : Option (List ℕ)) (given taken : List ℕ) (status : Status)
         → IfSome (reads_as old) (λ now. store_of now ≡ Keeps node.chain)
-        → (((image : Image) → images old image → IsSound image) → IfSome (reads_as old) (λ _. IsOn node (reads_as mid) (images mid)))
+        → (((image : Image) → images old image → IsSound image) → IfSome (reads_as old) (λ _. StandsOnDisk node (reads_as mid) (images mid)))
         → ((now : Image) (chain : Chain) → reads_as old ≡ Some now → store_of now ≡ Keeps chain → ((image : Image) → images old image → IsSound image)
         → LeavesOnly moment left_since old mid (λ image. images old image ⊎ StandsFor chain image))
         → ((now : Image) → reads_as old ≡ Some now → IsSound now → IsSoundNode node)
         → IsKnownAsBefore (reads_as old) (reads_as mid)
         → content_of new ≡ content_of mid
-        → (IsSoundOn node (reads_as mid) → AnswersQuestion question node.chain given left taken status)
+        → (IsSoundWhereTold node (reads_as mid) → AnswersQuestion question node.chain given left taken status)
         → DeliversAnswer question (reads_as old) (images old) (images new) (left_since new (moment old)) left given taken status
     question_opened question old mid new node left given taken status kept on moments sound tells looked says = record {
-      delivers = delivers_over (IsSoundOn node (reads_as mid)) (commands.Question question) (reads_as old) node.chain (images old) (images new) (left_since new (moment old)) left given taken status (λ store found. found) kept
+      delivers = delivers_over (IsSoundWhereTold node (reads_as mid)) (commands.Question question) (reads_as old) node.chain (images old) (images new) (left_since new (moment old)) left given taken status (λ store found. found) kept
           (λ store found. found_sound node (reads_as old) (reads_as mid) store kept tells sound found)
           (full question node.chain) (λ whole. refl) (λ is. ((says is).text, (says is).order))
           (keeps_looked content_of reads_as images moment left_since rests counts_now old mid new node taken status kept on moments looked);

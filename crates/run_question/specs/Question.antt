@@ -12,7 +12,7 @@ use Rattle.report_defs.specs.Items.{split_of}
 use Rattle.report_defs.specs.Report.{Report, text_of, question_limits, answer_to_question, report_of_question}
 use Rattle.report_defs.specs.Promise.{AnswersInOrder}
 use Rattle.run_text.specs.Output.{MatchesReportOf}
-use Rattle.run_text.specs.Store.{Delivers}
+use Rattle.run_text.specs.Store.{DeliversCommand}
 
 -- what is said of items over a chain, and the status
 pub record IsAnswerTo (question : Question) (chain : Chain) (items : List (List ℕ)) (text : List ℕ) (status : Status) : Type 0 where
@@ -32,6 +32,6 @@ pub record AnswersQuestion (question : Question) (chain : Chain) (given : List �
 -- What a question delivers, and what it answered over a store that is sound: the report on what was given, also of a source that does not
 -- tell what is left.
 pub record DeliversAnswer (question : Question) (reads : Option Image) (at_start at_exit meanwhile : Image → Type 0) (left : Option (List ℕ)) (given taken : List ℕ) (status : Status) : Type 0 where
-  pub delivers : Delivers (commands.Question question) reads at_start at_exit meanwhile left given taken status
+  pub delivers : DeliversCommand (commands.Question question) reads at_start at_exit meanwhile left given taken status
   pub answers : (now : Image) (chain : Chain) → reads ≡ Some now → StandsFor chain now → IsOneOf (Done ∷ SomeRefused ∷ []) status
       → taken ≡ text_of (full question chain given)

@@ -13,7 +13,7 @@ ghost use Rattle.pool_defs.specs.Assembly.{assembled};
 ghost use Rattle.pool_defs.specs.Laws.{breakable};
 ghost use Rattle.pool_defs.specs.Size.{most_items, most_bytes};
 ghost use Rattle.tx_pool.specs.Assembling.{IsAssembled};
-ghost use Rattle.node_store.specs.Node.{IsItsOwn, IsSoundOn, LeavesAll};
+ghost use Rattle.node_store.specs.Node.{IsOwnDiskWhereTold, IsSoundWhereTold, LeavesAll};
 
 use crate::over_disk;
 use mol_schema::CellbaseWitnessView;
@@ -35,16 +35,16 @@ pub fn assemble<D: Disk>(
     requires items { length items.now ≤ most_items }
     requires bytes { All (λ item. length item.items ≤ most_bytes) items.now }
     requires witness { length (encoded schema.cellbase_witness witness.now) ≤ most_bytes }
-    requires own { IsItsOwn node.old (D.reads_as disk.old) (D.images disk.old) }
+    requires own { IsOwnDiskWhereTold node.old (D.reads_as disk.old) (D.images disk.old) }
     ensures left { LeavesAll D.content_of D.reads_as D.images D.faults disk.old disk.new node.old node.new (stop_of result) }
-    ensures assembled { IsSoundOn node.old (D.reads_as disk.old)
+    ensures assembled { IsSoundWhereTold node.old (D.reads_as disk.old)
         → IfOk result (IsAssembled (assembled node.old.chain witness.now (map (λ item. item.items) items.now))) }
     // One that breaks no rule joins where it is imported next, while there is room; one that breaks a rule breaks one of few.
-    ensures joins { IsSoundOn node.old (D.reads_as disk.old) → length node.old.chain.blocks < kept_limit
+    ensures joins { IsSoundWhereTold node.old (D.reads_as disk.old) → length node.old.chain.blocks < kept_limit
         → IfOk result (λ made. made.broken ≡ None → joins (verdict_over node.old.chain made.block.items) ≡ true) }
-    ensures breaks_few { IsSoundOn node.old (D.reads_as disk.old)
+    ensures breaks_few { IsSoundWhereTold node.old (D.reads_as disk.old)
         → IfOk result (λ made. (rule : ℕ) → made.broken ≡ Some rule → IsTrue (list_any (λ other. other == rule) breakable)) }
-    ensures undamaged { IsSoundOn node.old (D.reads_as disk.old) → (damage : Damage) → result ≡ Err (Damaged damage) → ⊥ }
+    ensures undamaged { IsSoundWhereTold node.old (D.reads_as disk.old) → (damage : Damage) → result ≡ Err (Damaged damage) → ⊥ }
 {
     over_disk::assemble(
         alloc,

@@ -7,7 +7,7 @@ ghost use Rattle.report_defs.specs.Items.{AreItems};
 ghost use Rattle.report_defs.specs.Report.{question_limits};
 ghost use Rattle.report_defs.specs.Status.{IsOneOf};
 ghost use Rattle.report_defs.specs.declared.command.Question.TheVariants as questions;
-ghost use Rattle.node_store.specs.Node.{IsItsOwn, IsSoundOn};
+ghost use Rattle.node_store.specs.Node.{IsOwnDiskWhereTold, IsSoundWhereTold};
 ghost use Rattle.run_text.specs.Store.{OnlyReads, opening_stops};
 ghost use Rattle.run_question.specs.Question.{IsAnswerTo};
 
@@ -109,13 +109,13 @@ pub fn assemble<D: Disk>(
 ) -> Result<Answer, Status>
     requires some { 1 ≤ length items.now }
     requires items { AreItems (question_limits questions.Assemble) 0 (map (λ item. item.items) items.now) }
-    requires own { IsItsOwn node.old (D.reads_as disk.old) (D.images disk.old) }
+    requires own { IsOwnDiskWhereTold node.old (D.reads_as disk.old) (D.images disk.old) }
     ensures disk { OnlyReads D.content_of D.faults disk.old disk.new (result ≡ Err Status.DiskFault) }
-    ensures answer { IsSoundOn node.old (D.reads_as disk.old)
+    ensures answer { IsSoundWhereTold node.old (D.reads_as disk.old)
         → IfOk result (λ answer. IsAnswerTo questions.Assemble node.old.chain (map (λ item. item.items) items.now) (string_bytes answer.text) answer.status) }
     ensures one_of { IfOk result (λ answer. IsOneOf (Status.Done ∷ Status.SomeRefused ∷ []) answer.status) }
     ensures stop { (status : Status) → result ≡ Err status → IsOneOf opening_stops status }
-    ensures sound { IsSoundOn node.old (D.reads_as disk.old) → result ≡ Err Status.NotAStore → ⊥ }
+    ensures sound { IsSoundWhereTold node.old (D.reads_as disk.old) → result ≡ Err Status.NotAStore → ⊥ }
 {
     let Some(witness) = CellbaseWitnessView::read(&items[0]) else {
         return unwitnessed(alloc);

@@ -14,7 +14,7 @@ ghost use Rattle.pool_defs.specs.Size.{most_items, most_bytes};
 ghost use Rattle.tx_pool.specs.Assembling.{IsAssembled};
 ghost use Rattle.cell_state.specs.State.{rows};
 ghost use Rattle.chain_tree.specs.Reading.{HasRead, stop_of};
-ghost use Rattle.node_store.specs.Kept.{HoldsJoined, AreOfTip};
+ghost use Rattle.node_store.specs.Kept.{HoldsJoined, AreRowsOfTip};
 
 use block_judge::Context;
 use cell_state::State;
@@ -39,13 +39,13 @@ pub(crate) fn assemble<B: Blocks>(
     requires witness { length (encoded schema.cellbase_witness witness.now) ≤ most_bytes }
     requires counts { B.count blocks.old ≡ length kept.now.chain.blocks }
     ensures read { HasRead B.told B.count B.loans_of B.faults B.damages blocks.old blocks.new (stop_of result) }
-    ensures assembled { HoldsJoined kept.now (B.told blocks.old) → AreOfTip kept.now.chain.blocks (rows state.now)
+    ensures assembled { HoldsJoined kept.now (B.told blocks.old) → AreRowsOfTip kept.now.chain.blocks (rows state.now)
         → IfOk result (IsAssembled (assembled kept.now.chain witness.now (map (λ item. item.items) items.now))) }
-    ensures joins { HoldsJoined kept.now (B.told blocks.old) → AreOfTip kept.now.chain.blocks (rows state.now) → length kept.now.chain.blocks < kept_limit
+    ensures joins { HoldsJoined kept.now (B.told blocks.old) → AreRowsOfTip kept.now.chain.blocks (rows state.now) → length kept.now.chain.blocks < kept_limit
         → IfOk result (λ made. made.broken ≡ None → joins (verdict_over kept.now.chain made.block.items) ≡ true) }
-    ensures breaks_few { HoldsJoined kept.now (B.told blocks.old) → AreOfTip kept.now.chain.blocks (rows state.now)
+    ensures breaks_few { HoldsJoined kept.now (B.told blocks.old) → AreRowsOfTip kept.now.chain.blocks (rows state.now)
         → IfOk result (λ made. (rule : ℕ) → made.broken ≡ Some rule → IsTrue (list_any (λ other. other == rule) breakable)) }
-    ensures undamaged { HoldsJoined kept.now (B.told blocks.old) → AreOfTip kept.now.chain.blocks (rows state.now)
+    ensures undamaged { HoldsJoined kept.now (B.told blocks.old) → AreRowsOfTip kept.now.chain.blocks (rows state.now)
         → (damage : Damage) → result ≡ Err (Damaged damage) → ⊥ }
 {
     let context = Context {

@@ -15,8 +15,8 @@ ghost use Rattle.pool_defs.specs.Laws.{breakable};
 ghost use Rattle.pool_defs.specs.Size.{most_items, most_bytes};
 ghost use Rattle.tx_pool.specs.Assembling.{IsAssembled};
 ghost use Rattle.store_defs.specs.Store.{AreJoined};
-ghost use Rattle.node_store.specs.Node.{IsReadBy, HasOnlyRead};
-ghost use Rattle.node_store.specs.Kept.{AreOfTip};
+ghost use Rattle.node_store.specs.Node.{LogHoldsKept, HasOnlyRead};
+ghost use Rattle.node_store.specs.Kept.{AreRowsOfTip};
 
 use crate::over_blocks;
 use cell_state::State;
@@ -39,16 +39,16 @@ pub(crate) fn assemble<D: Disk>(
     requires items { length items.now ≤ most_items }
     requires bytes { All (λ item. length item.items ≤ most_bytes) items.now }
     requires witness { length (encoded schema.cellbase_witness witness.now) ≤ most_bytes }
-    requires own { IfSome (D.reads_as disk.old) (IsReadBy kept.now cache.old.held) }
+    requires own { IfSome (D.reads_as disk.old) (LogHoldsKept kept.now cache.old.held) }
     ensures looked { HasOnlyRead D.content_of D.reads_as D.faults disk.old disk.new kept.now cache.old cache.new (stop_of result) }
-    ensures assembled { IsSome (D.reads_as disk.old) → AreJoined kept.now.chain kept.now.exts → AreOfTip kept.now.chain.blocks (rows state.now)
+    ensures assembled { IsSome (D.reads_as disk.old) → AreJoined kept.now.chain kept.now.exts → AreRowsOfTip kept.now.chain.blocks (rows state.now)
         → IfOk result (IsAssembled (assembled kept.now.chain witness.now (map (λ item. item.items) items.now))) }
-    ensures joins { IsSome (D.reads_as disk.old) → AreJoined kept.now.chain kept.now.exts → AreOfTip kept.now.chain.blocks (rows state.now)
+    ensures joins { IsSome (D.reads_as disk.old) → AreJoined kept.now.chain kept.now.exts → AreRowsOfTip kept.now.chain.blocks (rows state.now)
         → length kept.now.chain.blocks < kept_limit
         → IfOk result (λ made. made.broken ≡ None → joins (verdict_over kept.now.chain made.block.items) ≡ true) }
-    ensures breaks_few { IsSome (D.reads_as disk.old) → AreJoined kept.now.chain kept.now.exts → AreOfTip kept.now.chain.blocks (rows state.now)
+    ensures breaks_few { IsSome (D.reads_as disk.old) → AreJoined kept.now.chain kept.now.exts → AreRowsOfTip kept.now.chain.blocks (rows state.now)
         → IfOk result (λ made. (rule : ℕ) → made.broken ≡ Some rule → IsTrue (list_any (λ other. other == rule) breakable)) }
-    ensures undamaged { IsSome (D.reads_as disk.old) → AreJoined kept.now.chain kept.now.exts → AreOfTip kept.now.chain.blocks (rows state.now)
+    ensures undamaged { IsSome (D.reads_as disk.old) → AreJoined kept.now.chain kept.now.exts → AreRowsOfTip kept.now.chain.blocks (rows state.now)
         → (damage : a_damage) → result ≡ Err (Damaged damage) → ⊥ }
 {
     let mut store = Store::new(alloc, disk, &kept.tree, cache);

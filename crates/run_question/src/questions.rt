@@ -14,11 +14,11 @@ ghost use Rattle.report_defs.specs.Status.{IsOneOf};
 ghost use Rattle.report_defs.specs.Promise.{question_statuses};
 ghost use Rattle.report_defs.specs.Survival.{KeepsRecords, MayAdd};
 ghost use Rattle.report_defs.specs.declared.command.Command.TheVariants as commands;
-ghost use Rattle.run_text.specs.Items.{Gave};
+ghost use Rattle.run_text.specs.Items.{SourceGave};
 ghost use Rattle.run_text.specs.Whole.{IsReadWhole};
 ghost use Rattle.node_store.specs.OpeningSteps.{moves_to_open};
 ghost use Rattle.run_text.specs.Output.{Transfers};
-ghost use Rattle.node_store.specs.Node.{IsItsOwn, IsSoundOn};
+ghost use Rattle.node_store.specs.Node.{IsOwnDiskWhereTold, IsSoundWhereTold};
 ghost use Rattle.run_text.specs.Store.{OnlyReads, opening_stops};
 ghost use Rattle.run_question.specs.Question.{IsAnswerTo, AnswersQuestion, DeliversAnswer};
 
@@ -43,7 +43,7 @@ const MOST_ASSEMBLED: usize = 1001;
 
 /// Reads the items that a question is about, of which the first must be there.
 fn read_items<S: Source>(alloc: Global, input: &mut S, question: Question) -> Result<Whole, Status>
-    ensures read { Gave (S.left input.old) (S.left input.new) (IsReadWhole (reports.question_items question) 1 (S.left input.new) result) }
+    ensures read { SourceGave (S.left input.old) (S.left input.new) (IsReadWhole (reports.question_items question) 1 (S.left input.new) result) }
     ensures faults { CountsFault (S.faults input.old) (S.faults input.new) (result ≡ Err Status.InputFault) }
 {
     match question {
@@ -62,12 +62,12 @@ fn answer_to<D: Disk>(
 ) -> Result<Answer, Status>
     requires some { 1 ≤ length items.now }
     requires items { AreItems (reports.question_limits question) 0 (map (λ item. item.items) items.now) }
-    requires own { IsItsOwn node.old (D.reads_as disk.old) (D.images disk.old) }
+    requires own { IsOwnDiskWhereTold node.old (D.reads_as disk.old) (D.images disk.old) }
     ensures disk { OnlyReads D.content_of D.faults disk.old disk.new (result ≡ Err Status.DiskFault) }
-    ensures answer { IsSoundOn node.old (D.reads_as disk.old) → IfOk result (λ answer. IsAnswerTo question node.old.chain (map (λ item. item.items) items.now) (string_bytes answer.text) answer.status) }
+    ensures answer { IsSoundWhereTold node.old (D.reads_as disk.old) → IfOk result (λ answer. IsAnswerTo question node.old.chain (map (λ item. item.items) items.now) (string_bytes answer.text) answer.status) }
     ensures one_of { IfOk result (λ answer. IsOneOf (Status.Done ∷ Status.SomeRefused ∷ []) answer.status) }
     ensures stop { (status : Status) → result ≡ Err status → IsOneOf opening_stops status }
-    ensures sound { IsSoundOn node.old (D.reads_as disk.old) → result ≡ Err Status.NotAStore → ⊥ }
+    ensures sound { IsSoundWhereTold node.old (D.reads_as disk.old) → result ≡ Err Status.NotAStore → ⊥ }
 {
     match question {
         Question::Check => check(alloc, disk, node, &items[0]),
@@ -82,12 +82,12 @@ fn check<D: Disk>(
     node: &mut Node,
     item: &[u8],
 ) -> Result<Answer, Status>
-    requires own { IsItsOwn node.old (D.reads_as disk.old) (D.images disk.old) }
+    requires own { IsOwnDiskWhereTold node.old (D.reads_as disk.old) (D.images disk.old) }
     ensures disk { OnlyReads D.content_of D.faults disk.old disk.new (result ≡ Err Status.DiskFault) }
-    ensures answer { IsSoundOn node.old (D.reads_as disk.old) → IfOk result (λ answer. IsAnswerTo Question.Check node.old.chain (item.now ∷ []) (string_bytes answer.text) answer.status) }
+    ensures answer { IsSoundWhereTold node.old (D.reads_as disk.old) → IfOk result (λ answer. IsAnswerTo Question.Check node.old.chain (item.now ∷ []) (string_bytes answer.text) answer.status) }
     ensures one_of { IfOk result (λ answer. IsOneOf (Status.Done ∷ Status.SomeRefused ∷ []) answer.status) }
     ensures stop { (status : Status) → result ≡ Err status → IsOneOf opening_stops status }
-    ensures sound { IsSoundOn node.old (D.reads_as disk.old) → result ≡ Err Status.NotAStore → ⊥ }
+    ensures sound { IsSoundWhereTold node.old (D.reads_as disk.old) → result ≡ Err Status.NotAStore → ⊥ }
 {
     let tried = match judge_item(alloc, disk, node, item) {
         Ok(tried) => tried,
@@ -106,11 +106,11 @@ fn judge_item<D: Disk>(
     node: &mut Node,
     item: &[u8],
 ) -> Result<Trial, Status>
-    requires own { IsItsOwn node.old (D.reads_as disk.old) (D.images disk.old) }
+    requires own { IsOwnDiskWhereTold node.old (D.reads_as disk.old) (D.images disk.old) }
     ensures disk { OnlyReads D.content_of D.faults disk.old disk.new (result ≡ Err Status.DiskFault) }
-    ensures trial { IsSoundOn node.old (D.reads_as disk.old) → IfOk result (λ tried. tried ≡ trials.trial node.old.chain item.now) }
+    ensures trial { IsSoundWhereTold node.old (D.reads_as disk.old) → IfOk result (λ tried. tried ≡ trials.trial node.old.chain item.now) }
     ensures stop { (status : Status) → result ≡ Err status → IsOneOf opening_stops status }
-    ensures sound { IsSoundOn node.old (D.reads_as disk.old) → result ≡ Err Status.NotAStore → ⊥ }
+    ensures sound { IsSoundWhereTold node.old (D.reads_as disk.old) → result ≡ Err Status.NotAStore → ⊥ }
 {
     let Some(tx) = TxView::read(item) else {
         return Ok(Trial::Refused(1));
@@ -145,9 +145,9 @@ fn read_and_answer<S: Source, K: Sink, D: Disk>(
     node: &mut Node,
     question: Question,
 ) -> Status
-    requires own { IsItsOwn node.old (D.reads_as disk.old) (D.images disk.old) }
+    requires own { IsOwnDiskWhereTold node.old (D.reads_as disk.old) (D.images disk.old) }
     ensures answered { Transfers (S.left input.old) (S.left input.new) (K.taken out.old) (K.taken out.new)
-        (λ given taken. IsSoundOn node.old (D.reads_as disk.old) → AnswersQuestion question node.old.chain given (S.left input.new) taken result) }
+        (λ given taken. IsSoundWhereTold node.old (D.reads_as disk.old) → AnswersQuestion question node.old.chain given (S.left input.new) taken result) }
     ensures status { IsOneOf question_statuses result }
     ensures disk { OnlyReads D.content_of D.faults disk.old disk.new (result ≡ Status.DiskFault) }
     ensures input_faults { CountsFault (S.faults input.old) (S.faults input.new) (result ≡ Status.InputFault) }

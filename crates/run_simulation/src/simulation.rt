@@ -4,7 +4,7 @@ ghost use Rattle.outside.specs.Causes.{CountsFault};
 ghost use Rattle.report_defs.specs.Report.{IsAnswerToSimulation};
 ghost use Rattle.report_defs.specs.Status.{IsOneOf};
 ghost use Rattle.report_defs.specs.Promise.{simulation_statuses};
-ghost use Rattle.run_text.specs.Output.{Took};
+ghost use Rattle.run_text.specs.Output.{SinkTook};
 ghost use Rattle.run_simulation.specs.Simulation.{IsSimulationPrinted};
 ghost use Rattle.run_text.specs.Words.{IsWithinCount};
 
@@ -55,7 +55,7 @@ fn soak(alloc: Global, seed: u64, count: u32) -> Result<String, NoMemory>
 /// Puts a generated chain through a store in memory, and tells what is counted.
 pub fn simulate<K: Sink>(alloc: Global, out: &mut K, simulation: Simulation) -> Status
     requires { IsWithinCount simulation }
-    ensures text { Took (K.taken out.old) (K.taken out.new) (λ taken. (left : Option (List ℕ)) → IsSimulationPrinted simulation left taken result) }
+    ensures text { SinkTook (K.taken out.old) (K.taken out.new) (λ taken. (left : Option (List ℕ)) → IsSimulationPrinted simulation left taken result) }
     ensures status { IsOneOf simulation_statuses result }
     ensures faults { CountsFault (K.faults out.old) (K.faults out.new) (result ≡ Status.SinkFault) }
 {

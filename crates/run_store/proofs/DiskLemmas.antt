@@ -6,7 +6,7 @@ use Rattle.outside.specs.Disk.{IsAsBefore, IsOnlyRead, IsKnownAsBefore}
 use Rattle.outside.proofs.Moments.{leaves_also, leaves_then}
 use Rattle.store_defs.specs.Store.{Store, Keeps, store_of, IsSound}
 use Rattle.report_defs.specs.Promise.{IsSoundStoreOf}
-use Rattle.node_store.specs.Node.{NodeValue, IsSoundNode, IsSoundOn, IsOn}
+use Rattle.node_store.specs.Node.{NodeValue, IsSoundNode, IsSoundWhereTold, StandsOnDisk}
 use Rattle.run_text.proofs.StoreLemmas.{opened_store}
 
 -- ---- A node that is sound
@@ -19,22 +19,22 @@ told_some : (reads : Option Image) (now : Image) → reads ≡ Some now → IsSo
 told_some reads now told = ap is_some told
 
 -- a node is sound on a disk that tells as before
-pub sound_after : (node : NodeValue) (before after : Option Image) → IsSome before → IsKnownAsBefore before after → IsSoundNode node → IsSoundOn node after
+pub sound_after : (node : NodeValue) (before after : Option Image) → IsSome before → IsKnownAsBefore before after → IsSoundNode node → IsSoundWhereTold node after
 sound_after node before after told as_before sound = record { sound = sound; told = tells_too before after as_before told }
 
 -- and one that was opened
 pub opened_sound : (node : NodeValue) (before after : Option Image) (now : Image) → IsKnownAsBefore before after → (IsSound now → IsSoundNode node) → before ≡ Some now
-    → IsSound now → IsSoundOn node after
+    → IsSound now → IsSoundWhereTold node after
 opened_sound node before after now as_before sound told is = sound_after node before after (told_some before now told) as_before (sound is)
 
 -- of a sound store that a command finds
 pub found_sound : (node : NodeValue) (before after : Option Image) (store : Store) → IfSome before (λ now. store_of now ≡ Keeps node.chain) → IsKnownAsBefore before after
-    → ((now : Image) → before ≡ Some now → IsSound now → IsSoundNode node) → IsSoundStoreOf before store → IsSoundOn node after
+    → ((now : Image) → before ≡ Some now → IsSound now → IsSoundNode node) → IsSoundStoreOf before store → IsSoundWhereTold node after
 found_sound node before after store kept as_before sound found =
     opened_sound node before after found.0 as_before (sound found.0 found.1) found.1 (node.chain, found.3 node.chain (opened_store before node.chain store kept found))
 
 -- and one that is on its disk
-pub sound_on : (node : NodeValue) (reads : Option Image) (images : Image → Type 0) → IsOn node reads images → IsSoundOn node reads
+pub sound_on : (node : NodeValue) (reads : Option Image) (images : Image → Type 0) → StandsOnDisk node reads images → IsSoundWhereTold node reads
 sound_on node reads images on = record { sound = on.sound; told = told_some reads on.image.now on.image.told }
 
 -- ---- A disk that is as it was

@@ -14,7 +14,7 @@ use Rattle.report_defs.specs.declared.status.Status.{Status}
 use Rattle.report_defs.specs.declared.status.Status.TheVariants.{DiskFault, NoMemory, NotAStore}
 use Rattle.report_defs.specs.Status.{IsOneOf}
 use Rattle.report_defs.specs.Survival.{Each, KeepsStore}
-use Rattle.node_store.specs.Node.{NodeValue, IsOn, LeavesAll}
+use Rattle.node_store.specs.Node.{NodeValue, StandsOnDisk, LeavesAll}
 use Rattle.run_text.specs.Store.{OnlyReads, opening_stops}
 use Rattle.run_store.proofs.DiskLemmas.{only_read_then}
 use Rattle.run_text.proofs.Exits.{same_stop}
@@ -111,14 +111,14 @@ module _ {D C : Type 0} (content_of : D → C) (reads_as : D → Option Image) (
     only_read_looked old mid new only looked = only_read_then reads_as images moment left_since old mid new only (rests mid new looked)
 
     -- it stands for what was opened
-    stands_looked : (mid new : D) (node : NodeValue) → IsOn node (reads_as mid) (images mid) → content_of new ≡ content_of mid → Each (images new) (StandsFor node.chain)
+    stands_looked : (mid new : D) (node : NodeValue) → StandsOnDisk node (reads_as mid) (images mid) → content_of new ≡ content_of mid → Each (images new) (StandsFor node.chain)
     stands_looked mid new node on looked =
         λ image left. subst (StandsFor node.chain) (sym (on.image.one image (((rests mid new looked).images image).0 left))) on.image.stands
 
     -- and keeps it
     pub keeps_looked : (old mid new : D) (node : NodeValue) (taken : List ℕ) (status : Status)
         → IfSome (reads_as old) (λ now. store_of now ≡ Keeps node.chain)
-        → (((image : Image) → images old image → IsSound image) → IfSome (reads_as old) (λ _. IsOn node (reads_as mid) (images mid)))
+        → (((image : Image) → images old image → IsSound image) → IfSome (reads_as old) (λ _. StandsOnDisk node (reads_as mid) (images mid)))
         → ((now : Image) (chain : Chain) → reads_as old ≡ Some now → store_of now ≡ Keeps chain → ((image : Image) → images old image → IsSound image)
         → LeavesOnly moment left_since old mid (λ image. images old image ⊎ StandsFor chain image))
         → content_of new ≡ content_of mid
@@ -128,4 +128,4 @@ module _ {D C : Type 0} (content_of : D → C) (reads_as : D → Option Image) (
         keeps_opened None (reads_as old) node.chain [] (images old) (images new) (left_since new (moment old)) taken status kept
         (λ now told keeps sound. keeps_read images moment left_since counts_now old new node.chain taken status
         (leaves_looked old mid new (λ image. images old image ⊎ StandsFor node.chain image) (moments now node.chain told keeps sound) looked)
-        (stands_looked mid new node (if_told (reads_as old) (λ _. IsOn node (reads_as mid) (images mid)) now (on sound) told) looked))
+        (stands_looked mid new node (if_told (reads_as old) (λ _. StandsOnDisk node (reads_as mid) (images mid)) now (on sound) told) looked))

@@ -9,7 +9,7 @@ ghost use Rattle.disk_defs.specs.Log.{records_of};
 ghost use Rattle.disk_defs.specs.Rest.{IsSettled};
 ghost use Rattle.store_defs.specs.Store.{Keeps, store_of, StandsFor, IsSound};
 ghost use Rattle.report_defs.specs.Status.{IsOneOf};
-ghost use Rattle.node_store.specs.Node.{IsItsOwn, IsSoundNode, IsOn};
+ghost use Rattle.node_store.specs.Node.{IsOwnDiskWhereTold, IsSoundNode, StandsOnDisk};
 ghost use Rattle.node_store.specs.Opening.{LeavesStore};
 ghost use Rattle.node_store.specs.OpeningSteps.{moves_to_open};
 ghost use Rattle.run_text.specs.Store.{opening_stops};
@@ -58,11 +58,11 @@ pub fn open<D: Disk, L: Ledger>(
     ensures not_a_store { result ≡ Err Status.NotAStore → IfSome (D.reads_as disk.old) (λ now. IsSound now → ⊥) }
     ensures left { LeavesStore D.reads_as D.images D.moment D.left_since disk.old disk.new }
     ensures told { IsKnownAsBefore (D.reads_as disk.old) (D.reads_as disk.new) }
-    ensures own { IfOk result (λ node. IsItsOwn node (D.reads_as disk.new) (D.images disk.new)) }
+    ensures own { IfOk result (λ node. IsOwnDiskWhereTold node (D.reads_as disk.new) (D.images disk.new)) }
     ensures settled { IfOk result (λ node. IfSome (D.reads_as disk.old) (λ now.
         IsSettled node.place (records_of (drop 8 now.log)) (D.reads_as disk.new) (D.images disk.new))) }
     ensures on { ((image : Image) → D.images disk.old image → IsSound image)
-        → IfOk result (λ node. IfSome (D.reads_as disk.old) (λ _. IsOn node (D.reads_as disk.new) (D.images disk.new))) }
+        → IfOk result (λ node. IfSome (D.reads_as disk.old) (λ _. StandsOnDisk node (D.reads_as disk.new) (D.images disk.new))) }
     ensures sound { (now : Image) → D.reads_as disk.old ≡ Some now → IsSound now → IfOk result IsSoundNode }
     ensures moments { (now : Image) (chain : Chain) → D.reads_as disk.old ≡ Some now → store_of now ≡ Keeps chain → ((image : Image) → D.images disk.old image → IsSound image)
         → LeavesOnly D.moment D.left_since disk.old disk.new (λ image. D.images disk.old image ⊎ StandsFor chain image) }

@@ -17,7 +17,7 @@ use Rattle.report_defs.specs.Report.{Report, report_without_lines, IsReport}
 use Rattle.report_defs.specs.Promise.{MatchesReport, KeepsOrder, IsSoundStoreOf, Finds, FindsNoStore}
 use Rattle.report_defs.specs.Survival.{Each, KeepsStore, KeepsDisk}
 use Rattle.run_text.specs.Output.{IsStop, MatchesReportOf}
-use Rattle.run_text.specs.Store.{Delivers, opening_stops}
+use Rattle.run_text.specs.Store.{DeliversCommand, opening_stops}
 use Rattle.run_text.proofs.LineLemmas.{prefix_of_all, prefix_of_none}
 use Rattle.run_text.proofs.Statuses.{stop_not_reported, opening_reported, opening_stop}
 
@@ -78,7 +78,7 @@ pub delivers_over : (has_joined : Type 0) (command : Command) (reads : Option Im
     → (report : List ℕ → Report) → ((whole : List ℕ) → IsReport (Some command) whole (Keeps chain) (report whole))
     → (has_joined → MatchesReportOf report given left taken status × KeepsOrder (Some command) (Keeps chain) given left taken status)
     → ((now : Image) → reads ≡ Some now → KeepsDisk (Some command) now at_start at_exit meanwhile given taken status)
-    → Delivers command reads at_start at_exit meanwhile left given taken status
+    → DeliversCommand command reads at_start at_exit meanwhile left given taken status
 delivers_over has_joined command reads chain at_start at_exit meanwhile left given taken status sound kept joined report is says disk = record {
   text = λ store finds.
       let found = sound store finds in
@@ -98,7 +98,7 @@ pub delivers : (command : Command) (reads : Option Image) (chain : Chain) (at_st
     → (report : List ℕ → Report) → ((whole : List ℕ) → IsReport (Some command) whole (Keeps chain) (report whole))
     → (IsJoined chain → MatchesReportOf report given left taken status × KeepsOrder (Some command) (Keeps chain) given left taken status)
     → ((now : Image) → reads ≡ Some now → KeepsDisk (Some command) now at_start at_exit meanwhile given taken status)
-    → Delivers command reads at_start at_exit meanwhile left given taken status
+    → DeliversCommand command reads at_start at_exit meanwhile left given taken status
 delivers command reads chain at_start at_exit meanwhile left given taken status sound kept =
     delivers_over (IsJoined chain) command reads chain at_start at_exit meanwhile left given taken status sound kept (λ store found. opened_joined reads chain store kept found)
 
@@ -184,7 +184,7 @@ pub unopened : (command : Command) (reads : Option Image) (at_start at_exit mean
     → (FindsNoStore [] [] status → KeepsOrder (Some command) NotALog [] left [] status)
     → ((chain : Chain) → IsStop status → KeepsOrder (Some command) (Keeps chain) [] left [] status)
     → ((now : Image) → reads ≡ Some now → KeepsDisk (Some command) now at_start at_exit meanwhile [] [] status)
-    → Delivers command reads at_start at_exit meanwhile left [] [] status
+    → DeliversCommand command reads at_start at_exit meanwhile left [] [] status
 unopened command reads at_start at_exit meanwhile left status sound one none no_log not_a_log order_none order_not order_stop disk = record {
   text = λ store finds. text store (sound store finds);
   order = λ store finds. order store (sound store finds);

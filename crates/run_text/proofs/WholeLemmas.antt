@@ -22,7 +22,7 @@ use Rattle.run_text.proofs.FurtherLemmas.{items_no_further, partial_no_further, 
 -- ---- The items that were read
 
 -- The source gave these items, one for each of the first limits.
-pub record HasRead (limits : List ℕ) (left_old left_new : Option (List ℕ)) (items : List (List ℕ)) (offset : ℕ) : Type 0 where
+pub record HasReadItems (limits : List ℕ) (left_old left_new : Option (List ℕ)) (items : List (List ℕ)) (offset : ℕ) : Type 0 where
   pub gives : Gives left_old left_new (concat items)
   pub all : AreItems (whole_limits limits) 0 items
   pub place : offset ≡ length (concat items)
@@ -51,8 +51,8 @@ all_push limits items item limit all limit_is is =
 
 -- one item more
 pub has_read_more : (limits : List ℕ) (left_old left left_new : Option (List ℕ)) (items : List (List ℕ)) (item given : List ℕ) (offset limit : ℕ)
-    → HasRead limits left_old left items offset → slice_get limits (length items) ≡ Some limit → IsItemAt limit None offset item given → Gives left left_new given
-    → HasRead limits left_old left_new (items ++ item ∷ []) (offset + length item)
+    → HasReadItems limits left_old left items offset → slice_get limits (length items) ≡ Some limit → IsItemAt limit None offset item given → Gives left left_new given
+    → HasReadItems limits left_old left_new (items ++ item ∷ []) (offset + length item)
 has_read_more limits left_old left left_new items item given offset limit read limit_is at gives = record {
   gives = subst (Gives left_old left_new) (sym (concat_push items item))
       (gives_more left_old left left_new (concat items) item read.gives (subst (Gives left left_new) at.same gives));

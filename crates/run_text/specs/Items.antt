@@ -11,8 +11,8 @@ use Rattle.run_text.specs.declared.next.Next.{Next}
 use Rattle.run_text.specs.declared.next.Next.TheVariants as next
 
 -- the source gave some bytes, which are no longer left, and P holds of them
-abbrev pub Gave : Option (List ℕ) → Option (List ℕ) → (List ℕ → Type 0) → Type 0
-Gave left_old left_new P = (given : List ℕ) × Gives left_old left_new given × P given
+abbrev pub SourceGave : Option (List ℕ) → Option (List ℕ) → (List ℕ → Type 0) → Type 0
+SourceGave left_old left_new P = (given : List ℕ) × Gives left_old left_new given × P given
 
 -- The bytes at an offset hold no whole item: read alone, they end there. No byte follows a size word at which the reading ends.
 pub record IsPartial (limit : ℕ) (input : Option ℕ) (offset : ℕ) (given : List ℕ) : Type 0 where
@@ -44,7 +44,7 @@ IsNext limit input offset left (Ok (next.End end)) given = EndsAt (Some limit) i
 IsNext limit input offset left (Err status) given = IsReadingStop status × (IsPartial limit input offset given ⊎ IsItemAt limit input offset given given)
 
 -- where no item is taken, no byte more than one is read, and none where the reading fails
-abbrev pub IsMore : Option (List ℕ) → Result Bool Status → List ℕ → Type 0
-IsMore left (Ok true) given = length given ≡ 1
-IsMore left (Ok false) given = (given ≡ []) × IsAtEnd left
-IsMore left (Err status) given = (status ≡ InputFault) × (given ≡ [])
+abbrev pub IsEndProbe : Option (List ℕ) → Result Bool Status → List ℕ → Type 0
+IsEndProbe left (Ok true) given = length given ≡ 1
+IsEndProbe left (Ok false) given = (given ≡ []) × IsAtEnd left
+IsEndProbe left (Err status) given = (status ≡ InputFault) × (given ≡ [])

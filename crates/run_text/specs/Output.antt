@@ -9,8 +9,8 @@ use Rattle.report_defs.specs.Report.{Report, text_of, lines_over}
 use Rattle.report_defs.specs.Promise.{IsPrefix, IsReported, IsStoppedBeforeTheSink}
 
 -- the sink took some bytes, and P holds of them
-abbrev pub Took : Option (List ℕ) → Option (List ℕ) → (List ℕ → Type 0) → Type 0
-Took taken_old taken_new P = (taken : List ℕ) × Takes taken_old taken_new taken × P taken
+abbrev pub SinkTook : Option (List ℕ) → Option (List ℕ) → (List ℕ → Type 0) → Type 0
+SinkTook taken_old taken_new P = (taken : List ℕ) × Takes taken_old taken_new taken × P taken
 
 -- the source gave some bytes and the sink took some, and P holds of them
 abbrev pub Transfers : Option (List ℕ) → Option (List ℕ) → Option (List ℕ) → Option (List ℕ) → (List ℕ → List ℕ → Type 0) → Type 0

@@ -17,7 +17,7 @@ abbrev pub opening_stops : List Status
 opening_stops = NotAStore ∷ DiskFault ∷ NoMemory ∷ []
 
 -- A command over the store of what the disk reads as: its text, how far it read and wrote, and what it leaves of the disk.
-pub record Delivers (command : Command) (reads : Option Image) (at_start at_exit meanwhile : Image → Type 0) (left : Option (List ℕ)) (given taken : List ℕ) (status : Status) : Type 0 where
+pub record DeliversCommand (command : Command) (reads : Option Image) (at_start at_exit meanwhile : Image → Type 0) (left : Option (List ℕ)) (given taken : List ℕ) (status : Status) : Type 0 where
   pub text : (store : Store) → Finds (Some command) reads store → MatchesReport (λ whole said. IsReport (Some command) whole store said) given left taken status
   pub order : (store : Store) → Finds (Some command) reads store → KeepsOrder (Some command) store given left taken status
   pub disk : (now : Image) → reads ≡ Some now → KeepsDisk (Some command) now at_start at_exit meanwhile given taken status

@@ -5,7 +5,7 @@ ghost use Rattle.std.specs.Io.KnownBytes.{IsAtEnd};
 ghost use Rattle.outside.specs.Causes.{HasCause, CountsFault};
 ghost use Rattle.outside.specs.Streams.{Gives};
 ghost use Rattle.report_defs.specs.Items as items;
-ghost use Rattle.run_text.specs.Items.{Gave, IsNext, IsMore};
+ghost use Rattle.run_text.specs.Items.{SourceGave, IsNext, IsEndProbe};
 
 use outside::{Failed, Source, read_full};
 use report_defs::{End, Status};
@@ -28,7 +28,7 @@ pub fn next_item<S: Source>(
     offset: u64,
 ) -> Result<Next, Status>
     requires { offset ≤ 2 ^ 62 }
-    ensures next { Gave (S.left input.old) (S.left input.new) (IsNext limit input_limit offset (S.left input.new) result) }
+    ensures next { SourceGave (S.left input.old) (S.left input.new) (IsNext limit input_limit offset (S.left input.new) result) }
     ensures faults { CountsFault (S.faults input.old) (S.faults input.new) (result ≡ Err Status.InputFault) }
 {
     let mut word = [0u8; 4];
@@ -75,7 +75,7 @@ fn item_of_size<S: Source>(
     requires least { 4 ≤ size }
     requires within { items.is_past input_limit (offset + size) ≡ false }
     ensures next { (limit : ℕ) → size ≤ limit
-        → Gave (S.left input.old) (S.left input.new) (λ given. IsNext limit input_limit offset (S.left input.new) result (word.now ++ given)) }
+        → SourceGave (S.left input.old) (S.left input.new) (λ given. IsNext limit input_limit offset (S.left input.new) result (word.now ++ given)) }
     ensures faults { CountsFault (S.faults input.old) (S.faults input.new) (result ≡ Err Status.InputFault) }
 {
     let mut item = match vec![in alloc; 0u8; size] {
@@ -109,7 +109,7 @@ fn fill<S: Source>(input: &mut S, word: &[u8; 4], item: &mut [u8]) -> Result<usi
 
 /// Whether a byte is left, where no item is taken. The status is `InputFault`.
 pub fn has_more<S: Source>(input: &mut S) -> Result<bool, Status>
-    ensures more { Gave (S.left input.old) (S.left input.new) (IsMore (S.left input.new) result) }
+    ensures more { SourceGave (S.left input.old) (S.left input.new) (IsEndProbe (S.left input.new) result) }
     ensures faults { CountsFault (S.faults input.old) (S.faults input.new) (result ≡ Err Status.InputFault) }
 {
     let mut byte = [0u8; 1];

@@ -3,7 +3,7 @@ ghost use Rattle.std.specs.Prelude.{◌≡◌, Err, string_bytes};
 ghost use Rattle.outside.specs.Causes.{CountsFault};
 ghost use Rattle.report_defs.specs.Report as reports;
 ghost use Rattle.report_defs.specs.Status.{IsOneOf};
-ghost use Rattle.run_text.specs.Output.{Took, IsWritten, IsWrittenAnswer, IsSaid, early_ends};
+ghost use Rattle.run_text.specs.Output.{SinkTook, IsWritten, IsWrittenAnswer, IsSaid, early_ends};
 
 use crate::lines::closing_of_end;
 use outside::{Sink, write_all};
@@ -19,7 +19,7 @@ pub struct Answer {
 
 /// Hands all of a text to the sink.
 pub fn write_text<K: Sink>(out: &mut K, text: &[u8]) -> Result<(), Status>
-    ensures written { Took (K.taken out.old) (K.taken out.new) (IsWritten text.now result) }
+    ensures written { SinkTook (K.taken out.old) (K.taken out.new) (IsWritten text.now result) }
     ensures stop { (status : Status) → result ≡ Err status → status ≡ Status.SinkFault }
     ensures faults { CountsFault (K.faults out.old) (K.faults out.new) (result ≡ Err Status.SinkFault) }
 {
@@ -32,7 +32,7 @@ pub fn write_text<K: Sink>(out: &mut K, text: &[u8]) -> Result<(), Status>
 /// Writes bytes, and answers this status.
 pub fn write_bytes<K: Sink>(out: &mut K, bytes: &[u8], status: Status) -> Status
     requires { status ≡ Status.SinkFault → ⊥ }
-    ensures told { Took (K.taken out.old) (K.taken out.new) (IsWrittenAnswer bytes.now status result) }
+    ensures told { SinkTook (K.taken out.old) (K.taken out.new) (IsWrittenAnswer bytes.now status result) }
     ensures faults { CountsFault (K.faults out.old) (K.faults out.new) (result ≡ Status.SinkFault) }
 {
     match write_text(out, bytes) {
@@ -44,7 +44,7 @@ pub fn write_bytes<K: Sink>(out: &mut K, bytes: &[u8], status: Status) -> Status
 /// Writes an answer's text, and answers its status.
 pub fn write_answer<K: Sink>(out: &mut K, answer: &Answer) -> Status
     requires { answer.now.status ≡ Status.SinkFault → ⊥ }
-    ensures told { Took (K.taken out.old) (K.taken out.new) (IsWrittenAnswer (string_bytes answer.now.text) answer.now.status result) }
+    ensures told { SinkTook (K.taken out.old) (K.taken out.new) (IsWrittenAnswer (string_bytes answer.now.text) answer.now.status result) }
     ensures faults { CountsFault (K.faults out.old) (K.faults out.new) (result ≡ Status.SinkFault) }
 {
     write_bytes(out, answer.text.as_bytes(), answer.status)
@@ -65,7 +65,7 @@ pub fn status_of_end(whole: Status, end: End) -> Status
 /// What is said of an input that ends early.
 pub fn write_early_end<K: Sink>(alloc: Global, out: &mut K, end: End, offset: u64) -> Status
     requires { end ≡ End.AtEnd → ⊥ }
-    ensures said { Took (K.taken out.old) (K.taken out.new) (IsSaid (reports.report_of_end offset end) result) }
+    ensures said { SinkTook (K.taken out.old) (K.taken out.new) (IsSaid (reports.report_of_end offset end) result) }
     ensures faults { CountsFault (K.faults out.old) (K.faults out.new) (result ≡ Status.SinkFault) }
     ensures one_of { IsOneOf early_ends result }
     ensures disk { result ≡ Status.DiskFault → ⊥ }

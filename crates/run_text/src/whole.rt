@@ -2,7 +2,7 @@
 ghost use Rattle.std.specs.Prelude.{◌≡◌, ◌^◌, ◌≤◌, Err, length, sum};
 ghost use Rattle.outside.specs.Causes.{CountsFault};
 ghost use Rattle.report_defs.specs.Items as items;
-ghost use Rattle.run_text.specs.Items.{Gave};
+ghost use Rattle.run_text.specs.Items.{SourceGave};
 ghost use Rattle.run_text.specs.Whole as wholes;
 ghost use Rattle.run_text.specs.Whole.{IsReadWhole};
 
@@ -29,7 +29,7 @@ pub fn read_whole<S: Source>(
 ) -> Result<Whole, Status>
     requires offsets { sum limits.now ≤ 2 ^ 62 }
     requires needed { needed ≤ length limits.now }
-    ensures read { Gave (S.left input.old) (S.left input.new) (IsReadWhole limits.now needed (S.left input.new) result) }
+    ensures read { SourceGave (S.left input.old) (S.left input.new) (IsReadWhole limits.now needed (S.left input.new) result) }
     ensures faults { CountsFault (S.faults input.old) (S.faults input.new) (result ≡ Err Status.InputFault) }
 {
     let mut items = Vec::new(alloc);

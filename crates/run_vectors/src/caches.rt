@@ -1,6 +1,6 @@
 // A generated chain, imported into a node that holds one block in memory.
 ghost use Rattle.std.specs.Prelude.{◌≡◌, ◌≤◌, ◌<◌, IfSome};
-ghost use Rattle.node_store.specs.Node.{IsItsOwn};
+ghost use Rattle.node_store.specs.Node.{IsOwnDiskWhereTold};
 
 use chain_gen::{Made, make};
 use node_core::Rules;
@@ -26,7 +26,7 @@ fn open_new<D: Disk, L: Ledger>(
     made: &Made,
     steps: &mut Steps<L>,
 ) -> Option<Node>
-    ensures { IfSome result (λ node. IsItsOwn node (D.reads_as disk.new) (D.images disk.new)) }
+    ensures { IfSome result (λ node. IsOwnDiskWhereTold node (D.reads_as disk.new) (D.images disk.new)) }
 {
     if made.spec.len() >= SIZE_BOUND || made.genesis.len() >= SIZE_BOUND {
         return None;
@@ -52,8 +52,8 @@ fn import<D: Disk, L: Ledger>(
     item: &[u8],
     steps: &mut Steps<L>,
 ) -> Option<(Node, Verdict)>
-    requires { IsItsOwn node (D.reads_as disk.old) (D.images disk.old) }
-    ensures { IfSome result (λ answer. IsItsOwn answer.0 (D.reads_as disk.new) (D.images disk.new)) }
+    requires { IsOwnDiskWhereTold node (D.reads_as disk.old) (D.images disk.old) }
+    ensures { IfSome result (λ answer. IsOwnDiskWhereTold answer.0 (D.reads_as disk.new) (D.images disk.new)) }
 {
     if item.len() >= SIZE_BOUND {
         drop(node);
@@ -77,7 +77,7 @@ fn joined_of<D: Disk, L: Ledger>(
     items: &[Vec<u8>],
     steps: &mut Steps<L>,
 ) -> Option<(u64, u64)>
-    requires { IsItsOwn opened (D.reads_as disk.old) (D.images disk.old) }
+    requires { IsOwnDiskWhereTold opened (D.reads_as disk.old) (D.images disk.old) }
 {
     let mut node = opened;
     let mut joined = 0u64;

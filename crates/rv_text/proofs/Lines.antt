@@ -83,14 +83,14 @@ left-step xs at k h e =
 
 -- ---- what holds before each line
 
-pub record IsSoFar (text : List ℕ) (at before : ℕ) (code : List ℕ) : Type 0 where
+pub record AreLinesSoFar (text : List ℕ) (at before : ℕ) (code : List ℕ) : Type 0 where
   pub words : (bytes : List ℕ) → Assembles (left at text) bytes → Assembles (lines_of text) (code ++ bytes)
   pub bad : (number : ℕ) → IsFirstBad (left at text) number → IsFirstBad (lines_of text) (before + number)
 
 all-left : (text : List ℕ) → left 0 text ≡ lines_of text
 all-left text = let here : nat_le 0 (length text) ≡ true = grind (arith, nat_tests) in rw here refl
 
-pub start : (text : List ℕ) → IsSoFar text 0 0 []
+pub start : (text : List ℕ) → AreLinesSoFar text 0 0 []
 start text = record {
   words = λ bytes h. let P : List (List ℕ) → Type 0 = λ x. Assembles x bytes in subst P (all-left text) h;
   bad = λ number h. let P : List (List ℕ) → Type 0 = λ x. IsFirstBad x number in
@@ -111,8 +111,8 @@ bad-here : (line : List ℕ) (lines : List (List ℕ)) → IsBad line → IsFirs
 unfolding IsFirstBad
 bad-here line lines bad = inl (refl, bad)
 
-pub step : (text : List ℕ) (at k before : ℕ) (code here code' : List ℕ) → at ≤ length text → k ≡ line_end (drop at text) → IsSoFar text at before code
-    → IsLineOf (take k (drop at text)) here → code' ≡ code ++ here → IsSoFar text (at + k + 1) (before + 1) code'
+pub step : (text : List ℕ) (at k before : ℕ) (code here code' : List ℕ) → at ≤ length text → k ≡ line_end (drop at text) → AreLinesSoFar text at before code
+    → IsLineOf (take k (drop at text)) here → code' ≡ code ++ here → AreLinesSoFar text (at + k + 1) (before + 1) code'
 step text at k before code here code' h e so is c =
     let line : List ℕ = take k (drop at text) in
     let lines : List (List ℕ) = left (at + k + 1) text in
@@ -129,13 +129,13 @@ step text at k before code here code' h e so is c =
           subst Q n (so.bad (1 + number) (subst P (sym now) (later-bad line lines here number is rest)));
     }
 
-pub bad-line : (text : List ℕ) (at k before : ℕ) (code : List ℕ) → at ≤ length text → k ≡ line_end (drop at text) → IsSoFar text at before code
+pub bad-line : (text : List ℕ) (at k before : ℕ) (code : List ℕ) → at ≤ length text → k ≡ line_end (drop at text) → AreLinesSoFar text at before code
     → IsBad (take k (drop at text)) → IsFirstBad (lines_of text) (before + 1)
 bad-line text at k before code h e so bad =
     let P : List (List ℕ) → Type 0 = λ x. IsFirstBad x 1 in
     so.bad 1 (subst P (sym (left-step text at k h e)) (bad-here (take k (drop at text)) (left (at + k + 1) text) bad))
 
-pub stopped : (text : List ℕ) (at k before : ℕ) (code : List ℕ) (line : List ℕ) (stop : AssemblyStop) → at ≤ length text → k ≡ line_end (drop at text) → IsSoFar text at before code
+pub stopped : (text : List ℕ) (at k before : ℕ) (code : List ℕ) (line : List ℕ) (stop : AssemblyStop) → at ≤ length text → k ≡ line_end (drop at text) → AreLinesSoFar text at before code
     → line ≡ take k (drop at text) → IsStopOfLine (before + 1) line stop → IsStopOf (lines_of text) stop
 stopped text at k before code line NoMemory h e so is tells = tt
 stopped text at k before code line (BadLine number) h e so is tells =
@@ -147,7 +147,7 @@ no-words : Assembles [] []
 unfolding Assembles
 no-words = refl
 
-pub all-done : (text : List ℕ) (at before : ℕ) (code : List ℕ) → length text < at → IsSoFar text at before code → Assembles (lines_of text) code
+pub all-done : (text : List ℕ) (at before : ℕ) (code : List ℕ) → length text < at → AreLinesSoFar text at before code → Assembles (lines_of text) code
 all-done text at before code past so =
     let none : nat_le at (length text) ≡ false = grind (arith, nat_tests) in
     let empty : left at text ≡ [] = rw none refl in

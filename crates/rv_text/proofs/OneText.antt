@@ -8,13 +8,13 @@ use Rattle.machine_defs.specs.Text.{form_of, show, IsWord}
 use Rattle.machine_defs.specs.TextLaws.{OneInstructionHasText}
 use Rattle.rv_text.specs.declared.names.TheConstants.{TEMPLATES}
 use Rattle.rv_text.specs.Reading.{space_at, named_in, numbers_in, filled}
-use Rattle.rv_text.specs.Words.{FitsOperands, HasBits, IsBits}
+use Rattle.rv_text.specs.Words.{FitsOperands, HasBits, AreBitsOf}
 use Rattle.rv_text.proofs.Likely.{is-read, IsRead}
 use Rattle.rv_text.proofs.WordLaws.{fits-is, word-is}
 
 -- ---- What fits has bits
 
-bits-of : (width unit : ℕ) (z : ℤ) → (h : IsImmediate width unit z) → IsBits width unit z h.0
+bits-of : (width unit : ℕ) (z : ℤ) → (h : IsImmediate width unit z) → AreBitsOf width unit z h.0
 bits-of width unit z h = record { bound = h.1; whole = h.2; number = h.3 }
 
 has-bits : (o : Operands) → FitsOperands o → (bits : ℕ) × HasBits o bits

@@ -10,7 +10,7 @@ use Rattle.std.proofs.lemmas.Str.{digit_value_digit}
 use Rattle.std.proofs.lemmas.Int.{ints}
 use Rattle.std.proofs.lemmas.Bool.Decides.{nat_tests}
 use Rattle.std.proofs.lemmas.Bool.{cases_lt}
-use Rattle.machine_defs.specs.Instruction.{bits, sign_extended, IsImmediate, IsAmount}
+use Rattle.machine_defs.specs.Instruction.{bits, sign_extended, IsImmediate, IsShiftAmount}
 use Rattle.rv_text.specs.declared.read.Numbers.{Numbers}
 use Rattle.machine_defs.specs.declared.operands.Operands.{Operands}
 use Rattle.machine_defs.specs.declared.operands.Operands.TheVariants.{Registers, Immediate, Shift, WordShift, Address, Store, Branch, Jump, Upper, Bare}
@@ -151,7 +151,7 @@ size-21 : (z : ℤ) → IsImmediate 21 2 z → size z < 100000000
 unfolding sign_extended
 size-21 z h = let s : size z ≤ 1048576 = sized 1048576 h.0 z h.1 h.3 in omega arith
 
-size-amount : (limit : ℕ) (z : ℤ) → limit ≤ 64 → IsAmount limit z → size z < 100000000
+size-amount : (limit : ℕ) (z : ℤ) → limit ≤ 64 → IsShiftAmount limit z → size z < 100000000
 size-amount limit (pos m) most h = let e : pos m ≡ pos h.0 = h.2 in let f : m ≡ h.0 = cc in omega (arith, f, h.1)
 size-amount limit (negsuc m) most h = let e : negsuc m ≡ pos h.0 = h.2 in absurd (cc)
 

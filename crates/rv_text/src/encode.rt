@@ -1,8 +1,8 @@
 // The word that encodes an instruction.
 ghost use Rattle.std.specs.Prelude.{◌≡◌, ◌≢◌, ℕ, ◌+◌, ◌-◌, ◌*◌, ◌%◌, ◌^◌, ◌<◌, ◌≤◌, ◌↔◌, pos, ◌-ℤ◌, ◌≤ℤ◌, ◌<ℤ◌, IfSome, IsSome, MatchOption};
-ghost use Rattle.machine_defs.specs.Instruction.{FitsFormat, IsAmount, IsImmediate};
+ghost use Rattle.machine_defs.specs.Instruction.{FitsFormat, IsShiftAmount, IsImmediate};
 ghost use Rattle.machine_defs.specs.Text.{IsWord};
-ghost use Rattle.rv_text.specs.Words.{FitsOperands, HasBits, HasPair, IsBits, extended};
+ghost use Rattle.rv_text.specs.Words.{FitsOperands, HasBits, HasPair, AreBitsOf, extended};
 
 use crate::table::form_of;
 use machine_defs::{Ins, Operands};
@@ -45,7 +45,7 @@ fn number_bits(width: u32, half: u32, unit: u32, imm: i64) -> Option<u32>
     requires span { 2 ^ width ≡ half + half }
     requires within { half ≤ 2 ^ 31 }
     requires unit { 0 < unit }
-    ensures { MatchOption result (¬ IsImmediate width unit imm) (λ n. IsBits width unit imm n) }
+    ensures { MatchOption result (¬ IsImmediate width unit imm) (λ n. AreBitsOf width unit imm n) }
 {
     bits_under(half, unit, imm)
 }
@@ -111,7 +111,7 @@ fn immediate(rd: u8, rs1: u8, imm: i64) -> Option<u32>
 
 fn shift(limit: u32, rd: u8, rs1: u8, imm: i64) -> Option<u32>
     requires { limit ≤ 64 }
-    ensures none { result ≡ None → ¬ (((rd < 32) × (rs1 < 32)) × IsAmount limit imm) }
+    ensures none { result ≡ None → ¬ (((rd < 32) × (rs1 < 32)) × IsShiftAmount limit imm) }
     ensures some { IfSome result (λ bits. (n : ℕ) × (n < limit) × (imm ≡ pos n) × HasPair rd rs1 (n * 1048576) bits) }
 {
     if 0 <= imm && imm < i64::from(limit) {

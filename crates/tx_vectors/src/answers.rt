@@ -1,7 +1,7 @@
 //! What a transaction is answered, alone after the last block or in the next one.
 
 use crate::kept::{Chain, is_placed};
-use cell_model::{ListBlocks, Resolved, tx_hash};
+use cell_model::{ListBlocks, Resolved};
 use cell_state::State;
 use mol_schema::{BlockView, TxView};
 use outside::Steps;
@@ -9,6 +9,7 @@ use std::alloc::Global;
 use std::string::String;
 use std::sync::ledger::Ledger;
 use tx_rules::{JudgedTx, Own, TxAt, TxOk, TxStop, resolve};
+use view_hashes::transaction_hash;
 
 /// Adds a word, after a comma but for the first.
 fn add_word(text: &mut String, word: &str) -> Option<()> {
@@ -75,7 +76,7 @@ fn answer(
     }
     let judged = JudgedTx {
         tx,
-        hash: tx_hash(tx),
+        hash: transaction_hash(tx),
         proposed: true,
     };
     let resolved = resolve(alloc, &judged, at, state, blocks);

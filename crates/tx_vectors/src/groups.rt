@@ -2,12 +2,13 @@
 
 use crate::cells::meta_in;
 use crate::kept::Chain;
-use cell_model::{OutPoint, Resolved, ResolvedTx, tx_hash};
+use cell_model::{OutPoint, Resolved, ResolvedTx};
 use mol_schema::TxView;
 use row_table::Row;
 use script_run::{ScriptStop, run_groups};
 use std::alloc::Global;
 use verdict_defs::Failure;
+use view_hashes::transaction_hash;
 
 /// Bytes that rows name.
 #[derive(Drop)]
@@ -87,7 +88,7 @@ fn resolved_of<'a>(
     let deps = cells_of(alloc, blobs, row.word())?;
     let headers = places_of(alloc, row.word())?;
     Some(ResolvedTx {
-        hash: tx_hash(&tx),
+        hash: transaction_hash(&tx),
         tx,
         inputs,
         deps,

@@ -2,12 +2,12 @@
 
 ghost use Rattle.std.specs.Prelude.{◌≡◌, ◌<◌, true, false};
 ghost use Rattle.cell_model.specs.ListBlocks.{IsCanonical, IsExtFor};
-ghost use Rattle.tx_rules.specs.At.{IsPlaced};
+ghost use Rattle.tx_rules.specs.At.{IsAtParent};
 ghost use Rattle.chain_tree.specs.Blocks.{AreRated};
 
 use blake2b_ckb::ckbhash;
 use cell_model::{CellMeta, Cells, Ext, ListBlocks, OutPoint};
-use cell_state::{Odd, State, outputs_in, tx_hashes};
+use cell_state::{Odd, State, outputs_in};
 use chain_tree::{Entry, Tree};
 use dao_math::is_rated;
 use epochs::Spec;
@@ -16,6 +16,7 @@ use outside::Steps;
 use std::alloc::Global;
 use std::sync::ledger::Ledger;
 use tx_rules::TxAt;
+use view_hashes::transaction_hashes;
 
 /// The most blocks of a chain.
 const MOST: u32 = 1_000_000;
@@ -63,7 +64,7 @@ fn are_rated(tree: &Tree) -> bool
 
 /// Whether a transaction may be judged there.
 pub(crate) fn is_placed(at: &TxAt<'_, '_, '_>) -> bool
-    ensures { result ≡ true → IsPlaced at.now }
+    ensures { result ≡ true → IsAtParent at.now }
 {
     at.tree.len() <= MOST && at.parent < at.tree.len() && are_rated(at.tree)
 }
@@ -133,7 +134,7 @@ pub(crate) fn applied<L: Ledger>(
 ) -> Option<Result<(), Odd>> {
     let block = BlockView::read(bytes)?;
     state.reserve(outputs_in(&block)).ok()?;
-    let hashes = tx_hashes(alloc, &block).ok()?;
+    let hashes = transaction_hashes(alloc, &block).ok()?;
     Some(state.apply(&block, &hashes, place, steps))
 }
 
@@ -161,7 +162,7 @@ pub(crate) fn out_point_in(bytes: &[u8]) -> Option<OutPoint> {
 /// The live cells of a genesis.
 pub(crate) fn state_of(alloc: Global, genesis: &[u8]) -> Option<State> {
     let genesis = BlockView::read(genesis)?;
-    let hashes = tx_hashes(alloc, &genesis).ok()?;
+    let hashes = transaction_hashes(alloc, &genesis).ok()?;
     State::genesis(alloc, &genesis, &hashes).ok()
 }
 

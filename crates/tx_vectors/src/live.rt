@@ -4,12 +4,13 @@ use crate::kept::{applied, out_point_in, state_of};
 use crate::rows::{hash_of_all, hash_on, made_up};
 use blake2b_ckb::Hasher;
 use cell_model::{Cells, Ext, OutPoint};
-use cell_state::{Odd, State, tx_hashes};
+use cell_state::{Odd, State};
 use mol_schema::BlockView;
 use outside::{NoMemory, Steps};
 use row_table::Row;
 use std::alloc::Global;
 use std::sync::ledger::Ledger;
+use view_hashes::transaction_hashes;
 
 /// Whether the live cells answer what the columns want; None where they are no row.
 pub(crate) fn agrees<L: Ledger>(
@@ -135,6 +136,6 @@ fn undone<L: Ledger>(
     let block = BlockView::read(block)?;
     let ext = Ext::read(alloc, ext).ok()??;
     state.reserve(ext.spent.len() as u64).ok()?;
-    let hashes = tx_hashes(alloc, &block).ok()?;
+    let hashes = transaction_hashes(alloc, &block).ok()?;
     Some(state.undo(&block, &hashes, &ext, steps))
 }

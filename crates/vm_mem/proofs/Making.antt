@@ -2,7 +2,7 @@
 use Rattle.std.proofs.Common.{◌≡◌, ℕ, ◌+◌, ◌-◌, ◌*◌, ◌/◌, ◌<◌, ◌≤◌, ◌⊎◌, refl, ◌∙◌, subst, arith, inl, inr}
 use Rattle.std.proofs.lemmas.Bool.{cases_eq, cases_lt}
 use Rattle.machine_defs.specs.Memory.{page_size}
-use Rattle.vm_mem.specs.Pages.{AreAllocated, IsAllocated, IsUnder, Pages}
+use Rattle.vm_mem.specs.Pages.{AreAllocated, IsAllocated, ReachesPage, Pages}
 
 -- no pages are allocated but those from `first` to before `next`
 abbrev pub OnlyBetween : Pages → Pages → ℕ → ℕ → Type 0
@@ -47,14 +47,14 @@ making-all old new at count next m h i below =
     m.allocated ((at + i) / page_size) (omega (arith, below)) (omega (arith, below, h))
 
 pub page-of : (at count page : ℕ) → at / page_size ≤ page → page ≤ (at + count - 1) / page_size → 0 < count
-    → IsUnder page at count
+    → ReachesPage page at count
 page-of at count page low high some = elim (cases_lt (page_size * page) at) [
   | inl before ↦ (0, some, omega (arith, low, high, before))
   | inr from ↦ (page_size * page - at, omega (arith, low, high, from, some), omega (arith, low, high, from, some))
 ]
 
 pub only-under : (old new : Pages) (at count next : ℕ) → OnlyBetween old new (at / page_size) next → next ≤ (at + count - 1) / page_size + 1
-    → 0 < count → (page : ℕ) → IsAllocated new.allocated page → IsAllocated old.allocated page ⊎ IsUnder page at count
+    → 0 < count → (page : ℕ) → IsAllocated new.allocated page → IsAllocated old.allocated page ⊎ ReachesPage page at count
 only-under old new at count next pages_added last some page allocated = elim (pages_added page allocated) [
   | inl was ↦ inl was
   | inr between ↦ inr (page-of at count page between.0 (omega (arith, between.1, last)) some)

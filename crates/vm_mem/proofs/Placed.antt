@@ -4,11 +4,11 @@ use Rattle.std.specs.List.{concat, All}
 use Rattle.std.proofs.lemmas.List.{get_or-map, length-map}
 use Rattle.machine_defs.specs.Memory.{page_size, page_count, memory_size, number_of}
 use Rattle.vm_mem.specs.Pages.{IsPage, whole}
-use Rattle.vm_mem.proofs.Paging.{AreOf, range-concat}
+use Rattle.vm_mem.proofs.Paging.{AreOfLength, range-concat}
 use Rattle.vm_mem.proofs.Wholes.{length-whole}
 
 pub wholes : {X : Type 0} (f : X → List ℕ) (pages : List X) → All (λ page. IsPage (f page)) pages
-    → AreOf page_size (map whole (map f pages))
+    → AreOfLength page_size (map whole (map f pages))
 wholes f [] all = tt
 wholes f (page ∷ pages) all = (length-whole (f page) (all 0 page (omega arith)), wholes f pages (λ k d h. all (suc k) d (omega (arith, h))))
 

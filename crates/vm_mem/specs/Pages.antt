@@ -53,5 +53,5 @@ abbrev pub AreAllocated : List Bool → ℕ → ℕ → Type 0
 AreAllocated allocated at count = (i : ℕ) → i < count → IsAllocated allocated ((at + i) / page_size)
 
 -- a byte of a range lies in the page
-abbrev pub IsUnder : ℕ → ℕ → ℕ → Type 0
-IsUnder page at count = (i : ℕ) × (i < count) × ((at + i) / page_size ≡ page)
+abbrev pub ReachesPage : ℕ → ℕ → ℕ → Type 0
+ReachesPage page at count = (i : ℕ) × (i < count) × ((at + i) / page_size ≡ page)

@@ -3,7 +3,7 @@ ghost use Rattle.std.specs.Prelude.{◌≡◌, ◌≢◌, ℕ, ◌%◌, length, 
 ghost use Rattle.machine_defs.specs.Instruction.{FitsFormat, HasRegisters};
 ghost use Rattle.machine_defs.specs.Memory.{byte_count, bytes_of, fetch, load, new_memory, page_size, page_count, set_code, store};
 ghost use Rattle.machine_defs.specs.Code.{instruction_at};
-ghost use Rattle.vm_mem.specs.Pages.{AreAllocated, IsAllocated, IsUnder};
+ghost use Rattle.vm_mem.specs.Pages.{AreAllocated, IsAllocated, ReachesPage};
 ghost use Rattle.vm_mem.specs.Paged.{Stores};
 ghost use Rattle.vm_mem.specs.Slots.{IsKept};
 
@@ -63,7 +63,7 @@ impl Memory {
         ensures needs_no_memory { AreAllocated self.old.allocated at (byte_count width) → result ≢ Err MemStop.NoMemory }
         ensures allocated { OnOk result (AreAllocated self.new.allocated at (byte_count width)) }
         ensures pages_kept { (page : ℕ) → IsAllocated self.old.allocated page → IsAllocated self.new.allocated page }
-        ensures pages_added { (page : ℕ) → IsAllocated self.new.allocated page → IsAllocated self.old.allocated page ⊎ IsUnder page at (byte_count width) }
+        ensures pages_added { (page : ℕ) → IsAllocated self.new.allocated page → IsAllocated self.old.allocated page ⊎ ReachesPage page at (byte_count width) }
         ensures refused { (fault : MemFault) → result ≡ Err (MemStop.Fault fault) → self.new ≡ self.old }
     {
         self.paged.store(at, width, value)
@@ -76,7 +76,7 @@ impl Memory {
         ensures needs_no_memory { AreAllocated self.old.allocated at (length bytes.now) → result ≢ Err MemStop.NoMemory }
         ensures allocated { OnOk result (AreAllocated self.new.allocated at (length bytes.now)) }
         ensures pages_kept { (page : ℕ) → IsAllocated self.old.allocated page → IsAllocated self.new.allocated page }
-        ensures pages_added { (page : ℕ) → IsAllocated self.new.allocated page → IsAllocated self.old.allocated page ⊎ IsUnder page at (length bytes.now) }
+        ensures pages_added { (page : ℕ) → IsAllocated self.new.allocated page → IsAllocated self.old.allocated page ⊎ ReachesPage page at (length bytes.now) }
         ensures refused { (fault : MemFault) → result ≡ Err (MemStop.Fault fault) → self.new ≡ self.old }
     {
         self.paged.copy_in(at, bytes)

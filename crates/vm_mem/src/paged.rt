@@ -2,7 +2,7 @@
 ghost use Rattle.std.specs.Prelude.{◌≡◌, ◌≢◌, ℕ, ◌+◌, ◌*◌, ◌%◌, ◌<◌, ◌≤◌, length, false, replicate, Ok, Err, true, OnOk, OnErr, IfOk, IfErr, IsTrue, ◌↔◌, ◌⊎◌};
 ghost use Rattle.std.specs.List.{list_all, list_any};
 ghost use Rattle.machine_defs.specs.Memory.{byte_count, bytes_of, fetch, fetch_pair, is_code, is_out_of_range, kinds_under, load, memory_size, new_memory, overwritten, page_size, page_count, set_code, store};
-ghost use Rattle.vm_mem.specs.Pages.{AreAllocated, IsAllocated, IsUnder};
+ghost use Rattle.vm_mem.specs.Pages.{AreAllocated, IsAllocated, ReachesPage};
 ghost use Rattle.vm_mem.specs.Paged.{IsReady, Stores};
 
 use super::pages::{PAGE_COUNT, PAGE_SIZE, Pages};
@@ -68,7 +68,7 @@ impl Paged {
         ensures needs_no_memory { AreAllocated self.old.allocated at (byte_count width) → result ≢ Err MemStop.NoMemory }
         ensures allocated { OnOk result (AreAllocated self.new.allocated at (byte_count width)) }
         ensures pages_kept { (page : ℕ) → IsAllocated self.old.allocated page → IsAllocated self.new.allocated page }
-        ensures pages_added { (page : ℕ) → IsAllocated self.new.allocated page → IsAllocated self.old.allocated page ⊎ IsUnder page at (byte_count width) }
+        ensures pages_added { (page : ℕ) → IsAllocated self.new.allocated page → IsAllocated self.old.allocated page ⊎ ReachesPage page at (byte_count width) }
         ensures refused { (fault : MemFault) → result ≡ Err (MemStop.Fault fault) → self.new ≡ self.old }
     {
         if !self.is_ready(at, size(width)) {
@@ -93,7 +93,7 @@ impl Paged {
         ensures needs_no_memory { AreAllocated self.old.allocated at (length bytes.now) → result ≢ Err MemStop.NoMemory }
         ensures allocated { OnOk result (AreAllocated self.new.allocated at (length bytes.now)) }
         ensures pages_kept { (page : ℕ) → IsAllocated self.old.allocated page → IsAllocated self.new.allocated page }
-        ensures pages_added { (page : ℕ) → IsAllocated self.new.allocated page → IsAllocated self.old.allocated page ⊎ IsUnder page at (length bytes.now) }
+        ensures pages_added { (page : ℕ) → IsAllocated self.new.allocated page → IsAllocated self.old.allocated page ⊎ ReachesPage page at (length bytes.now) }
         ensures refused { (fault : MemFault) → result ≡ Err (MemStop.Fault fault) → self.new ≡ self.old }
     {
         let at = match place(at, bytes.len() as u64) {
@@ -167,7 +167,7 @@ impl Paged {
         ensures needs_no_memory { AreAllocated self.old.allocated at (byte_count width) → result ≢ Err MemStop.NoMemory }
         ensures allocated { OnOk result (AreAllocated self.new.allocated at (byte_count width)) }
         ensures pages_kept { (page : ℕ) → IsAllocated self.old.allocated page → IsAllocated self.new.allocated page }
-        ensures pages_added { (page : ℕ) → IsAllocated self.new.allocated page → IsAllocated self.old.allocated page ⊎ IsUnder page at (byte_count width) }
+        ensures pages_added { (page : ℕ) → IsAllocated self.new.allocated page → IsAllocated self.old.allocated page ⊎ ReachesPage page at (byte_count width) }
         ensures refused { (fault : MemFault) → result ≡ Err (MemStop.Fault fault) → self.new ≡ self.old }
     {
         let bytes = value.to_le_bytes();

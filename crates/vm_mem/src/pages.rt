@@ -1,7 +1,7 @@
 // Bytes in pages that take memory at their first store.
 ghost use Rattle.std.specs.Prelude.{◌≡◌, ℕ, ◌+◌, ◌*◌, ◌/◌, ◌%◌, ◌^◌, ◌<◌, ◌≤◌, ◌⊎◌, length, false, replicate, slice_index_or, slice_range, IsOk, OnOk, IfOk};
 ghost use Rattle.machine_defs.specs.Memory.{number_of, memory_size, page_size, page_count};
-ghost use Rattle.vm_mem.specs.Pages.{AreAllocated, IsAllocated, IsUnder, written};
+ghost use Rattle.vm_mem.specs.Pages.{AreAllocated, IsAllocated, ReachesPage, written};
 
 use super::buffer;
 use outside::NoMemory;
@@ -168,7 +168,7 @@ impl Pages {
         ensures bytes { self.new.bytes ≡ self.old.bytes }
         ensures allocated { OnOk result (AreAllocated self.new.allocated at count) }
         ensures pages_kept { (page : ℕ) → IsAllocated self.old.allocated page → IsAllocated self.new.allocated page }
-        ensures pages_added { (page : ℕ) → IsAllocated self.new.allocated page → IsAllocated self.old.allocated page ⊎ IsUnder page at count }
+        ensures pages_added { (page : ℕ) → IsAllocated self.new.allocated page → IsAllocated self.old.allocated page ⊎ ReachesPage page at count }
         ensures needs_no_memory { AreAllocated self.old.allocated at count → IsOk result }
     {
         if count == 0 {

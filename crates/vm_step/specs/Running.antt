@@ -9,7 +9,7 @@ use Rattle.machine_defs.specs.Code.{instruction_at}
 use Rattle.machine_defs.specs.Program.{Leads, stop_of}
 use Rattle.machine_defs.specs.Step.{Machine, charged, is_spent, moved, register, step_of}
 use Rattle.vm_step.specs.declared.place.Place.{Place}
-use Rattle.vm_mem.specs.Pages.{IsAllocated, AreAllocated, IsUnder}
+use Rattle.vm_mem.specs.Pages.{IsAllocated, AreAllocated, ReachesPage}
 
 -- the machine, which of its pages are allocated, whether it may make another step, and what the last one answered
 pub record RunningMachine : Type 0 where
@@ -97,7 +97,7 @@ HasRoom allocated range = IfSome range (λ bytes. AreAllocated allocated bytes.a
 
 -- one of the bytes, if any are stored to, lies in the page
 abbrev pub Touches : Option ByteRange → ℕ → Type 0
-Touches (Some bytes) page = IsUnder page bytes.at bytes.count
+Touches (Some bytes) page = ReachesPage page bytes.at bytes.count
 Touches None page = ⊥
 
 -- ---- steps up to one that does not go

@@ -21,10 +21,10 @@ use Rattle.vm_mem.specs.declared.stop.MemStop.TheVariants as mem_stop
 use Rattle.machine_defs.specs.Answer.{argument, paid_for, stored, with_part, with_length, loads_part, code_bytes, with_content, loads_code}
 use Rattle.vm_sys.specs.declared.syscall.Sys.{Sys}
 use Rattle.vm_sys.specs.declared.syscall.Sys.TheVariants.{Done, Exit, Fault, Spent, Stop}
-use Rattle.vm_mem.specs.Pages.{IsUnder}
+use Rattle.vm_mem.specs.Pages.{ReachesPage}
 use Rattle.vm_sys.specs.Finding.{Finds}
 use Rattle.vm_sys.specs.Running.{outcome_of}
-use Rattle.vm_sys.specs.Answering.{AddsPages, ContentTouches, HasBytes, HoldsPart, IsAnswer, WhereCutOff, IsPlaced, IsStopped}
+use Rattle.vm_sys.specs.Answering.{AddsPages, ContentTouches, HasBytes, HoldsPart, IsAnswer, WhereCutOff, IsCodePlaced, IsStopped}
 
 -- ---- what the world answered
 
@@ -200,13 +200,13 @@ unfolding loads_code
 code-unaligned m item new within out is = rw (within, out, is) (refl, refl)
 
 content-placed : (m : Machine) (expected : Result Memory MemFault) (left : Memory) (new : Machine) (result : Sys)
-    → IsPlaced (Ok tt) expected (argument m 0) (argument m 1 / page_size) left
+    → IsCodePlaced (Ok tt) expected (argument m 0) (argument m 1 / page_size) left
     → IsAnswer (paid_for (argument m 1) (record m { memory = left })) new result → IsAnswer (with_content m expected) new result
 content-placed m (Ok written) left new result placed paid = rw placed paid
 content-placed m (Err fault) left new result placed paid = absurd placed
 
 content-stopped : (m : Machine) (expected : Result Memory MemFault) (left : Memory) (stop : MemStop) (new : Machine) (result : Sys)
-    → IsPlaced (Err stop) expected (argument m 0) (argument m 1 / page_size) left → IsStopped stop result → new ≡ record m { memory = new.memory }
+    → IsCodePlaced (Err stop) expected (argument m 0) (argument m 1 / page_size) left → IsStopped stop result → new ≡ record m { memory = new.memory }
     → IsAnswer (with_content m expected) new result
 content-stopped m (Ok written) left (mem_stop.Fault fault) new result placed is same = rw (placed, is) (refl, same)
 content-stopped m (Ok written) left mem_stop.NoMemory new result placed is same = rw is tt
@@ -246,22 +246,22 @@ code-is m item within =
     rw (size, count) refl
 
 pub code-placed : (m : Machine) (item : List ℕ) (left : Memory) (count : ℕ) (paid new : Machine) (result : Sys) → is_outside m item ≡ false → has_part_pages m ≡ false
-    → IsPlaced (Ok tt) (memory.store m.memory (argument m 0) (placed_bytes m item)) (argument m 0) (argument m 1 / page_size) left
+    → IsCodePlaced (Ok tt) (memory.store m.memory (argument m 0) (placed_bytes m item)) (argument m 0) (argument m 1 / page_size) left
     → paid ≡ record m { memory = left } → count ≡ argument m 1 → IsAnswer (paid_for count paid) new result → IsAnswer (loads_code m item) new result
 unfolding loads_code
 code-placed m item left count paid new result within whole placed is size pays =
     rw (within, whole) (content-placed m (memory.store m.memory (argument m 0) (code_bytes m item)) left new result
-    (subst (λ b. IsPlaced (Ok tt) (memory.store m.memory (argument m 0) b) (argument m 0) (argument m 1 / page_size) left) (code-is m item within) placed)
+    (subst (λ b. IsCodePlaced (Ok tt) (memory.store m.memory (argument m 0) b) (argument m 0) (argument m 1 / page_size) left) (code-is m item within) placed)
     (subst (λ (n : ℕ). IsAnswer (paid_for n (record m { memory = left })) new result) size
     (subst (λ (machine : Machine). IsAnswer (paid_for count machine) new result) is pays)))
 
 pub code-stopped : (m : Machine) (item : List ℕ) (left : Memory) (stop : MemStop) (new : Machine) (result : Sys) → is_outside m item ≡ false → has_part_pages m ≡ false
-    → IsPlaced (Err stop) (memory.store m.memory (argument m 0) (placed_bytes m item)) (argument m 0) (argument m 1 / page_size) left
+    → IsCodePlaced (Err stop) (memory.store m.memory (argument m 0) (placed_bytes m item)) (argument m 0) (argument m 1 / page_size) left
     → IsStopped stop result → new ≡ record m { memory = new.memory } → IsAnswer (loads_code m item) new result
 unfolding loads_code
 code-stopped m item left stop new result within whole placed is same =
     rw (within, whole) (content-stopped m (memory.store m.memory (argument m 0) (code_bytes m item)) left stop new result
-    (subst (λ b. IsPlaced (Err stop) (memory.store m.memory (argument m 0) b) (argument m 0) (argument m 1 / page_size) left) (code-is m item within) placed) is same)
+    (subst (λ b. IsCodePlaced (Err stop) (memory.store m.memory (argument m 0) b) (argument m 0) (argument m 1 / page_size) left) (code-is m item within) placed) is same)
 
 -- ---- placing
 
@@ -273,7 +273,7 @@ inside-all at size ys fits small low =
     in-memory_from at (length (ys ++ replicate (size - length ys) 0)) (omega (arith, all, rest, fits, small, low))
 
 pub placed-out : (m left : Memory) (at size pages : ℕ) (ys : List ℕ) → length ys ≤ size → 4194304 < at + size
-    → IsPlaced (Err (mem_stop.Fault Range)) (memory.store m at (ys ++ replicate (size - length ys) 0)) at pages left
+    → IsCodePlaced (Err (mem_stop.Fault Range)) (memory.store m at (ys ++ replicate (size - length ys) 0)) at pages left
 placed-out m left at size pages ys fits out =
     let all = length-append ys (replicate (size - length ys) 0) in
     let rest = length-replicate {A = ℕ} (size - length ys) 0 in
@@ -281,7 +281,7 @@ placed-out m left at size pages ys fits out =
     rw refused refl
 
 pub placed-first : (m left : Memory) (at size pages : ℕ) (ys : List ℕ) (stop : MemStop) → length ys ≤ size → size ≤ 4194304 → at ≤ 4194304 - size
-    → Stores (memory.store m at ys) m left (Err stop) → IsPlaced (Err stop) (memory.store m at (ys ++ replicate (size - length ys) 0)) at pages left
+    → Stores (memory.store m at ys) m left (Err stop) → IsCodePlaced (Err stop) (memory.store m at (ys ++ replicate (size - length ys) 0)) at pages left
 placed-first m left at size pages ys mem_stop.NoMemory fits small low stores = tt
 placed-first m left at size pages ys (mem_stop.Fault fault) fits small low stores =
     let refused = refused-first m at ys (replicate (size - length ys) 0) fault (inside-all at size ys fits small low) (stores-fault (memory.store m at ys) m left fault stores) in
@@ -289,7 +289,7 @@ placed-first m left at size pages ys (mem_stop.Fault fault) fits small low store
 
 pub placed-rest : (m one left : Memory) (at size pages : ℕ) (ys : List ℕ) (fault : MemFault) → length ys ≤ size → size ≤ 4194304 → at ≤ 4194304 - size
     → Stores (memory.store m at ys) m one (Ok tt) → memory.store one (at + length ys) (replicate (size - length ys) 0) ≡ Err fault
-    → IsPlaced (Err (mem_stop.Fault fault)) (memory.store m at (ys ++ replicate (size - length ys) 0)) at pages left
+    → IsCodePlaced (Err (mem_stop.Fault fault)) (memory.store m at (ys ++ replicate (size - length ys) 0)) at pages left
 placed-rest m one left at size pages ys fault fits small low stores refused =
     let whole = refused-rest m one at ys (replicate (size - length ys) 0) fault (inside-all at size ys fits small low) (stores-ok (memory.store m at ys) m one stores) refused in
     rw whole refl
@@ -360,7 +360,7 @@ ended-held result P (inr is) = rw is tt
 pub front-fits : (bytes front : List ℕ) (count most : ℕ) → front ≡ take count bytes → count ≡ most → length front ≤ most
 front-fits bytes front count most is same = let size = length-take count bytes in rw is (omega (arith, size, same))
 
-pub content-touches : (m : Machine) (old new : List Bool) (at count : ℕ) → AddsPages old new (λ page. IsUnder page at count) → at ≡ argument m 0 → count ≤ argument m 3
+pub content-touches : (m : Machine) (old new : List Bool) (at count : ℕ) → AddsPages old new (λ page. ReachesPage page at count) → at ≡ argument m 0 → count ≤ argument m 3
     → AddsPages old new (ContentTouches m)
 content-touches m old new at count adds place few = λ page allocated. elim (adds page allocated) [
   | inl was ↦ inl was

@@ -8,7 +8,7 @@ use Rattle.machine_defs.specs.declared.memory.MemFault.{MemFault}
 use Rattle.machine_defs.specs.Step.{Machine, fault_number}
 use Rattle.vm_mem.specs.declared.stop.MemStop.{MemStop}
 use Rattle.vm_mem.specs.declared.stop.MemStop.TheVariants as mem_stop
-use Rattle.vm_mem.specs.Pages.{IsAllocated, IsUnder}
+use Rattle.vm_mem.specs.Pages.{IsAllocated, ReachesPage}
 use Rattle.vm_step.specs.Running.{RunningMachine}
 use Rattle.machine_defs.specs.SyscallTable as table
 use Rattle.machine_defs.specs.SyscallTable.{action_of}
@@ -67,13 +67,13 @@ WhereCutOff Spent P = ⊤
 
 -- A byte that a load in part stores lies in the page: one of the length word, or of the part.
 abbrev pub PartTouches : Machine → List ℕ → ℕ → Type 0
-PartTouches machine item page = IsUnder page (argument machine 1) 8
+PartTouches machine item page = ReachesPage page (argument machine 1) 8
     ⊎ ((word : ℕ) × (load machine.memory (argument machine 1) 8 ≡ Ok word)
-    × IsUnder page (argument machine 0) (length (take word (drop (argument machine 2) item))))
+    × ReachesPage page (argument machine 0) (length (take word (drop (argument machine 2) item))))
 
 -- One of the content that is loaded as code does. The zeros after it take no memory.
 abbrev pub ContentTouches : Machine → ℕ → Type 0
-ContentTouches machine page = IsUnder page (argument machine 0) (argument machine 3)
+ContentTouches machine page = ReachesPage page (argument machine 0) (argument machine 3)
 
 abbrev pub BytesTouch : table.Action → Machine → List ℕ → ℕ → Type 0
 BytesTouch table.Loads machine item page = PartTouches machine item page
@@ -114,12 +114,12 @@ IsStopped (mem_stop.Fault fault) result = result ≡ Fault (fault_number fault)
 IsStopped mem_stop.NoMemory result = result ≡ Stop read_stop.NoMemory
 
 -- Code that is placed: the answer, what the bytes are to make of memory, where they are stored and of how many pages, and memory after it.
-abbrev pub IsPlaced : Result (Unit {0}) MemStop → Result Memory MemFault → ℕ → ℕ → Memory → Type 0
-IsPlaced (Ok done) (Ok written) at pages new = set_code written at pages ≡ Ok new
-IsPlaced (Ok done) (Err expected) at pages new = ⊥
-IsPlaced (Err (mem_stop.Fault fault)) (Ok written) at pages new = set_code written at pages ≡ Err fault
-IsPlaced (Err (mem_stop.Fault fault)) (Err expected) at pages new = fault ≡ expected
-IsPlaced (Err mem_stop.NoMemory) expected at pages new = ⊤
+abbrev pub IsCodePlaced : Result (Unit {0}) MemStop → Result Memory MemFault → ℕ → ℕ → Memory → Type 0
+IsCodePlaced (Ok done) (Ok written) at pages new = set_code written at pages ≡ Ok new
+IsCodePlaced (Ok done) (Err expected) at pages new = ⊥
+IsCodePlaced (Err (mem_stop.Fault fault)) (Ok written) at pages new = set_code written at pages ≡ Err fault
+IsCodePlaced (Err (mem_stop.Fault fault)) (Err expected) at pages new = fault ≡ expected
+IsCodePlaced (Err mem_stop.NoMemory) expected at pages new = ⊤
 
 -- the answer is that of some item, as also where a world tells of none
 abbrev pub IsAnswerOfSome : (Item → Answered) → Machine → Sys → Type 0

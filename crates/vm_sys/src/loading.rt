@@ -4,9 +4,9 @@ ghost use Rattle.outside.specs.declared.disk.ReadStop.{ReadStop};
 ghost use Rattle.outside.specs.declared.disk.ReadStop.TheVariants as read_stop;
 ghost use Rattle.machine_defs.specs.Memory.{page_size, bytes_of, load, store};
 ghost use Rattle.vm_mem.specs.Paged.{Stores};
-ghost use Rattle.vm_mem.specs.Pages.{IsAllocated, IsUnder};
+ghost use Rattle.vm_mem.specs.Pages.{IsAllocated, ReachesPage};
 ghost use Rattle.machine_defs.specs.Answer.{loads_code, loads_part, paid_for, stored};
-ghost use Rattle.vm_sys.specs.Answering.{AddsPages, ContentTouches, HasBytes, HoldsPart, IsAnswer, WhereCutOff, IsStopped, IsPlaced, PartTouches, goes_on_of, with_memory};
+ghost use Rattle.vm_sys.specs.Answering.{AddsPages, ContentTouches, HasBytes, HoldsPart, IsAnswer, WhereCutOff, IsStopped, IsCodePlaced, PartTouches, goes_on_of, with_memory};
 
 use super::call::{A0, A1, A2, A3};
 use super::syscall::Sys;
@@ -83,7 +83,7 @@ fn store_word(machine: &mut Machine, at: u64, word: u64) -> Result<(), MemStop>
     ensures stores { Stores (store machine.old.machine.memory at (bytes_of 8 word)) machine.old.machine.memory machine.new.machine.memory result }
     ensures rest { machine.new ≡ with_memory machine.old machine.new.machine.memory machine.new.allocated }
     ensures pages_kept { (page : ℕ) → IsAllocated machine.old.allocated page → IsAllocated machine.new.allocated page }
-    ensures pages_added { AddsPages machine.old.allocated machine.new.allocated (λ page. IsUnder page at 8) }
+    ensures pages_added { AddsPages machine.old.allocated machine.new.allocated (λ page. ReachesPage page at 8) }
 {
     machine.memory_mut().store(at, Width::B8, word)
 }
@@ -93,7 +93,7 @@ fn store_bytes(machine: &mut Machine, at: u64, bytes: &[u8]) -> Result<(), MemSt
     ensures stores { Stores (stored machine.old.machine.memory at bytes.now) machine.old.machine.memory machine.new.machine.memory result }
     ensures rest { machine.new ≡ with_memory machine.old machine.new.machine.memory machine.new.allocated }
     ensures pages_kept { (page : ℕ) → IsAllocated machine.old.allocated page → IsAllocated machine.new.allocated page }
-    ensures pages_added { AddsPages machine.old.allocated machine.new.allocated (λ page. IsUnder page at (length bytes.now)) }
+    ensures pages_added { AddsPages machine.old.allocated machine.new.allocated (λ page. ReachesPage page at (length bytes.now)) }
     ensures bound { OnOk result (length bytes.now ≤ 2 ^ 38) }
 {
     if bytes.is_empty() {
@@ -181,11 +181,11 @@ fn is_unaligned(at: u64, size: u64) -> bool
 fn place_code(memory: &mut Memory, at: u64, content: &[u8], size: u64) -> Result<(), MemStop>
     requires aligned { at % page_size ≡ 0 }
     requires fits { length content.now ≤ size }
-    ensures placed { IsPlaced result (store memory.old.memory at (content.now ++ replicate (size - length content.now) 0)) at (size / page_size) memory.new.memory }
+    ensures placed { IsCodePlaced result (store memory.old.memory at (content.now ++ replicate (size - length content.now) 0)) at (size / page_size) memory.new.memory }
     ensures bound { OnOk result (size ≤ 2 ^ 38) }
     ensures in_part { OnErr result ((memory.new.memory ≡ memory.old.memory) ⊎ HasBytes memory.old.memory at size memory.new.memory) }
     ensures pages_kept { (page : ℕ) → IsAllocated memory.old.allocated page → IsAllocated memory.new.allocated page }
-    ensures pages_added { AddsPages memory.old.allocated memory.new.allocated (λ page. IsUnder page at (length content.now)) }
+    ensures pages_added { AddsPages memory.old.allocated memory.new.allocated (λ page. ReachesPage page at (length content.now)) }
 {
     if size > MEMORY_SIZE || at > MEMORY_SIZE - size {
         return Err(MemStop::Fault(MemFault::Range));

@@ -1,4 +1,4 @@
-use Rattle.node_store.specs.Node.{IsOn}
+use Rattle.node_store.specs.Node.{StandsOnDisk}
 use Rattle.made_chain.proofs.ImportLemmas.{is-new, opened-chain, new-is-sound, of-told, sound_on}
 use Rattle.made_chain.proofs.counting.open_new.Goals as goal
 
@@ -11,13 +11,13 @@ pub returns-in-Ok-open-clause-sound : goal.returns-in-Ok-open-clause-sound
 returns-in-Ok-open-clause-sound g c =
     let new = is-new c.args.spec.now c.args.genesis.now c.in-Ok.new.specification c.in-Ok.new.genesis _ _ c.in-Ok.ensures.both (c.in-Ok-create.ensures.made c.requires.told) in
     sound_on c.in-Ok-open.node (g.D.Disk.reads_as c.open.new.disk) (g.D.Disk.images c.open.new.disk)
-    (of-told (g.D.Disk.reads_as c.create.new.disk) (IsOn c.in-Ok-open.node (g.D.Disk.reads_as c.open.new.disk) (g.D.Disk.images c.open.new.disk)) _ new.told
+    (of-told (g.D.Disk.reads_as c.create.new.disk) (StandsOnDisk c.in-Ok-open.node (g.D.Disk.reads_as c.open.new.disk) (g.D.Disk.images c.open.new.disk)) _ new.told
     (c.in-Ok-open.ensures.opened.on (new-is-sound c.args.spec.now c.args.genesis.now _ _ new)))
 
 pub returns-in-Ok-open-clause-image : goal.returns-in-Ok-open-clause-image
 returns-in-Ok-open-clause-image g c =
     let new = is-new c.args.spec.now c.args.genesis.now c.in-Ok.new.specification c.in-Ok.new.genesis _ _ c.in-Ok.ensures.both (c.in-Ok-create.ensures.made c.requires.told) in
-    (of-told (g.D.Disk.reads_as c.create.new.disk) (IsOn c.in-Ok-open.node (g.D.Disk.reads_as c.open.new.disk) (g.D.Disk.images c.open.new.disk)) _ new.told
+    (of-told (g.D.Disk.reads_as c.create.new.disk) (StandsOnDisk c.in-Ok-open.node (g.D.Disk.reads_as c.open.new.disk) (g.D.Disk.images c.open.new.disk)) _ new.told
     (c.in-Ok-open.ensures.opened.on (new-is-sound c.args.spec.now c.args.genesis.now _ _ new))).image
 
 pub returns-in-Ok-open-clause-own : goal.returns-in-Ok-open-clause-own

@@ -2,7 +2,7 @@ use Rattle.std.proofs.Common.{ap, subst, length, arith}
 use Rattle.std.specs.Prelude.{Err}
 use Rattle.outside.proofs.Endings.{counts-as, after_still, no_answer}
 use Rattle.verdict_defs.specs.Chain.{Chain}
-use Rattle.node_store.specs.Node.{IsOn}
+use Rattle.node_store.specs.Node.{StandsOnDisk}
 use Rattle.node_store.specs.Steps.{steps_over}
 use Rattle.made_chain.specs.Sessions.{items_in, KeepsPrefix}
 use Rattle.made_chain.proofs.ItemLemmas.{only_told, only_sound, only_keeps, only_opened, only_if_told, told_still, stopped_opening, ends_unopened, same_error}
@@ -13,7 +13,7 @@ import_items-requires-clause-on g c =
     let store = c.requires.store in
     let reads = g.D.Disk.reads_as c.args.disk.now in
     let images = g.D.Disk.images c.args.disk.now in
-    only_if_told store.0 reads images store.1 (IsOn c.in-Ok.node (g.D.Disk.reads_as c.open.new.disk) (g.D.Disk.images c.open.new.disk))
+    only_if_told store.0 reads images store.1 (StandsOnDisk c.in-Ok.node (g.D.Disk.reads_as c.open.new.disk) (g.D.Disk.images c.open.new.disk))
     (c.in-Ok.ensures.opened.on (only_sound store.0 reads images store.1))
 
 pub returns-in-Ok-clause-kept : goal.returns-in-Ok-clause-kept

@@ -3,7 +3,7 @@ use Rattle.std.specs.Prelude.{Option, Some}
 use Rattle.outside.specs.Image.{Image}
 use Rattle.verdict_defs.specs.Chain.{Chain}
 use Rattle.store_defs.specs.Store.{Keeps, store_of}
-use Rattle.run_text.specs.Items.{Gave}
+use Rattle.run_text.specs.Items.{SourceGave}
 use Rattle.outside.proofs.Endings.{no_fault}
 use Rattle.outside.proofs.Streams.{gives_none, takes_none}
 use Rattle.report_defs.specs.declared.command.Command.{Command}
@@ -538,7 +538,7 @@ returns-in-Some-Init-clause-records g c =
 pub returns-in-Some-Import-clause-records : goal.returns-in-Some-Import-clause-records
 returns-in-Some-Import-clause-records g c =
     let is = ap Some (sym c.in-Some-Import.field-0-is) ∙ c.in-Some-Import.ensures.command in
-    λ _. subst (λ (o : Option Command). Gave (g.S.Source.left c.args.input.now) (g.S.Source.left c.import.new.input)
+    λ _. subst (λ (o : Option Command). SourceGave (g.S.Source.left c.args.input.now) (g.S.Source.left c.import.new.input)
     (λ given. (now : Image) (chain : Chain) → g.D.Disk.reads_as c.args.disk.now ≡ Some now → store_of now ≡ Keeps chain
     → KeepsRecords (MayAdd o chain given) now (g.D.Disk.images c.args.disk.now) (g.D.Disk.images c.import.new.disk) (g.D.Disk.left_since c.import.new.disk (g.D.Disk.moment c.args.disk.now)))) is
     c.import.ensures.records
@@ -546,7 +546,7 @@ returns-in-Some-Import-clause-records g c =
 pub returns-in-Some-Query-clause-records : goal.returns-in-Some-Query-clause-records
 returns-in-Some-Query-clause-records g c =
     let is = ap Some (sym c.in-Some-Query.field-0-is) ∙ c.in-Some-Query.ensures.command in
-    λ _. subst (λ (o : Option Command). Gave (g.S.Source.left c.args.input.now) (g.S.Source.left c.args.input.now)
+    λ _. subst (λ (o : Option Command). SourceGave (g.S.Source.left c.args.input.now) (g.S.Source.left c.args.input.now)
     (λ given. (now : Image) (chain : Chain) → g.D.Disk.reads_as c.args.disk.now ≡ Some now → store_of now ≡ Keeps chain
     → KeepsRecords (MayAdd o chain given) now (g.D.Disk.images c.args.disk.now) (g.D.Disk.images c.query.new.disk) (g.D.Disk.left_since c.query.new.disk (g.D.Disk.moment c.args.disk.now)))) is
     ([], gives_none (g.S.Source.left c.args.input.now), c.query.ensures.records)
@@ -554,7 +554,7 @@ returns-in-Some-Query-clause-records g c =
 pub returns-in-Some-Question-clause-records : goal.returns-in-Some-Question-clause-records
 returns-in-Some-Question-clause-records g c =
     let is = ap Some (sym c.in-Some-Question.field-0-is) ∙ c.in-Some-Question.ensures.command in
-    λ _. subst (λ (o : Option Command). Gave (g.S.Source.left c.args.input.now) (g.S.Source.left c.question.new.input)
+    λ _. subst (λ (o : Option Command). SourceGave (g.S.Source.left c.args.input.now) (g.S.Source.left c.question.new.input)
     (λ given. (now : Image) (chain : Chain) → g.D.Disk.reads_as c.args.disk.now ≡ Some now → store_of now ≡ Keeps chain
     → KeepsRecords (MayAdd o chain given) now (g.D.Disk.images c.args.disk.now) (g.D.Disk.images c.question.new.disk) (g.D.Disk.left_since c.question.new.disk (g.D.Disk.moment c.args.disk.now)))) is
     (let answered = c.question.ensures.question in (answered.0, answered.2, c.question.ensures.records))
@@ -653,7 +653,7 @@ returns-in-Some-Migrate-clause-still g c =
 pub returns-in-Some-Migrate-clause-records : goal.returns-in-Some-Migrate-clause-records
 returns-in-Some-Migrate-clause-records g c =
     let is = ap Some (sym c.in-Some-Migrate.field-0-is) ∙ c.in-Some-Migrate.ensures.command in
-    λ _. subst (λ (o : Option Command). Gave (g.S.Source.left c.args.input.now) (g.S.Source.left c.args.input.now)
+    λ _. subst (λ (o : Option Command). SourceGave (g.S.Source.left c.args.input.now) (g.S.Source.left c.args.input.now)
     (λ given. (now : Image) (chain : Chain) → g.D.Disk.reads_as c.args.disk.now ≡ Some now → store_of now ≡ Keeps chain
     → KeepsRecords (MayAdd o chain given) now (g.D.Disk.images c.args.disk.now) (g.D.Disk.images c.migrate.new.disk) (g.D.Disk.left_since c.migrate.new.disk (g.D.Disk.moment c.args.disk.now)))) is
     ([], gives_none (g.S.Source.left c.args.input.now), c.migrate.ensures.records)

@@ -9,7 +9,7 @@ use Rattle.report_defs.specs.declared.status.Status.{Status}
 use Rattle.report_defs.specs.declared.status.Status.TheVariants.{Done, SomeRefused, NoMemory}
 use Rattle.report_defs.specs.Items.{split_of}
 use Rattle.report_defs.specs.Report.{import_limits, closing_of_end, status_of_end}
-use Rattle.node_store.specs.Node.{IsSoundOn, IsOn}
+use Rattle.node_store.specs.Node.{IsSoundWhereTold, StandsOnDisk}
 use Rattle.run_text.specs.Output.{IsWrittenAnswer}
 use Rattle.run_text.specs.Output.{text_over}
 use Rattle.run_text.proofs.Faults.{then_counts, IsNoFault, end_no_fault, told_no_fault, no_input_there, no_disk_there, IsMemory}
@@ -56,7 +56,7 @@ returns-in-Err-import_items-clause-import g c =
       came.1,
       came.2,
       came.3,
-      delivers_over (IsSoundOn c.in-Ok.node (g.D.Disk.reads_as c.open.new.disk)) (Import c.args.watched) reads chain (g.D.Disk.images c.args.disk.now) (g.D.Disk.images c.import_items.new.disk)
+      delivers_over (IsSoundWhereTold c.in-Ok.node (g.D.Disk.reads_as c.open.new.disk)) (Import c.args.watched) reads chain (g.D.Disk.images c.args.disk.now) (g.D.Disk.images c.import_items.new.disk)
           (g.D.Disk.left_since c.import_items.new.disk (g.D.Disk.moment c.args.disk.now)) (g.S.Source.left c.import_items.new.input) came.0 came.1 status (λ store found. found) c.in-Ok.ensures.kept
           (λ store found. found_sound c.in-Ok.node reads (g.D.Disk.reads_as c.open.new.disk) store c.in-Ok.ensures.kept c.in-Ok.ensures.told c.in-Ok.ensures.sound found)
           (report_on c.args.watched chain) (λ whole. refl)
@@ -64,7 +64,7 @@ returns-in-Err-import_items-clause-import g c =
           (keeps_opened c.args.watched reads chain (split_of import_limits came.0).items (g.D.Disk.images c.args.disk.now) (g.D.Disk.images c.import_items.new.disk)
           (g.D.Disk.left_since c.import_items.new.disk (g.D.Disk.moment c.args.disk.now)) came.1 status c.in-Ok.ensures.kept
           (λ now told keeps sound.
-          let on = if_told reads (λ _. IsOn c.in-Ok.node (g.D.Disk.reads_as c.open.new.disk) (g.D.Disk.images c.open.new.disk)) now (c.in-Ok.ensures.on sound) told in
+          let on = if_told reads (λ _. StandsOnDisk c.in-Ok.node (g.D.Disk.reads_as c.open.new.disk) (g.D.Disk.images c.open.new.disk)) now (c.in-Ok.ensures.on sound) told in
           let are = came.4 (sound_on c.in-Ok.node (g.D.Disk.reads_as c.open.new.disk) (g.D.Disk.images c.open.new.disk) on) in
           keeps_given g.D.Disk.images g.D.Disk.moment g.D.Disk.left_since g.met.D.Disk.counts_now c.args.watched c.args.disk.now c.open.new.disk c.import_items.new.disk chain
           are.items are.before are.rest came.0 came.1 status are.are_given
@@ -82,7 +82,7 @@ returns-in-Err-answer_to_end-clause-import g c =
       came.1,
       came.2,
       came.3,
-      delivers_over (IsSoundOn c.in-Ok.node (g.D.Disk.reads_as c.open.new.disk)) (Import c.args.watched) reads chain (g.D.Disk.images c.args.disk.now) (g.D.Disk.images c.import_items.new.disk)
+      delivers_over (IsSoundWhereTold c.in-Ok.node (g.D.Disk.reads_as c.open.new.disk)) (Import c.args.watched) reads chain (g.D.Disk.images c.args.disk.now) (g.D.Disk.images c.import_items.new.disk)
           (g.D.Disk.left_since c.import_items.new.disk (g.D.Disk.moment c.args.disk.now)) left came.0 came.1 NoMemory (λ store found. found) c.in-Ok.ensures.kept
           (λ store found. found_sound c.in-Ok.node reads (g.D.Disk.reads_as c.open.new.disk) store c.in-Ok.ensures.kept c.in-Ok.ensures.told c.in-Ok.ensures.sound found)
           (report_on c.args.watched chain) (λ whole. refl)
@@ -91,7 +91,7 @@ returns-in-Err-answer_to_end-clause-import g c =
           (keeps_opened c.args.watched reads chain (split_of import_limits came.0).items (g.D.Disk.images c.args.disk.now) (g.D.Disk.images c.import_items.new.disk)
           (g.D.Disk.left_since c.import_items.new.disk (g.D.Disk.moment c.args.disk.now)) came.1 NoMemory c.in-Ok.ensures.kept
           (λ now told keeps sound.
-          let on = if_told reads (λ _. IsOn c.in-Ok.node (g.D.Disk.reads_as c.open.new.disk) (g.D.Disk.images c.open.new.disk)) now (c.in-Ok.ensures.on sound) told in
+          let on = if_told reads (λ _. StandsOnDisk c.in-Ok.node (g.D.Disk.reads_as c.open.new.disk) (g.D.Disk.images c.open.new.disk)) now (c.in-Ok.ensures.on sound) told in
           let are = came.4 (sound_on c.in-Ok.node (g.D.Disk.reads_as c.open.new.disk) (g.D.Disk.images c.open.new.disk) on) in
           keeps_all_given g.D.Disk.images g.D.Disk.moment g.D.Disk.left_since g.met.D.Disk.counts_now c.args.watched c.args.disk.now c.open.new.disk c.import_items.new.disk chain
           are.items are.before are.rest came.0 came.1 NoMemory are.are_given are.came.0 [] (are.came.1.lines ∙ sym (append-nil (text_over c.args.watched chain are.items)))
@@ -114,7 +114,7 @@ returns-clause-import g c =
       came.1 ++ told.0,
       came.2,
       takes_more (g.K.Sink.taken c.args.out.now) (g.K.Sink.taken c.import_items.new.out) (g.K.Sink.taken c.write_answer.new.out) came.1 told.0 came.3 told.1,
-      delivers_over (IsSoundOn c.in-Ok.node (g.D.Disk.reads_as c.open.new.disk)) (Import c.args.watched) reads chain (g.D.Disk.images c.args.disk.now) (g.D.Disk.images c.import_items.new.disk)
+      delivers_over (IsSoundWhereTold c.in-Ok.node (g.D.Disk.reads_as c.open.new.disk)) (Import c.args.watched) reads chain (g.D.Disk.images c.args.disk.now) (g.D.Disk.images c.import_items.new.disk)
           (g.D.Disk.left_since c.import_items.new.disk (g.D.Disk.moment c.args.disk.now)) left came.0 (came.1 ++ told.0) c.write_answer.result (λ store found. found) c.in-Ok.ensures.kept
           (λ store found. found_sound c.in-Ok.node reads (g.D.Disk.reads_as c.open.new.disk) store c.in-Ok.ensures.kept c.in-Ok.ensures.told c.in-Ok.ensures.sound found)
           (report_on c.args.watched chain) (λ whole. refl)
@@ -122,7 +122,7 @@ returns-clause-import g c =
           (keeps_opened c.args.watched reads chain (split_of import_limits came.0).items (g.D.Disk.images c.args.disk.now) (g.D.Disk.images c.import_items.new.disk)
           (g.D.Disk.left_since c.import_items.new.disk (g.D.Disk.moment c.args.disk.now)) (came.1 ++ told.0) c.write_answer.result c.in-Ok.ensures.kept
           (λ now known keeps sound.
-          let on = if_told reads (λ _. IsOn c.in-Ok.node (g.D.Disk.reads_as c.open.new.disk) (g.D.Disk.images c.open.new.disk)) now (c.in-Ok.ensures.on sound) known in
+          let on = if_told reads (λ _. StandsOnDisk c.in-Ok.node (g.D.Disk.reads_as c.open.new.disk) (g.D.Disk.images c.open.new.disk)) now (c.in-Ok.ensures.on sound) known in
           let are = came.4 (sound_on c.in-Ok.node (g.D.Disk.reads_as c.open.new.disk) (g.D.Disk.images c.open.new.disk) on) in
           keeps_all_given g.D.Disk.images g.D.Disk.moment g.D.Disk.left_since g.met.D.Disk.counts_now c.args.watched c.args.disk.now c.open.new.disk c.import_items.new.disk chain
           are.items are.before are.rest came.0 (came.1 ++ told.0) c.write_answer.result are.are_given are.came.0 told.0 (ap (λ bs. bs ++ told.0) are.came.1.lines)

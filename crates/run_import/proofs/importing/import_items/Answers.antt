@@ -6,7 +6,7 @@ use Rattle.outside.specs.Disk.{LeavesOnly}
 use Rattle.disk_defs.specs.Log.{Record}
 use Rattle.disk_defs.specs.Rest.{IsSettled}
 use Rattle.outside.proofs.Moments.{leaves_also}
-use Rattle.node_store.specs.Node.{IsSoundOn, IsOn}
+use Rattle.node_store.specs.Node.{IsSoundWhereTold, StandsOnDisk}
 use Rattle.report_defs.specs.declared.status.Status.TheVariants.{InputFault, NoMemory}
 use Rattle.report_defs.specs.Report.{item_limit, input_limit}
 use Rattle.report_defs.specs.Survival.{NoneJoins, AreOfSome, GoesOn}
@@ -33,8 +33,8 @@ pub items-init : goal.items-init
 items-init g c = record {
   whole = (
     whole_none c.args.watched c.args.opened.chain (g.S.Source.left c.args.input.now) (g.K.Sink.taken c.args.out.now)
-        (IsSoundOn c.args.opened (g.D.Disk.reads_as c.args.disk.now)) (IsSoundWatching c.args.watched c.args.opened c.in-Ok.watch (g.D.Disk.reads_as c.args.disk.now))
-        (IsOn c.args.opened (g.D.Disk.reads_as c.args.disk.now) (g.D.Disk.images c.args.disk.now)) (LeavesOnly g.D.Disk.moment g.D.Disk.left_since c.args.disk.now c.args.disk.now)
+        (IsSoundWhereTold c.args.opened (g.D.Disk.reads_as c.args.disk.now)) (IsSoundWatching c.args.watched c.args.opened c.in-Ok.watch (g.D.Disk.reads_as c.args.disk.now))
+        (StandsOnDisk c.args.opened (g.D.Disk.reads_as c.args.disk.now) (g.D.Disk.images c.args.disk.now)) (LeavesOnly g.D.Disk.moment g.D.Disk.left_since c.args.disk.now c.args.disk.now)
         c.args.steps.now (λ sound. record { sound = sound; watching = c.in-Ok.ensures sound.sound.live })
         (leaves_none g.D.Disk.images g.D.Disk.moment g.D.Disk.left_since g.met.D.Disk.counts_now g.met.D.Disk.only_now c.args.disk.now c.args.opened
         (g.D.Disk.reads_as c.args.disk.now)),
@@ -60,8 +60,8 @@ returns-in-Ok-End-clause-imported g c =
     subst (λ (n : Next). IsNext item_limit (Some input_limit) c.items.offset left (Ok n) next.0) c.in-Ok-End.field-0-is next.2 in
     imported_to_end c.args.watched c.args.opened.chain c.items.offset (g.S.Source.left c.args.input.now) (g.S.Source.left c.items.input) (g.S.Source.left c.next_block.new.input)
     (g.K.Sink.taken c.args.out.now) (g.K.Sink.taken c.items.out) c.items.node.chain (record { end = c.in-Ok-End.end; offset = c.items.offset; refused = c.items.refused })
-    (IsSoundOn c.args.opened (g.D.Disk.reads_as c.args.disk.now)) (IsSoundWatching c.args.watched c.items.node c.items.watch (g.D.Disk.reads_as c.items.disk))
-    (IsOn c.args.opened (g.D.Disk.reads_as c.args.disk.now) (g.D.Disk.images c.args.disk.now)) (IsOn c.items.node (g.D.Disk.reads_as c.items.disk) (g.D.Disk.images c.items.disk))
+    (IsSoundWhereTold c.args.opened (g.D.Disk.reads_as c.args.disk.now)) (IsSoundWatching c.args.watched c.items.node c.items.watch (g.D.Disk.reads_as c.items.disk))
+    (StandsOnDisk c.args.opened (g.D.Disk.reads_as c.args.disk.now) (g.D.Disk.images c.args.disk.now)) (StandsOnDisk c.items.node (g.D.Disk.reads_as c.items.disk) (g.D.Disk.images c.items.disk))
     (g.D.Disk.images c.items.disk) (LeavesOnly g.D.Disk.moment g.D.Disk.left_since c.args.disk.now c.items.disk) c.args.steps.now c.items.steps next.0 c.items.invariant.whole.0 next.1 ends.0 ends.1 refl
     (on_stands c.items.node c.items.node.chain (g.D.Disk.reads_as c.items.disk) (g.D.Disk.images c.items.disk) refl)
 
@@ -88,8 +88,8 @@ returns-in-Err-next_block-clause-imported g c =
     let whole = c.items.invariant.whole.0 in
     imported_to_fault c.args.watched c.args.opened.chain c.items.offset (g.S.Source.left c.args.input.now) (g.S.Source.left c.items.input) (g.S.Source.left c.next_block.new.input)
     (g.K.Sink.taken c.args.out.now) (g.K.Sink.taken c.items.out) c.items.node.chain c.items.refused
-    (IsSoundOn c.args.opened (g.D.Disk.reads_as c.args.disk.now)) (IsSoundWatching c.args.watched c.items.node c.items.watch (g.D.Disk.reads_as c.items.disk))
-    (IsOn c.args.opened (g.D.Disk.reads_as c.args.disk.now) (g.D.Disk.images c.args.disk.now)) (IsOn c.items.node (g.D.Disk.reads_as c.items.disk) (g.D.Disk.images c.items.disk))
+    (IsSoundWhereTold c.args.opened (g.D.Disk.reads_as c.args.disk.now)) (IsSoundWatching c.args.watched c.items.node c.items.watch (g.D.Disk.reads_as c.items.disk))
+    (StandsOnDisk c.args.opened (g.D.Disk.reads_as c.args.disk.now) (g.D.Disk.images c.args.disk.now)) (StandsOnDisk c.items.node (g.D.Disk.reads_as c.items.disk) (g.D.Disk.images c.items.disk))
     (g.D.Disk.images c.items.disk) (LeavesOnly g.D.Disk.moment g.D.Disk.left_since c.args.disk.now c.items.disk) c.args.steps.now c.items.steps c.in-Err-next_block.status
     next.0 whole next.1 next.2.0 next.2.1
     (on_stands c.items.node c.items.node.chain (g.D.Disk.reads_as c.items.disk) (g.D.Disk.images c.items.disk) refl)
@@ -106,8 +106,8 @@ returns-in-Err-import_item-clause-imported g c =
     subst (λ bytes. IsItemAt item_limit (Some input_limit) c.items.offset bytes next.0) (sym c.deref.ensures.value) found in
     imported_to_line c.args.watched c.args.opened.chain c.items.offset (g.S.Source.left c.args.input.now) (g.S.Source.left c.items.input) (g.S.Source.left c.next_block.new.input)
     (g.K.Sink.taken c.args.out.now) (g.K.Sink.taken c.items.out) (g.K.Sink.taken c.import_item.new.out) c.items.node.chain c.items.refused
-    (IsSoundOn c.args.opened (g.D.Disk.reads_as c.args.disk.now)) (IsSoundWatching c.args.watched c.items.node c.items.watch (g.D.Disk.reads_as c.items.disk))
-    (IsOn c.args.opened (g.D.Disk.reads_as c.args.disk.now) (g.D.Disk.images c.args.disk.now)) (IsOn c.items.node (g.D.Disk.reads_as c.items.disk) (g.D.Disk.images c.items.disk))
+    (IsSoundWhereTold c.args.opened (g.D.Disk.reads_as c.args.disk.now)) (IsSoundWatching c.args.watched c.items.node c.items.watch (g.D.Disk.reads_as c.items.disk))
+    (StandsOnDisk c.args.opened (g.D.Disk.reads_as c.args.disk.now) (g.D.Disk.images c.args.disk.now)) (StandsOnDisk c.items.node (g.D.Disk.reads_as c.items.disk) (g.D.Disk.images c.items.disk))
     (g.D.Disk.images c.import_item.new.disk) (LeavesOnly g.D.Disk.moment g.D.Disk.left_since c.args.disk.now c.items.disk) (LeavesOnly g.D.Disk.moment g.D.Disk.left_since c.args.disk.now c.import_item.new.disk)
     c.args.steps.now c.items.steps c.in-Err-import_item.status c.deref.result.now next.0 written.0 whole at next.1 written.1 (written.2 c.args.watched)
     (λ sound on. exit_of_item g.D.Disk.images g.D.Disk.moment g.D.Disk.left_since g.met.D.Disk.counts_now c.items.disk c.import_item.new.disk c.args.opened.chain c.items.node.chain
@@ -204,9 +204,9 @@ items-preserved g c =
     ] in
     let more = whole_more c.args.watched c.args.opened.chain c.items.offset (g.S.Source.left c.args.input.now) (g.S.Source.left c.items.input) (g.S.Source.left c.next_block.new.input)
     (g.K.Sink.taken c.args.out.now) (g.K.Sink.taken c.items.out) (g.K.Sink.taken c.import_item.new.out) c.items.node.chain c.in-Ok-import_item.answer.0.chain c.items.refused
-    (IsSoundOn c.args.opened (g.D.Disk.reads_as c.args.disk.now)) (IsSoundWatching c.args.watched c.items.node c.items.watch (g.D.Disk.reads_as c.items.disk)) (IsSoundWatching c.args.watched c.in-Ok-import_item.answer.0 c.in-Ok-import_item.answer.1 (g.D.Disk.reads_as c.import_item.new.disk))
-    (IsOn c.args.opened (g.D.Disk.reads_as c.args.disk.now) (g.D.Disk.images c.args.disk.now)) (IsOn c.items.node (g.D.Disk.reads_as c.items.disk) (g.D.Disk.images c.items.disk))
-    (IsOn c.in-Ok-import_item.answer.0 (g.D.Disk.reads_as c.import_item.new.disk) (g.D.Disk.images c.import_item.new.disk)) (LeavesOnly g.D.Disk.moment g.D.Disk.left_since c.args.disk.now c.items.disk)
+    (IsSoundWhereTold c.args.opened (g.D.Disk.reads_as c.args.disk.now)) (IsSoundWatching c.args.watched c.items.node c.items.watch (g.D.Disk.reads_as c.items.disk)) (IsSoundWatching c.args.watched c.in-Ok-import_item.answer.0 c.in-Ok-import_item.answer.1 (g.D.Disk.reads_as c.import_item.new.disk))
+    (StandsOnDisk c.args.opened (g.D.Disk.reads_as c.args.disk.now) (g.D.Disk.images c.args.disk.now)) (StandsOnDisk c.items.node (g.D.Disk.reads_as c.items.disk) (g.D.Disk.images c.items.disk))
+    (StandsOnDisk c.in-Ok-import_item.answer.0 (g.D.Disk.reads_as c.import_item.new.disk) (g.D.Disk.images c.import_item.new.disk)) (LeavesOnly g.D.Disk.moment g.D.Disk.left_since c.args.disk.now c.items.disk)
     (LeavesOnly g.D.Disk.moment g.D.Disk.left_since c.args.disk.now c.import_item.new.disk) c.args.steps.now c.items.steps c.import_item.new.steps item next.0 written.0 c.in-Ok-import_item.answer.2 c.len.result c.if-refused.refused size any
     whole at next.1 written.1 (λ is. c.in-Ok-import_item.ensures.imported.verdict is.sound) (λ is. c.in-Ok-import_item.ensures.imported.kept is.sound)
     (written.2 c.args.watched)
@@ -248,8 +248,8 @@ returns-in-Ok-End-clause-steps g c =
     subst (λ (n : Next). IsNext item_limit (Some input_limit) c.items.offset left (Ok n) next.0) c.in-Ok-End.field-0-is next.2 in
     counted_to_part c.args.watched c.args.opened.chain c.items.offset (g.S.Source.left c.args.input.now) (g.S.Source.left c.items.input) (g.S.Source.left c.next_block.new.input)
     (g.K.Sink.taken c.args.out.now) (g.K.Sink.taken c.items.out) c.items.node.chain c.items.refused
-    (IsSoundOn c.args.opened (g.D.Disk.reads_as c.args.disk.now)) (IsSoundWatching c.args.watched c.items.node c.items.watch (g.D.Disk.reads_as c.items.disk))
-    (IsOn c.args.opened (g.D.Disk.reads_as c.args.disk.now) (g.D.Disk.images c.args.disk.now)) (IsOn c.items.node (g.D.Disk.reads_as c.items.disk) (g.D.Disk.images c.items.disk))
+    (IsSoundWhereTold c.args.opened (g.D.Disk.reads_as c.args.disk.now)) (IsSoundWatching c.args.watched c.items.node c.items.watch (g.D.Disk.reads_as c.items.disk))
+    (StandsOnDisk c.args.opened (g.D.Disk.reads_as c.args.disk.now) (g.D.Disk.images c.args.disk.now)) (StandsOnDisk c.items.node (g.D.Disk.reads_as c.items.disk) (g.D.Disk.images c.items.disk))
     (LeavesOnly g.D.Disk.moment g.D.Disk.left_since c.args.disk.now c.items.disk) c.args.steps.now c.items.steps c.items.invariant.whole.0 next.0 next.1 ends.1
 
 pub returns-in-Err-next_block-clause-steps : goal.returns-in-Err-next_block-clause-steps
@@ -257,8 +257,8 @@ returns-in-Err-next_block-clause-steps g c =
     let next = c.in-Err-next_block.ensures.next in
     counted_to_stop c.args.watched c.args.opened.chain c.items.offset (g.S.Source.left c.args.input.now) (g.S.Source.left c.items.input) (g.S.Source.left c.next_block.new.input)
     (g.K.Sink.taken c.args.out.now) (g.K.Sink.taken c.items.out) c.items.node.chain c.items.refused
-    (IsSoundOn c.args.opened (g.D.Disk.reads_as c.args.disk.now)) (IsSoundWatching c.args.watched c.items.node c.items.watch (g.D.Disk.reads_as c.items.disk))
-    (IsOn c.args.opened (g.D.Disk.reads_as c.args.disk.now) (g.D.Disk.images c.args.disk.now)) (IsOn c.items.node (g.D.Disk.reads_as c.items.disk) (g.D.Disk.images c.items.disk))
+    (IsSoundWhereTold c.args.opened (g.D.Disk.reads_as c.args.disk.now)) (IsSoundWatching c.args.watched c.items.node c.items.watch (g.D.Disk.reads_as c.items.disk))
+    (StandsOnDisk c.args.opened (g.D.Disk.reads_as c.args.disk.now) (g.D.Disk.images c.args.disk.now)) (StandsOnDisk c.items.node (g.D.Disk.reads_as c.items.disk) (g.D.Disk.images c.items.disk))
     (LeavesOnly g.D.Disk.moment g.D.Disk.left_since c.args.disk.now c.items.disk) c.args.steps.now c.items.steps c.items.invariant.whole.0 next.0 next.1 next.2.1
 
 pub returns-in-Err-import_item-clause-steps : goal.returns-in-Err-import_item-clause-steps
@@ -270,8 +270,8 @@ returns-in-Err-import_item-clause-steps g c =
     subst (λ bytes. IsItemAt item_limit (Some input_limit) c.items.offset bytes next.0) (sym c.deref.ensures.value) found in
     counted_to_item c.args.watched c.args.opened.chain c.items.offset (g.S.Source.left c.args.input.now) (g.S.Source.left c.items.input) (g.S.Source.left c.next_block.new.input)
     (g.K.Sink.taken c.args.out.now) (g.K.Sink.taken c.items.out) c.items.node.chain c.items.refused
-    (IsSoundOn c.args.opened (g.D.Disk.reads_as c.args.disk.now)) (IsSoundWatching c.args.watched c.items.node c.items.watch (g.D.Disk.reads_as c.items.disk))
-    (IsOn c.args.opened (g.D.Disk.reads_as c.args.disk.now) (g.D.Disk.images c.args.disk.now)) (IsOn c.items.node (g.D.Disk.reads_as c.items.disk) (g.D.Disk.images c.items.disk))
+    (IsSoundWhereTold c.args.opened (g.D.Disk.reads_as c.args.disk.now)) (IsSoundWatching c.args.watched c.items.node c.items.watch (g.D.Disk.reads_as c.items.disk))
+    (StandsOnDisk c.args.opened (g.D.Disk.reads_as c.args.disk.now) (g.D.Disk.images c.args.disk.now)) (StandsOnDisk c.items.node (g.D.Disk.reads_as c.items.disk) (g.D.Disk.images c.items.disk))
     (LeavesOnly g.D.Disk.moment g.D.Disk.left_since c.args.disk.now c.items.disk) c.args.steps.now c.items.steps c.items.invariant.whole.0 c.import_item.new.steps c.deref.result.now next.0 at next.1 c.import_item.ensures.most
 
 pub returns-in-Ok-End-clause-told : goal.returns-in-Ok-End-clause-told
@@ -291,20 +291,20 @@ returns-in-Ok-End-clause-still g c =
     subst (λ (n : Next). IsNext item_limit (Some input_limit) c.items.offset left (Ok n) next.0) c.in-Ok-End.field-0-is next.2 in
     part_also c.args.watched c.args.opened.chain c.items.offset (g.S.Source.left c.args.input.now) (g.S.Source.left c.items.input) (g.S.Source.left c.next_block.new.input)
     (g.K.Sink.taken c.args.out.now) (g.K.Sink.taken c.items.out) c.items.node.chain c.items.refused
-    (IsSoundOn c.args.opened (g.D.Disk.reads_as c.args.disk.now)) (IsSoundWatching c.args.watched c.items.node c.items.watch (g.D.Disk.reads_as c.items.disk))
-    (IsOn c.args.opened (g.D.Disk.reads_as c.args.disk.now) (g.D.Disk.images c.args.disk.now)) (IsOn c.items.node (g.D.Disk.reads_as c.items.disk) (g.D.Disk.images c.items.disk))
+    (IsSoundWhereTold c.args.opened (g.D.Disk.reads_as c.args.disk.now)) (IsSoundWatching c.args.watched c.items.node c.items.watch (g.D.Disk.reads_as c.items.disk))
+    (StandsOnDisk c.args.opened (g.D.Disk.reads_as c.args.disk.now) (g.D.Disk.images c.args.disk.now)) (StandsOnDisk c.items.node (g.D.Disk.reads_as c.items.disk) (g.D.Disk.images c.items.disk))
     (LeavesOnly g.D.Disk.moment g.D.Disk.left_since c.args.disk.now c.items.disk) c.args.steps.now c.items.steps c.items.invariant.whole.0
-    (λ xs. IsSoundOn c.args.opened (g.D.Disk.reads_as c.args.disk.now) → NoneJoins c.args.opened.chain xs → g.D.Disk.content_of c.items.disk ≡ g.D.Disk.content_of c.args.disk.now) c.items.invariant.whole.1 next.0 next.1 ends.1
+    (λ xs. IsSoundWhereTold c.args.opened (g.D.Disk.reads_as c.args.disk.now) → NoneJoins c.args.opened.chain xs → g.D.Disk.content_of c.items.disk ≡ g.D.Disk.content_of c.args.disk.now) c.items.invariant.whole.1 next.0 next.1 ends.1
 
 pub returns-in-Err-next_block-clause-still : goal.returns-in-Err-next_block-clause-still
 returns-in-Err-next_block-clause-still g c =
     let next = c.in-Err-next_block.ensures.next in
     stop_also c.args.watched c.args.opened.chain c.items.offset (g.S.Source.left c.args.input.now) (g.S.Source.left c.items.input) (g.S.Source.left c.next_block.new.input)
     (g.K.Sink.taken c.args.out.now) (g.K.Sink.taken c.items.out) c.items.node.chain c.items.refused
-    (IsSoundOn c.args.opened (g.D.Disk.reads_as c.args.disk.now)) (IsSoundWatching c.args.watched c.items.node c.items.watch (g.D.Disk.reads_as c.items.disk))
-    (IsOn c.args.opened (g.D.Disk.reads_as c.args.disk.now) (g.D.Disk.images c.args.disk.now)) (IsOn c.items.node (g.D.Disk.reads_as c.items.disk) (g.D.Disk.images c.items.disk))
+    (IsSoundWhereTold c.args.opened (g.D.Disk.reads_as c.args.disk.now)) (IsSoundWatching c.args.watched c.items.node c.items.watch (g.D.Disk.reads_as c.items.disk))
+    (StandsOnDisk c.args.opened (g.D.Disk.reads_as c.args.disk.now) (g.D.Disk.images c.args.disk.now)) (StandsOnDisk c.items.node (g.D.Disk.reads_as c.items.disk) (g.D.Disk.images c.items.disk))
     (LeavesOnly g.D.Disk.moment g.D.Disk.left_since c.args.disk.now c.items.disk) c.args.steps.now c.items.steps c.items.invariant.whole.0
-    (λ xs. IsSoundOn c.args.opened (g.D.Disk.reads_as c.args.disk.now) → NoneJoins c.args.opened.chain xs → g.D.Disk.content_of c.items.disk ≡ g.D.Disk.content_of c.args.disk.now) c.items.invariant.whole.1 next.0 next.1
+    (λ xs. IsSoundWhereTold c.args.opened (g.D.Disk.reads_as c.args.disk.now) → NoneJoins c.args.opened.chain xs → g.D.Disk.content_of c.items.disk ≡ g.D.Disk.content_of c.args.disk.now) c.items.invariant.whole.1 next.0 next.1
     (λ sound none. c.items.invariant.whole.1 sound (none-push c.args.opened.chain c.items.invariant.whole.0.items next.0 none).0) next.2.1
 
 pub returns-in-Err-import_item-clause-still : goal.returns-in-Err-import_item-clause-still
@@ -317,10 +317,10 @@ returns-in-Err-import_item-clause-still g c =
     let whole = c.items.invariant.whole.0 in
     item_also c.args.watched c.args.opened.chain c.items.offset (g.S.Source.left c.args.input.now) (g.S.Source.left c.items.input) (g.S.Source.left c.next_block.new.input)
     (g.K.Sink.taken c.args.out.now) (g.K.Sink.taken c.items.out) c.items.node.chain c.items.refused
-    (IsSoundOn c.args.opened (g.D.Disk.reads_as c.args.disk.now)) (IsSoundWatching c.args.watched c.items.node c.items.watch (g.D.Disk.reads_as c.items.disk))
-    (IsOn c.args.opened (g.D.Disk.reads_as c.args.disk.now) (g.D.Disk.images c.args.disk.now)) (IsOn c.items.node (g.D.Disk.reads_as c.items.disk) (g.D.Disk.images c.items.disk))
+    (IsSoundWhereTold c.args.opened (g.D.Disk.reads_as c.args.disk.now)) (IsSoundWatching c.args.watched c.items.node c.items.watch (g.D.Disk.reads_as c.items.disk))
+    (StandsOnDisk c.args.opened (g.D.Disk.reads_as c.args.disk.now) (g.D.Disk.images c.args.disk.now)) (StandsOnDisk c.items.node (g.D.Disk.reads_as c.items.disk) (g.D.Disk.images c.items.disk))
     (LeavesOnly g.D.Disk.moment g.D.Disk.left_since c.args.disk.now c.items.disk) c.args.steps.now c.items.steps c.items.invariant.whole.0
-    (λ xs. IsSoundOn c.args.opened (g.D.Disk.reads_as c.args.disk.now) → NoneJoins c.args.opened.chain xs → g.D.Disk.content_of c.import_item.new.disk ≡ g.D.Disk.content_of c.args.disk.now) c.deref.result.now next.0 at next.1
+    (λ xs. IsSoundWhereTold c.args.opened (g.D.Disk.reads_as c.args.disk.now) → NoneJoins c.args.opened.chain xs → g.D.Disk.content_of c.import_item.new.disk ≡ g.D.Disk.content_of c.args.disk.now) c.deref.result.now next.0 at next.1
     (λ sound none.
     let parts = none-push c.args.opened.chain whole.items c.deref.result.now none in
     c.in-Err-import_item.ensures.still (whole.sound sound).sound (stays_there c.args.opened.chain c.items.node.chain whole.items c.deref.result.now (whole.kept_now sound) parts.1)
@@ -334,8 +334,8 @@ returns-in-Ok-End-clause-records g c =
     subst (λ (n : Next). IsNext item_limit (Some input_limit) c.items.offset left (Ok n) next.0) c.in-Ok-End.field-0-is next.2 in
     part_also c.args.watched c.args.opened.chain c.items.offset (g.S.Source.left c.args.input.now) (g.S.Source.left c.items.input) (g.S.Source.left c.next_block.new.input)
     (g.K.Sink.taken c.args.out.now) (g.K.Sink.taken c.items.out) c.items.node.chain c.items.refused
-    (IsSoundOn c.args.opened (g.D.Disk.reads_as c.args.disk.now)) (IsSoundWatching c.args.watched c.items.node c.items.watch (g.D.Disk.reads_as c.items.disk))
-    (IsOn c.args.opened (g.D.Disk.reads_as c.args.disk.now) (g.D.Disk.images c.args.disk.now)) (IsOn c.items.node (g.D.Disk.reads_as c.items.disk) (g.D.Disk.images c.items.disk))
+    (IsSoundWhereTold c.args.opened (g.D.Disk.reads_as c.args.disk.now)) (IsSoundWatching c.args.watched c.items.node c.items.watch (g.D.Disk.reads_as c.items.disk))
+    (StandsOnDisk c.args.opened (g.D.Disk.reads_as c.args.disk.now) (g.D.Disk.images c.args.disk.now)) (StandsOnDisk c.items.node (g.D.Disk.reads_as c.items.disk) (g.D.Disk.images c.items.disk))
     (LeavesOnly g.D.Disk.moment g.D.Disk.left_since c.args.disk.now c.items.disk) c.args.steps.now c.items.steps c.items.invariant.whole.0
     (λ xs. (records : List Record) → IsSettled c.args.opened.place records (g.D.Disk.reads_as c.args.disk.now) (g.D.Disk.images c.args.disk.now)
     → LeavesOnly g.D.Disk.moment g.D.Disk.left_since c.args.disk.now c.items.disk (λ image. GoesOn (AreOfSome xs) records image.log))
@@ -346,8 +346,8 @@ returns-in-Err-next_block-clause-records g c =
     let next = c.in-Err-next_block.ensures.next in
     stop_also c.args.watched c.args.opened.chain c.items.offset (g.S.Source.left c.args.input.now) (g.S.Source.left c.items.input) (g.S.Source.left c.next_block.new.input)
     (g.K.Sink.taken c.args.out.now) (g.K.Sink.taken c.items.out) c.items.node.chain c.items.refused
-    (IsSoundOn c.args.opened (g.D.Disk.reads_as c.args.disk.now)) (IsSoundWatching c.args.watched c.items.node c.items.watch (g.D.Disk.reads_as c.items.disk))
-    (IsOn c.args.opened (g.D.Disk.reads_as c.args.disk.now) (g.D.Disk.images c.args.disk.now)) (IsOn c.items.node (g.D.Disk.reads_as c.items.disk) (g.D.Disk.images c.items.disk))
+    (IsSoundWhereTold c.args.opened (g.D.Disk.reads_as c.args.disk.now)) (IsSoundWatching c.args.watched c.items.node c.items.watch (g.D.Disk.reads_as c.items.disk))
+    (StandsOnDisk c.args.opened (g.D.Disk.reads_as c.args.disk.now) (g.D.Disk.images c.args.disk.now)) (StandsOnDisk c.items.node (g.D.Disk.reads_as c.items.disk) (g.D.Disk.images c.items.disk))
     (LeavesOnly g.D.Disk.moment g.D.Disk.left_since c.args.disk.now c.items.disk) c.args.steps.now c.items.steps c.items.invariant.whole.0
     (λ xs. (records : List Record) → IsSettled c.args.opened.place records (g.D.Disk.reads_as c.args.disk.now) (g.D.Disk.images c.args.disk.now)
     → LeavesOnly g.D.Disk.moment g.D.Disk.left_since c.args.disk.now c.items.disk (λ image. GoesOn (AreOfSome xs) records image.log))
@@ -365,8 +365,8 @@ returns-in-Err-import_item-clause-records g c =
     subst (λ bytes. IsItemAt item_limit (Some input_limit) c.items.offset bytes next.0) (sym c.deref.ensures.value) found in
     item_also c.args.watched c.args.opened.chain c.items.offset (g.S.Source.left c.args.input.now) (g.S.Source.left c.items.input) (g.S.Source.left c.next_block.new.input)
     (g.K.Sink.taken c.args.out.now) (g.K.Sink.taken c.items.out) c.items.node.chain c.items.refused
-    (IsSoundOn c.args.opened (g.D.Disk.reads_as c.args.disk.now)) (IsSoundWatching c.args.watched c.items.node c.items.watch (g.D.Disk.reads_as c.items.disk))
-    (IsOn c.args.opened (g.D.Disk.reads_as c.args.disk.now) (g.D.Disk.images c.args.disk.now)) (IsOn c.items.node (g.D.Disk.reads_as c.items.disk) (g.D.Disk.images c.items.disk))
+    (IsSoundWhereTold c.args.opened (g.D.Disk.reads_as c.args.disk.now)) (IsSoundWatching c.args.watched c.items.node c.items.watch (g.D.Disk.reads_as c.items.disk))
+    (StandsOnDisk c.args.opened (g.D.Disk.reads_as c.args.disk.now) (g.D.Disk.images c.args.disk.now)) (StandsOnDisk c.items.node (g.D.Disk.reads_as c.items.disk) (g.D.Disk.images c.items.disk))
     (LeavesOnly g.D.Disk.moment g.D.Disk.left_since c.args.disk.now c.items.disk) c.args.steps.now c.items.steps c.items.invariant.whole.0
     (λ xs. (records : List Record) → IsSettled c.args.opened.place records (g.D.Disk.reads_as c.args.disk.now) (g.D.Disk.images c.args.disk.now)
     → LeavesOnly g.D.Disk.moment g.D.Disk.left_since c.args.disk.now c.import_item.new.disk (λ image. GoesOn (AreOfSome xs) records image.log))
@@ -382,12 +382,12 @@ pub returns-in-Err-clause-imported : goal.returns-in-Err-clause-imported
 returns-in-Err-clause-imported g c =
     imported_to_fault c.args.watched c.args.opened.chain 0 (g.S.Source.left c.args.input.now) (g.S.Source.left c.args.input.now) (g.S.Source.left c.args.input.now)
     (g.K.Sink.taken c.args.out.now) (g.K.Sink.taken c.args.out.now) c.args.opened.chain false
-    (IsSoundOn c.args.opened (g.D.Disk.reads_as c.args.disk.now)) (IsSoundOn c.args.opened (g.D.Disk.reads_as c.args.disk.now))
-    (IsOn c.args.opened (g.D.Disk.reads_as c.args.disk.now) (g.D.Disk.images c.args.disk.now)) (IsOn c.args.opened (g.D.Disk.reads_as c.args.disk.now) (g.D.Disk.images c.args.disk.now))
+    (IsSoundWhereTold c.args.opened (g.D.Disk.reads_as c.args.disk.now)) (IsSoundWhereTold c.args.opened (g.D.Disk.reads_as c.args.disk.now))
+    (StandsOnDisk c.args.opened (g.D.Disk.reads_as c.args.disk.now) (g.D.Disk.images c.args.disk.now)) (StandsOnDisk c.args.opened (g.D.Disk.reads_as c.args.disk.now) (g.D.Disk.images c.args.disk.now))
     (g.D.Disk.images c.args.disk.now) (LeavesOnly g.D.Disk.moment g.D.Disk.left_since c.args.disk.now c.args.disk.now) c.args.steps.now c.args.steps.now NoMemory []
     (whole_none c.args.watched c.args.opened.chain (g.S.Source.left c.args.input.now) (g.K.Sink.taken c.args.out.now)
-    (IsSoundOn c.args.opened (g.D.Disk.reads_as c.args.disk.now)) (IsSoundOn c.args.opened (g.D.Disk.reads_as c.args.disk.now))
-    (IsOn c.args.opened (g.D.Disk.reads_as c.args.disk.now) (g.D.Disk.images c.args.disk.now)) (LeavesOnly g.D.Disk.moment g.D.Disk.left_since c.args.disk.now c.args.disk.now)
+    (IsSoundWhereTold c.args.opened (g.D.Disk.reads_as c.args.disk.now)) (IsSoundWhereTold c.args.opened (g.D.Disk.reads_as c.args.disk.now))
+    (StandsOnDisk c.args.opened (g.D.Disk.reads_as c.args.disk.now) (g.D.Disk.images c.args.disk.now)) (LeavesOnly g.D.Disk.moment g.D.Disk.left_since c.args.disk.now c.args.disk.now)
     c.args.steps.now (λ sound. sound)
     (leaves_none g.D.Disk.images g.D.Disk.moment g.D.Disk.left_since g.met.D.Disk.counts_now g.met.D.Disk.only_now c.args.disk.now c.args.opened
     (g.D.Disk.reads_as c.args.disk.now)))
@@ -414,12 +414,12 @@ pub returns-in-Err-clause-steps : goal.returns-in-Err-clause-steps
 returns-in-Err-clause-steps g c =
     counted_to_part c.args.watched c.args.opened.chain 0 (g.S.Source.left c.args.input.now) (g.S.Source.left c.args.input.now) (g.S.Source.left c.args.input.now)
     (g.K.Sink.taken c.args.out.now) (g.K.Sink.taken c.args.out.now) c.args.opened.chain false
-    (IsSoundOn c.args.opened (g.D.Disk.reads_as c.args.disk.now)) (IsSoundOn c.args.opened (g.D.Disk.reads_as c.args.disk.now))
-    (IsOn c.args.opened (g.D.Disk.reads_as c.args.disk.now) (g.D.Disk.images c.args.disk.now)) (IsOn c.args.opened (g.D.Disk.reads_as c.args.disk.now) (g.D.Disk.images c.args.disk.now))
+    (IsSoundWhereTold c.args.opened (g.D.Disk.reads_as c.args.disk.now)) (IsSoundWhereTold c.args.opened (g.D.Disk.reads_as c.args.disk.now))
+    (StandsOnDisk c.args.opened (g.D.Disk.reads_as c.args.disk.now) (g.D.Disk.images c.args.disk.now)) (StandsOnDisk c.args.opened (g.D.Disk.reads_as c.args.disk.now) (g.D.Disk.images c.args.disk.now))
     (LeavesOnly g.D.Disk.moment g.D.Disk.left_since c.args.disk.now c.args.disk.now) c.args.steps.now c.args.steps.now
     (whole_none c.args.watched c.args.opened.chain (g.S.Source.left c.args.input.now) (g.K.Sink.taken c.args.out.now)
-    (IsSoundOn c.args.opened (g.D.Disk.reads_as c.args.disk.now)) (IsSoundOn c.args.opened (g.D.Disk.reads_as c.args.disk.now))
-    (IsOn c.args.opened (g.D.Disk.reads_as c.args.disk.now) (g.D.Disk.images c.args.disk.now)) (LeavesOnly g.D.Disk.moment g.D.Disk.left_since c.args.disk.now c.args.disk.now)
+    (IsSoundWhereTold c.args.opened (g.D.Disk.reads_as c.args.disk.now)) (IsSoundWhereTold c.args.opened (g.D.Disk.reads_as c.args.disk.now))
+    (StandsOnDisk c.args.opened (g.D.Disk.reads_as c.args.disk.now) (g.D.Disk.images c.args.disk.now)) (LeavesOnly g.D.Disk.moment g.D.Disk.left_since c.args.disk.now c.args.disk.now)
     c.args.steps.now (λ sound. sound)
     (leaves_none g.D.Disk.images g.D.Disk.moment g.D.Disk.left_since g.met.D.Disk.counts_now g.met.D.Disk.only_now c.args.disk.now c.args.opened
     (g.D.Disk.reads_as c.args.disk.now)))
@@ -429,28 +429,28 @@ pub returns-in-Err-clause-still : goal.returns-in-Err-clause-still
 returns-in-Err-clause-still g c =
     part_also c.args.watched c.args.opened.chain 0 (g.S.Source.left c.args.input.now) (g.S.Source.left c.args.input.now) (g.S.Source.left c.args.input.now)
     (g.K.Sink.taken c.args.out.now) (g.K.Sink.taken c.args.out.now) c.args.opened.chain false
-    (IsSoundOn c.args.opened (g.D.Disk.reads_as c.args.disk.now)) (IsSoundOn c.args.opened (g.D.Disk.reads_as c.args.disk.now))
-    (IsOn c.args.opened (g.D.Disk.reads_as c.args.disk.now) (g.D.Disk.images c.args.disk.now)) (IsOn c.args.opened (g.D.Disk.reads_as c.args.disk.now) (g.D.Disk.images c.args.disk.now))
+    (IsSoundWhereTold c.args.opened (g.D.Disk.reads_as c.args.disk.now)) (IsSoundWhereTold c.args.opened (g.D.Disk.reads_as c.args.disk.now))
+    (StandsOnDisk c.args.opened (g.D.Disk.reads_as c.args.disk.now) (g.D.Disk.images c.args.disk.now)) (StandsOnDisk c.args.opened (g.D.Disk.reads_as c.args.disk.now) (g.D.Disk.images c.args.disk.now))
     (LeavesOnly g.D.Disk.moment g.D.Disk.left_since c.args.disk.now c.args.disk.now) c.args.steps.now c.args.steps.now
     (whole_none c.args.watched c.args.opened.chain (g.S.Source.left c.args.input.now) (g.K.Sink.taken c.args.out.now)
-    (IsSoundOn c.args.opened (g.D.Disk.reads_as c.args.disk.now)) (IsSoundOn c.args.opened (g.D.Disk.reads_as c.args.disk.now))
-    (IsOn c.args.opened (g.D.Disk.reads_as c.args.disk.now) (g.D.Disk.images c.args.disk.now)) (LeavesOnly g.D.Disk.moment g.D.Disk.left_since c.args.disk.now c.args.disk.now)
+    (IsSoundWhereTold c.args.opened (g.D.Disk.reads_as c.args.disk.now)) (IsSoundWhereTold c.args.opened (g.D.Disk.reads_as c.args.disk.now))
+    (StandsOnDisk c.args.opened (g.D.Disk.reads_as c.args.disk.now) (g.D.Disk.images c.args.disk.now)) (LeavesOnly g.D.Disk.moment g.D.Disk.left_since c.args.disk.now c.args.disk.now)
     c.args.steps.now (λ sound. sound)
     (leaves_none g.D.Disk.images g.D.Disk.moment g.D.Disk.left_since g.met.D.Disk.counts_now g.met.D.Disk.only_now c.args.disk.now c.args.opened
     (g.D.Disk.reads_as c.args.disk.now)))
-    (λ xs. IsSoundOn c.args.opened (g.D.Disk.reads_as c.args.disk.now) → NoneJoins c.args.opened.chain xs → g.D.Disk.content_of c.args.disk.now ≡ g.D.Disk.content_of c.args.disk.now)
+    (λ xs. IsSoundWhereTold c.args.opened (g.D.Disk.reads_as c.args.disk.now) → NoneJoins c.args.opened.chain xs → g.D.Disk.content_of c.args.disk.now ≡ g.D.Disk.content_of c.args.disk.now)
     (λ sound none. refl) [] (gives_none (g.S.Source.left c.args.input.now)) (few_partial item_limit (Some input_limit) 0 [] (omega arith))
 
 pub returns-in-Err-clause-records : goal.returns-in-Err-clause-records
 returns-in-Err-clause-records g c =
     part_also c.args.watched c.args.opened.chain 0 (g.S.Source.left c.args.input.now) (g.S.Source.left c.args.input.now) (g.S.Source.left c.args.input.now)
     (g.K.Sink.taken c.args.out.now) (g.K.Sink.taken c.args.out.now) c.args.opened.chain false
-    (IsSoundOn c.args.opened (g.D.Disk.reads_as c.args.disk.now)) (IsSoundOn c.args.opened (g.D.Disk.reads_as c.args.disk.now))
-    (IsOn c.args.opened (g.D.Disk.reads_as c.args.disk.now) (g.D.Disk.images c.args.disk.now)) (IsOn c.args.opened (g.D.Disk.reads_as c.args.disk.now) (g.D.Disk.images c.args.disk.now))
+    (IsSoundWhereTold c.args.opened (g.D.Disk.reads_as c.args.disk.now)) (IsSoundWhereTold c.args.opened (g.D.Disk.reads_as c.args.disk.now))
+    (StandsOnDisk c.args.opened (g.D.Disk.reads_as c.args.disk.now) (g.D.Disk.images c.args.disk.now)) (StandsOnDisk c.args.opened (g.D.Disk.reads_as c.args.disk.now) (g.D.Disk.images c.args.disk.now))
     (LeavesOnly g.D.Disk.moment g.D.Disk.left_since c.args.disk.now c.args.disk.now) c.args.steps.now c.args.steps.now
     (whole_none c.args.watched c.args.opened.chain (g.S.Source.left c.args.input.now) (g.K.Sink.taken c.args.out.now)
-    (IsSoundOn c.args.opened (g.D.Disk.reads_as c.args.disk.now)) (IsSoundOn c.args.opened (g.D.Disk.reads_as c.args.disk.now))
-    (IsOn c.args.opened (g.D.Disk.reads_as c.args.disk.now) (g.D.Disk.images c.args.disk.now)) (LeavesOnly g.D.Disk.moment g.D.Disk.left_since c.args.disk.now c.args.disk.now)
+    (IsSoundWhereTold c.args.opened (g.D.Disk.reads_as c.args.disk.now)) (IsSoundWhereTold c.args.opened (g.D.Disk.reads_as c.args.disk.now))
+    (StandsOnDisk c.args.opened (g.D.Disk.reads_as c.args.disk.now) (g.D.Disk.images c.args.disk.now)) (LeavesOnly g.D.Disk.moment g.D.Disk.left_since c.args.disk.now c.args.disk.now)
     c.args.steps.now (λ sound. sound)
     (leaves_none g.D.Disk.images g.D.Disk.moment g.D.Disk.left_since g.met.D.Disk.counts_now g.met.D.Disk.only_now c.args.disk.now c.args.opened
     (g.D.Disk.reads_as c.args.disk.now)))

@@ -2,8 +2,8 @@ use Rattle.std.proofs.Common.{List, ap, sym, subst}
 use Rattle.std.proofs.lemmas.Result.{IfOk-weaker}
 use Rattle.chain_defs.specs.Schema.{Block}
 use Rattle.chain_tree.specs.Told.{blocks_of}
-use Rattle.cell_index.specs.Index.{StandsFor}
-use Rattle.rewards.specs.Reading.{ComesTo}
+use Rattle.cell_index.specs.Index.{IndexesBranch}
+use Rattle.rewards.specs.Reading.{YieldsUndamaged}
 use Rattle.node_store.specs.Kept.{KeptValue}
 use Rattle.node_store.proofs.EntryLemmas.{within-entries}
 use Rattle.node_store.proofs.KeptSources.{told-stored, counts-entries}
@@ -34,10 +34,10 @@ returns-clause-followed g c tells stands =
     let told = told-stored c.kept.inside.spec stored c.kept.inside.tree.entries c.args.kept.now _ c.kept.view_is tells in
     let way = way-there c.kept.inside.spec stored c.kept.inside.tree.entries c.kept.inside.uncles c.args.kept.now c.kept.view_is
     c.kept.invariant c.args.from c.tip.result tells.joined in
-    let here = subst (λ (blocks : List Block). StandsFor blocks c.args.from c.args.index) (sym seen) stands in
-    subst (λ (blocks : List Block). ComesTo (StandsForTip blocks) c.follow.result) seen
+    let here = subst (λ (blocks : List Block). IndexesBranch blocks c.args.from c.args.index) (sym seen) stands in
+    subst (λ (blocks : List Block). YieldsUndamaged (StandsForTip blocks) c.follow.result) seen
     (comes-to (StandsForTip (blocks_of stored)) c.follow.result
-    (IfOk-weaker c.follow.result (StandsFor (blocks_of stored) c.tip.result) (StandsForTip (blocks_of stored))
+    (IfOk-weaker c.follow.result (IndexesBranch (blocks_of stored) c.tip.result) (StandsForTip (blocks_of stored))
     (λ index has. record { tip = c.tip.result; is_tip = c.tip.ensures.of_blocks (blocks_of stored) c.kept.invariant.indexed; stands = has })
     (c.follow.ensures.stands stored told c.kept.invariant.indexed way here))
     (c.follow.ensures.undamaged stored told c.kept.invariant.indexed way here))

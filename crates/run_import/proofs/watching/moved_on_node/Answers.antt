@@ -1,7 +1,7 @@
 use Rattle.std.proofs.Common.{◌≡◌, sym, subst}
-use Rattle.cell_index.specs.Index.{StandsFor}
-use Rattle.rewards.specs.Reading.{ComesTo}
-use Rattle.node_store.specs.Node.{NodeValue, IsSoundOn}
+use Rattle.cell_index.specs.Index.{IndexesBranch}
+use Rattle.rewards.specs.Reading.{YieldsUndamaged}
+use Rattle.node_store.specs.Node.{NodeValue, IsSoundWhereTold}
 use Rattle.node_store.proofs.RecordedLemmas.{read-here, leaves-all}
 use Rattle.run_import.specs.Watching.{StandsForTip}
 use Rattle.run_import.proofs.watching.moved_on_node.Goals as goal
@@ -19,7 +19,7 @@ returns-clause-left g c =
 
 pub returns-clause-followed : goal.returns-clause-followed
 returns-clause-followed g c = λ sound stands.
-    let on = subst (λ (node : NodeValue). IsSoundOn node (g.D.Disk.reads_as c.args.disk.now)) (sym c.node.view_is) sound in
-    subst (λ (node : NodeValue). ComesTo (StandsForTip node.chain.blocks) c.moved_on_disk.result) c.node.view_is
+    let on = subst (λ (node : NodeValue). IsSoundWhereTold node (g.D.Disk.reads_as c.args.disk.now)) (sym c.node.view_is) sound in
+    subst (λ (node : NodeValue). YieldsUndamaged (StandsForTip node.chain.blocks) c.moved_on_disk.result) c.node.view_is
     (c.moved_on_disk.ensures.followed on.told on.sound.joined
-    (subst (λ (node : NodeValue). StandsFor node.chain.blocks c.args.from c.args.index) (sym c.node.view_is) stands))
+    (subst (λ (node : NodeValue). IndexesBranch node.chain.blocks c.args.from c.args.index) (sym c.node.view_is) stands))

@@ -7,7 +7,7 @@ use Rattle.outside.proofs.Streams.{takes_none}
 use Rattle.disk_defs.specs.Log.{records_of}
 use Rattle.disk_defs.specs.Rest.{IsSettled}
 use Rattle.store_defs.specs.Store.{Keeps, store_of}
-use Rattle.node_store.specs.Node.{IsOn}
+use Rattle.node_store.specs.Node.{StandsOnDisk}
 use Rattle.report_defs.specs.declared.command.Command.TheVariants.{Migrate}
 use Rattle.report_defs.specs.Report.{report_of_migration}
 use Rattle.report_defs.specs.Survival.{IsOfEdition}
@@ -78,7 +78,7 @@ returns-in-Ok-clause-migration g c =
           (moves_opened c.args.epoch reads node.chain (g.D.Disk.images c.args.disk.now) (g.D.Disk.images c.move_and_answer.new.disk)
           (g.D.Disk.left_since c.move_and_answer.new.disk (g.D.Disk.moment c.args.disk.now)) said.0 c.move_and_answer.result c.in-Ok.ensures.kept
           (λ now told keeps sound.
-          let on = if_told reads (λ _. IsOn node (g.D.Disk.reads_as c.open.new.disk) (g.D.Disk.images c.open.new.disk)) now (c.in-Ok.ensures.on sound) told in
+          let on = if_told reads (λ _. StandsOnDisk node (g.D.Disk.reads_as c.open.new.disk) (g.D.Disk.images c.open.new.disk)) now (c.in-Ok.ensures.on sound) told in
           moves_moved g.D.Disk.images g.D.Disk.moment g.D.Disk.left_since g.met.D.Disk.counts_now c.args.disk.now c.open.new.disk c.move_and_answer.new.disk
           c.args.epoch node.chain said.0 c.move_and_answer.result (c.in-Ok.ensures.moments now node.chain told keeps sound)
           (c.move_and_answer.ensures.moved on) (c.move_and_answer.ensures.moments on))),

@@ -5,7 +5,7 @@ use Rattle.verdict_defs.specs.Chain.{verdict_over}
 use Rattle.verdict_defs.specs.Verdict.{joins}
 use Rattle.pool_defs.specs.Assembly.{assembled}
 use Rattle.tx_pool.specs.Assembling.{IsAssembled}
-use Rattle.node_store.specs.Node.{NodeValue, IsSoundOn}
+use Rattle.node_store.specs.Node.{NodeValue, IsSoundWhereTold}
 use Rattle.node_store.proofs.RecordedLemmas.{read-here, leaves-all}
 use Rattle.run_question.proofs.assembling.assemble.Goals as goal
 
@@ -22,22 +22,22 @@ returns-clause-left g c =
 
 pub returns-clause-assembled : goal.returns-clause-assembled
 returns-clause-assembled g c = λ sound.
-    let on = subst (λ (node : NodeValue). IsSoundOn node (g.D.Disk.reads_as c.args.disk.now)) (sym c.node.view_is) sound in
+    let on = subst (λ (node : NodeValue). IsSoundWhereTold node (g.D.Disk.reads_as c.args.disk.now)) (sym c.node.view_is) sound in
     subst (λ (node : NodeValue). IfOk c.assemble.result (IsAssembled (assembled node.chain c.args.witness.now (map (λ item. item.items) c.args.items.now)))) c.node.view_is
     (c.assemble.ensures.assembled on.told on.sound.joined on.sound.live)
 
 pub returns-clause-joins : goal.returns-clause-joins
 returns-clause-joins g c = λ sound room.
-    let on = subst (λ (node : NodeValue). IsSoundOn node (g.D.Disk.reads_as c.args.disk.now)) (sym c.node.view_is) sound in
+    let on = subst (λ (node : NodeValue). IsSoundWhereTold node (g.D.Disk.reads_as c.args.disk.now)) (sym c.node.view_is) sound in
     subst (λ (node : NodeValue). IfOk c.assemble.result (λ made. made.broken ≡ None → joins (verdict_over node.chain made.block.items) ≡ true)) c.node.view_is
     (c.assemble.ensures.joins on.told on.sound.joined on.sound.live (subst (λ (node : NodeValue). length node.chain.blocks < kept_limit) (sym c.node.view_is) room))
 
 pub returns-clause-breaks_few : goal.returns-clause-breaks_few
 returns-clause-breaks_few g c = λ sound.
-    let on = subst (λ (node : NodeValue). IsSoundOn node (g.D.Disk.reads_as c.args.disk.now)) (sym c.node.view_is) sound in
+    let on = subst (λ (node : NodeValue). IsSoundWhereTold node (g.D.Disk.reads_as c.args.disk.now)) (sym c.node.view_is) sound in
     c.assemble.ensures.breaks_few on.told on.sound.joined on.sound.live
 
 pub returns-clause-undamaged : goal.returns-clause-undamaged
 returns-clause-undamaged g c = λ sound.
-    let on = subst (λ (node : NodeValue). IsSoundOn node (g.D.Disk.reads_as c.args.disk.now)) (sym c.node.view_is) sound in
+    let on = subst (λ (node : NodeValue). IsSoundWhereTold node (g.D.Disk.reads_as c.args.disk.now)) (sym c.node.view_is) sound in
     c.assemble.ensures.undamaged on.told on.sound.joined on.sound.live

@@ -3,7 +3,7 @@ use Rattle.std.specs.Prelude.{Err, IfSome}
 use Rattle.outside.specs.declared.disk.Area.TheVariants.{Log}
 use Rattle.node_store.proofs.KeepingLemmas.{known_as_before}
 use Rattle.outside.proofs.Endings.{no_fault, counts-as, no_answer}
-use Rattle.log_file.specs.Stops.{OfDamage}
+use Rattle.log_file.specs.Stops.{IfDamage}
 use Rattle.store_defs.specs.Store.{IsSound}
 use Rattle.report_defs.specs.Status.{IsOneOf}
 use Rattle.run_text.specs.Store.{opening_stops}
@@ -72,7 +72,7 @@ returns-in-Err-clause-settled g c = tt
 pub returns-in-Err-clause-not_a_store : goal.returns-in-Err-clause-not_a_store
 returns-in-Err-clause-not_a_store g c = λ e.
     let found = c.status_of_opening.ensures.none.0 (same_stop _ _ e) in
-    subst (OfDamage (λ _. IfSome (g.D.Disk.reads_as c.args.disk.now) (λ now. IsSound now → ⊥))) found.1 c.in-Err.ensures.not_a_store
+    subst (IfDamage (λ _. IfSome (g.D.Disk.reads_as c.args.disk.now) (λ now. IsSound now → ⊥))) found.1 c.in-Err.ensures.not_a_store
 
 pub returns-in-Ok-clause-kept : goal.returns-in-Ok-clause-kept
 returns-in-Ok-clause-kept g c = c.in-Ok.ensures.opened.kept

@@ -8,7 +8,7 @@ use Rattle.run_text.specs.Items.{IsReadingStop, IsItemAt}
 use Rattle.run_text.specs.declared.whole.Whole.{Whole}
 use Rattle.run_text.specs.Whole.{IsReadWhole, whole_at}
 use Rattle.run_text.proofs.FurtherLemmas.{items_no_further}
-use Rattle.run_text.proofs.WholeLemmas.{HasRead, count_of, next_limit, has_read_more, offset_fits, read_at, ends_behind, stopped_before}
+use Rattle.run_text.proofs.WholeLemmas.{HasReadItems, count_of, next_limit, has_read_more, offset_fits, read_at, ends_behind, stopped_before}
 use Rattle.run_text.proofs.whole.read_whole.Goals as goal
 
 pub returns-in-Ok-End-clause-read : goal.returns-in-Ok-End-clause-read
@@ -78,12 +78,12 @@ items-preserved g c =
     let size : length item.items ≡ c.len-in-items.result = omega (arith, c.len-in-items.ensures, item.ok) in
     let grown : map (λ (v : Vec ℕ Global). v.items) c.push.new.self.items ≡ items ++ item.items ∷ [] =
     ap (map (λ (v : Vec ℕ Global). v.items)) c.in-Ok.ensures.items ∙ map-append (λ (v : Vec ℕ Global). v.items) vectors (item ∷ []) in
-    let more : HasRead limits old left (items ++ item.items ∷ []) (c.items.offset + length item.items) =
+    let more : HasReadItems limits old left (items ++ item.items ∷ []) (c.items.offset + length item.items) =
     has_read_more limits old (g.S.Source.left c.items.input) left items item.items found.0 c.items.offset (get_or limits i 0) read
     (next_limit limits vectors i c.items.invariant.count c.items-test.true) next found.1 in
     record {
-      read = subst (λ (them : List (List ℕ)). HasRead limits old left them (c.items.offset + c.len-in-items.result)) (sym grown)
-          (subst (λ (n : ℕ). HasRead limits old left (items ++ item.items ∷ []) (c.items.offset + n)) size more);
+      read = subst (λ (them : List (List ℕ)). HasReadItems limits old left them (c.items.offset + c.len-in-items.result)) (sym grown)
+          (subst (λ (n : ℕ). HasReadItems limits old left (items ++ item.items ∷ []) (c.items.offset + n)) size more);
       count = ap length c.in-Ok.ensures.items ∙ length_push vectors item ∙ ap (λ (n : ℕ). n + 1) c.items.invariant.count;
       fits = offset_fits limits i c.items.offset c.len-in-items.result c.items-test.true c.items.invariant.fits (omega (arith, size, next.is_item.most));
       unchanged = c.in-Ok-Item.ensures.faults.unchanged (λ e. cc) ∙ c.items.invariant.unchanged;

@@ -2,7 +2,7 @@ use Rattle.std.proofs.Common.{◌≡◌, ◌<◌, ◌+◌, ◌^◌, ◌++◌, �
 use Rattle.std.specs.Str.{bytes_eq}
 use Rattle.std.specs.HashMap.{get}
 use Rattle.chain_tree.specs.declared.entry.Entry.{Entry}
-use Rattle.chain_tree.specs.Entries.{TreeValue, place_of_hash, FollowsParent, IsAncestor, IsTop}
+use Rattle.chain_tree.specs.Entries.{TreeValue, place_of_hash, FollowsParent, IsAncestor, IsTipEntry}
 use Rattle.chain_tree.proofs.EntryLemmas.{there-within}
 use Rattle.chain_tree.proofs.IndexLemmas.{IsIndexed-push}
 use Rattle.chain_tree.proofs.BlockLemmas.{IndexesBlocks-push}
@@ -37,7 +37,7 @@ invariant_of-self c =
           (ap (λ (es : List Entry). place_of_hash es c.args.entry.hash) seen ∙ c.requires.new) place
           (rw c.unwrap.ensures at c.insert-added.ensures.updates).0
           (subst (λ (es : List Entry). IsAncestor es c.args.entry.parent c.jump_over-jump.result) c.deref.ensures.value c.jump_over-jump.ensures.up)
-          (subst (λ (es : List Entry). IsTop (es ++ c.args.entry ∷ []) c.tip_after-self-inside.result) c.deref-3.ensures.value c.tip_after-self-inside.ensures)),
+          (subst (λ (es : List Entry). IsTipEntry (es ++ c.args.entry ∷ []) c.tip_after-self-inside.result) c.deref-3.ensures.value c.tip_after-self-inside.ensures)),
       omega (arith, c.push_reserved.ensures.len, c.push_reserved.ensures.capacity, c.push_reserved.new.self.ok, old.entries.ok, c.self.invariant.1, some),
       omega (arith, c.push_reserved-2.ensures.len, c.push_reserved-2.ensures.capacity, c.push_reserved-2.new.self.ok, old.jumps.ok, c.self.invariant.2, some),
       omega (arith, c.insert-added.ensures.spare, c.self.invariant.3, some),
