@@ -150,10 +150,13 @@ BENCHES = {
                   [Figure('peak memory of `import` and of `tip`, 500 blocks of 597,000 bytes', of_peak)]),
     'cells': Bench(['cells.py'], 'tx_vectors', False, [], True),
     'queries': Bench(['queries.py'], 'ckbdev', True, []),
+    'index': Bench(['index.py'], 'ckbdev', True, []),
     'snapshots': Bench(['snapshots.py'], 'ckbdev', True, []),
     'json_text': Bench(['json_text.py'], 'rule_vectors', False, [], True),
     'start': Bench(['start.py'], 'machine_vectors', True, []),
     'hostile': Bench(['hostile.py'], 'ckbdev', True, []),
+    'ids': Bench(['ids.py'], 'ckbdev', True, []),
+    'named': Bench(['named.py', '--only', 'headers'], 'ckbdev', True, []),
 }
 
 

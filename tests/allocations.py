@@ -1,4 +1,4 @@
-"""Runs of the program in which one allocation is refused, each in its turn."""
+"""Runs of the program in which one allocation is refused, each in its turn, and runs whose allocations are counted."""
 
 import contextlib
 import os
@@ -6,11 +6,12 @@ import shutil
 import subprocess
 import sys
 
-from harness import FIRST_INIT, FIRST_LINE, Ran, first, must, must_answer, must_be, must_have_tip, new_folder, new_store
+from harness import FIRST_INIT, FIRST_LINE, Ran, chaingen, first, must, must_answer, must_be, must_have_tip, new_folder, new_store
 sys.path.insert(0, os.path.join(os.path.dirname(os.path.abspath(__file__)), 'rows'))
 import assembled_runs  # noqa: E402 (beside the path above)
 import assembling  # noqa: E402
 import branch_runs  # noqa: E402
+import store_model  # noqa: E402
 import stream_faults  # noqa: E402
 
 # Stands before the C library's allocations. It refuses the one whose number REFUSED gives, and at the end writes to the
@@ -39,6 +40,9 @@ void *realloc(void *p, size_t n) { return refuses() ? NULL : __libc_realloc(p, n
 void *aligned_alloc(size_t to, size_t n) { return refuses() ? NULL : __libc_memalign(to, n); }
 int posix_memalign(void **p, size_t to, size_t n) { return refuses() || !(*p = __libc_memalign(to, n)) ? 12 : 0; }
 '''
+# The live cells of the stores whose allocations are compared, the blocks that come, and the least of allocations that an index
+# of so many cells more takes more. A block that makes or spends a cell may split or join a node of the index or two.
+FEW, MANY, BLOCKS, LEAST_MORE, MOST_OF_A_CELL = 1000, 9000, 24, 500, 8
 # The status of a run without memory. What an adapter lacks is a fault of its stream or of the disk.
 WITHOUT_MEMORY = 3, 4, 5, 6
 
@@ -65,6 +69,15 @@ class Runs:
     def run(self, folder, words, given, number, count):
         environment = dict(os.environ, LD_PRELOAD=self.library, REFUSED=str(number), COUNT=count)
         return Ran([self.program, folder] + words, given, env=environment)
+
+    def asked(self, folder, words, given, text):
+        """How many allocations a run asks for, over a copy of a store."""
+        with new_folder() as top:
+            count, copy = os.path.join(top, 'count'), os.path.join(top, 'store')
+            shutil.copytree(folder, copy)
+            must_answer(self.run(copy, words, given, -1, count), 0, text, words[0])
+            with open(count, encoding='utf-8') as f:
+                return int(f.read())
 
     def must_bear(self, store, words, given, status, text, again, what):
         """`again` is the text of the same run once more, by whether this one answered the first of its lines and so on."""
@@ -149,3 +162,36 @@ def check_each_allocation_of_assemble_refused(program):
 
 def lines_of(lines):
     return ''.join(it + '\n' for it in lines).encode()
+
+
+
+# --------------------------------------------------- a lock that is watched
+
+def following(runs, cells, plain):
+    """What `watch` asks for more than `import`: for the index of so many live cells, and then for the blocks."""
+    spec, genesis, blocks, _, _ = chaingen.make(1, BLOCKS, plain=plain, far=BLOCKS, cells=cells)
+    chain, lock = store_model.Chain(spec, genesis, blocks), chaingen.ckbhash(chaingen.LOCK)
+    lines = [chain.line(b'joined', at) for at in range(1, BLOCKS + 1)]
+    watched = [b'%s balance %d %d\n' % (line[:-1], *balance) for line, balance in zip(lines, chain.balances(lock)[1:])]
+    must(any(chain.parents[at] != chain.tip(at - 1) and chain.tip(at) == at for at in range(1, BLOCKS + 1)), 'no block is detached')
+    words = ['import'], ['watch', '0x' + lock.hex()]
+    with new_store(runs.program, spec + genesis, b'genesis 0x%s\n' % chain.hashes[0].hex().encode()) as store:
+        made, all_of = ([runs.asked(store, it, given, b''.join(text)) for it, text in zip(words, texts)]
+                        for given, texts in ((b'', ([], [])), (b''.join(blocks), (lines, watched))))
+    return made[1] - made[0], (all_of[1] - made[1]) - (all_of[0] - made[0])
+
+
+def check_watch_follows(program):
+    """The index is made once, and then follows the tip, across blocks that are detached too: what it asks for at blocks that make
+    and spend no cell is the same over few live cells and over many, and at others nearly so. An index that were made anew
+    would ask for as much again at each block."""
+    with shim() as library:
+        if not library or Ran([program], env=dict(os.environ, LD_PRELOAD=library)).err:
+            return
+        runs = Runs(program, library)
+        for plain in (True, False):
+            (made_of_few, of_few), (made_of_many, of_many) = (following(runs, cells, plain) for cells in (FEW, MANY))
+            must(made_of_many - made_of_few >= LEAST_MORE, 'an index of more cells asks for %d and for %d' % (made_of_few, made_of_many))
+            must(of_few >= BLOCKS, 'following asks for %d' % of_few)
+            apart = 0 if plain else MOST_OF_A_CELL * BLOCKS
+            must(abs(of_many - of_few) <= apart, '%d blocks ask for %d over few live cells, and for %d over many' % (BLOCKS, of_few, of_many))

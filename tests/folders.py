@@ -373,6 +373,10 @@ class Killed:
         self.must_be_right(0, ran.out)
         must_be(self.count, len(self.chain.blocks), 'blocks that are kept in the end')
         must_have_tip(self.program, self.folder, self.chain.tip(self.count), 'the last import')
+        self.must_be_left()
+
+    def must_be_left(self):
+        """All blocks in a row."""
         must(log_of(self.folder).startswith(log_with(self.chain.init, self.chain.blocks)), 'the log is another')
 
 

@@ -1,4 +1,5 @@
-"""`ckbjson` over the items of examples/: their texts beside a writer in plain Python, their hashes, words and streams."""
+"""`ckbjson` over the items of examples/: their texts beside a writer in plain Python, hashes, what is said of wrong texts, words and
+streams."""
 
 import functools
 import json
@@ -9,8 +10,19 @@ import sys
 import block_json
 from harness import TOP, Ran, contract, first, must, must_answer, must_be, new_folder
 from encoding import ckbhash, fields_of
+import make_store
+
+sys.path.append(os.path.join(TOP, 'tests', 'rows'))
+import wrong_texts  # noqa: E402 (beside the path above)
 
 INPUT_LIMIT = 1 << 24
+# the numbers of a specification in the order of its bytes
+BY_PLACE = ('compact_target', 'epoch_length', 'w_close', 'w_far', 'max_block_bytes', 'max_proposals', 'max_cycles', 'maturity',
+            'primary_reward', 'secondary_reward', 'halving_interval')
+
+
+# the greatest numbers, which no store takes
+OTHER_SPEC = make_store.Spec(*((1 << 8 * size) - 1 for size in make_store.Spec.SIZES), bytes(range(32)))
 
 
 @functools.lru_cache(None)
@@ -37,6 +49,16 @@ def witness_tree(b):
     return {'lock': block_json.script(lock), 'message': block_json.text(message[4:])}
 
 
+def spec_tree(b):
+    """The fields of a specification, of which docs/RULES.md has the places."""
+    names, at, tree = list(wrong_texts.WANTED['spec'][1]), 4, {}
+    for name, size in zip(BY_PLACE, make_store.Spec.SIZES):
+        tree[name] = hex(int.from_bytes(b[at:at + size], 'little'))
+        at += size
+    tree['dao_code_hash'] = block_json.text(b[at:])
+    return {name: tree[name] for name in names}
+
+
 @functools.lru_cache(None)
 def items():
     """(the kind, the bytes, the tree) of each block and of its parts, each once."""
@@ -52,6 +74,8 @@ def items():
             held = fields_of(witnesses)[:1]
             if place == 0 and held and len(held[0]) > 16:
                 found['witness', held[0][4:]] = witness_tree(held[0][4:])
+    for spec in (first.SPEC, contract.SPEC, OTHER_SPEC):
+        found['spec', spec.item()] = spec_tree(spec.item())
     return [(kind, item, tree) for (kind, item), tree in found.items()]
 
 
@@ -75,7 +99,7 @@ def must_refuse(words, given, line):
 def check_json_items(_):
     """Each item is shown as its text, and read from it, also with spaces and line feeds."""
     kinds = {kind for kind, _, _ in items()}
-    must_be(kinds, {'block', 'transaction', 'script', 'witness'}, 'what the samples hold')
+    must_be(kinds, {'block', 'transaction', 'script', 'witness', 'spec'}, 'what the samples hold')
     for kind, item, tree in items():
         must_answer(Ran([converter(), kind, '--show'], item), 0, compact(tree) + b'\n', kind)
         for given in (compact(tree), json.dumps(tree, indent=1).encode()):
@@ -98,16 +122,34 @@ def check_json_refused(_):
         for other in samples:
             if other != kind:
                 must_refuse([other, '--show'], item, b'ckbjson: no bytes of a %s\n' % other.encode())
-                must_refuse([other], compact(tree), b'ckbjson: no text of a %s\n' % other.encode())
+                must_refuse([other], compact(tree), wrong_texts.said_of(other, compact(tree)).encode())
         must_refuse([kind, '--show'], item[:-1], b'ckbjson: no bytes of a %s\n' % kind.encode())
         must_refuse([kind, '--show'], b'', b'ckbjson: no bytes of a %s\n' % kind.encode())
+
+
+def check_json_wrong_texts(_):
+    """What is said of each text that is refused, beside a reader in plain Python."""
+    rows = wrong_texts.rows()
+    must(len(rows) >= 200, 'there are %d wrong texts' % len(rows))
+    for kind, given, line in rows:
+        must_refuse([kind], given, line.encode())
+
+
+def check_json_maturity(_):
+    """Epochs by hand: the number, the index and the length of the value, each in its bits."""
+    tree = spec_tree(first.SPEC.item())
+    for text, value in (('0', 0), ('4', 4), ('16777215', 0xffffff), ('1 1/3', 1 | 1 << 24 | 3 << 40), ('0 0/1', 1 << 40), ('4 0/1', 4 | 1 << 40),
+                        ('16777215 65534/65535', 0xffffff | 65534 << 24 | 65535 << 40), ('0x4', 4), ('0xFFFFFFFFFFFFFFFF', (1 << 64) - 1)):
+        item = first.changed(first.SPEC, maturity=value).item()
+        must_answer(Ran([converter(), 'spec'], compact({**tree, 'maturity': text})), 0, item, 'maturity ' + text)
 
 
 def check_json_words_and_streams(_):
     """Words outside the grammar read and write nothing; a stream that fails has its status."""
     kind, item, tree = next(it for it in items() if it[0] == 'transaction')
     for words in ([], [''], ['Block'], ['transactions'], ['--show'], ['--show', 'block'], ['block', 'show'], ['block', '--show', ''],
-                  ['id', '--show'], ['id', 'block'], ['block', 'block']):
+                  ['id', '--show'], ['id', 'block'], ['block', 'block'], ['specification'],
+                  ['block', '--Show']):
         ran = Ran([converter(), *words], item)
         must_be((ran.status, ran.out, ran.read), (2, b'', 0), repr(words))
     must_be(Ran([converter(), 'id'], bytes(INPUT_LIMIT + 1)).status, 12, 'an input that is too long')
@@ -123,13 +165,17 @@ def check_json_document(_):
     """What docs/COMMANDS.md shows of hashes is what comes, by the script."""
     with open(os.path.join(TOP, 'docs', 'COMMANDS.md'), encoding='utf-8') as f:
         part = f.read().split('\n## JSON and bytes\n')[1].split('\n## ')[0]
-    command, *wanted = [line[4:] for line in part.splitlines() if line.startswith('    ')][3:]
+    shown = [line[4:] for line in part.splitlines() if line.startswith('    ')][3:]
+    command, wanted = shown[0], shown[1:5]
     # the script has a build to run
     converter()
     with new_folder() as away:
         for name in ('ckbjson', 'examples'):
             os.symlink(os.path.join(TOP, name), os.path.join(away, name))
         must_answer(Ran(['sh', '-c', './' + command], cwd=away), 0, ''.join(line + '\n' for line in wanted).encode(), command)
+        wrong, line = shown[5:]
+        ran = Ran(['sh', '-c', wrong.replace('ckbjson', './ckbjson')], cwd=away)
+        must_be((ran.status, ran.out, ran.err), (1, b'', line.encode() + b'\n'), wrong)
     with open(os.path.join(TOP, 'examples', 'transfer.bin'), 'rb') as f:
         must_be(lines_of_hashes('transaction', f.read()).decode().splitlines(), wanted, 'the hashes in docs/COMMANDS.md')
 

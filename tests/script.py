@@ -17,6 +17,7 @@ from harness import (CONTRACT_LINE, FIRST_INIT, FIRST_LINE, SCRIPT, SECONDS, TOP
                      contract, first, line_of, must, must_answer, must_be, must_have_tip, new_folder, new_store,
                      started, status_of, write)
 from assembling import assembled_on, contract_chain
+from json_program import converter
 from making import contract_cell_line, live_line, mined_on_page
 from streams import BAD_WORDS
 
@@ -73,7 +74,8 @@ def check_script_explains_statuses(_):
         must_tell(['other', 'import'], 7, b'', 'something else')
         must_tell(['other/log.bin', 'tip'], 5, b'', "is no folder")
         must_answer(Ran([SCRIPT, 'store', 'init'], FIRST_INIT, cwd=away), 0, FIRST_LINE, 'init')
-        must_tell(['store', 'init'], 10, b'', 'has a store', FIRST_INIT)
+        for taken in ('store', 'other'):
+            must_tell([taken, 'init'], 10, b'', "the folder '%s' has a log.bin already" % taken, FIRST_INIT)
         with open(os.path.join(away, 'store', 'log.bin'), 'rb') as log:
             fcntl.flock(log, fcntl.LOCK_EX)
             must_tell(['store', 'tip'], 5, b'', "another run has the folder 'store'", env=impatient(away))
@@ -87,6 +89,10 @@ def check_script_explains_statuses(_):
         must(ran.stderr.startswith(b'ckbdev: status 4: '), 'a full standard output is not named')
         block, lines = items[0][0], text.splitlines(keepends=True)
         must_tell(['store', 'import'], 8, lines[0] + b'cut %d\n' % len(block), 'inside an item', block + block[:9])
+        # the block that joined stands in epoch 0
+        must_tell(['store', 'migrate', '0'], 13, b'too early 0\n', 'the tip has reached the epoch that the line names')
+        must_answer(Ran([SCRIPT, 'store', 'migrate', '1'], cwd=away), 0, b'edition 1\n', 'an edition')
+        must_tell(['store', 'migrate', '7'], 14, b'edition 1\n', 'the store has an edition, which the line names')
         must_tell(['store', 'import'], 9, b'bad size 0\n', 'the size at the start', b'\3\0\0\0')
         must_tell(['store', 'import'], 9, b'bad size 0\n', "begins as JSON does, and ckbdev 'store' unjson", b'{"header":{}}')
         must_tell(['empty', 'exec', '5'], 12, b'extra 1048576\n', 'bytes follow', bytes((1 << 20) + 1))
@@ -336,6 +342,7 @@ def check_script_says_what_is_wrong_with_words(_):
 ANSWERS = r'''#!/bin/sh
 case $2 in
     exec) exec cat ;;
+    check) read line; case $line in refused*) echo "$line"; exit 1 ;; ok*) echo "$line" ;; *) exit 9 ;; esac ;;
     tip) flock -n "$1/log.bin" sleep 0.1 || exit 5 ;;
     epoch) echo >"$1/begun"; while [ ! -e "$1/go" ]; do sleep 0.01; done; exit 5 ;;
     *) exit 9 ;;
@@ -423,6 +430,21 @@ def check_script_explains_lines_of_exec(_):
         parts = f.read().splitlines()
     for part in ('A step', 'Building a program', 'A program as an ELF file'):
         must('## ' + part in parts, 'docs/MACHINE.md has no part %r' % part)
+
+
+def check_script_explains_refused_transactions(_):
+    """After the line of `check` where to look, once, and the status of the program."""
+    refused = 'ckbdev: refused J%d: docs/RULES.md has what breaks J%d, and what to look at first ("A block")\n'
+    with new_folder() as top:
+        it = Answering(top)
+        for line, status, said in (('ok 10000 505', 0, ''), ('refused J1', 1, refused % (1, 1)), ('refused J29', 1, refused % (29, 29))):
+            for piped in (False, True):
+                ran = it.ran(['check'], line.encode() + b'\n', piped)
+                must_be((ran.status, ran.out.decode(), ran.err.decode()), (status, line + '\n', said), line)
+        both = Ran(['sh', '-c', 'exec "$@" 2>&1', '', it.at('ckbdev'), 'any', 'check'], b'refused J20\n', cwd=it.at('elsewhere'))
+        must_be((both.out.decode(), both.status), ('refused J20\n' + refused % (20, 20), 1), 'the line, and then where to look')
+    with open(os.path.join(TOP, 'docs', 'RULES.md'), encoding='utf-8') as f:
+        must('## A block' in f.read().splitlines(), "docs/RULES.md has no part 'A block'")
 
 
 def check_script_names_json(_):
@@ -703,6 +725,8 @@ def check_readme(_):
         ('./ckbdev chain unjson < own.json > own.bin', 0, b''),
         ('cat examples/spec.bin own.bin | ./ckbdev own init', 0, (first.genesis_line(own) + '\n').encode()),
         ('./ckbdev own json 1', 0, b'none\n'),
+        ('./ckbjson spec --show < examples/spec.bin | sed \'s/"maturity":"0x0"/"maturity":"1 1\\/3"/\' > longer.json', 0, b''),
+        ('./ckbjson spec < longer.json > longer.bin', 0, b''),
     ]
     of_program = [('./ckbdev chain exec 1000000 < examples/primes.elf', 0, b'exit 25 8337\n')]
     of_code = [
@@ -714,6 +738,10 @@ def check_readme(_):
     makes = 'python3 examples/make_store.py --window 2 11 --cell examples/scripts/exit.elf | ./ckbdev contract init'
     # what comes on standard error
     told = {makes: contract_cell_line()}
+    # and what comes there after the line
+    rule = contract.refused()[1].split(' ')[1]
+    refuses = './ckbdev contract check < examples/refused.bin'
+    told_after = {refuses: ('ckbdev: refused %s: docs/RULES.md has what breaks %s, and what to look at first ("A block")\n' % (rule, rule)).encode()}
     coin = './ckbdev contract cell 0x%s 1' % contract.First.hash.hex()
     text_of_contract = first.input_and_text(contract.contract_chain()[0])[1]
     of_contract = [
@@ -722,8 +750,10 @@ def check_readme(_):
         ('./ckbdev contract import < examples/contract-chain.bin | grep refused', 0,
          b''.join(it for it in text_of_contract.splitlines(keepends=True) if it.startswith(b'refused'))),
         ('./ckbdev contract check < examples/transfer.bin', 0, (contract.transfer()[1] + '\n').encode()),
-        ('./ckbdev contract check < examples/refused.bin', 1, (contract.refused()[1] + '\n').encode()),
+        (refuses, 1, (contract.refused()[1] + '\n').encode()),
     ]
+    # the script ckbjson has a build to run
+    converter()
     chain = contract_chain()
     of_assembled = [('cat examples/witness.bin examples/transfer.bin examples/refused.bin > items', 0, b''),
                     *blocks_of_items(chain), *mined_on_page(chain)]
@@ -731,14 +761,14 @@ def check_readme(_):
         for folder, page in (('chain', readme), ('own', examples), ('contract', readme)):
             must('\nmkdir %s\n' % folder in page, 'no page makes the folder %s' % folder)
             os.mkdir(os.path.join(away, folder))
-        for name in ('ckbdev', 'examples'):
+        for name in ('ckbdev', 'ckbjson', 'examples'):
             os.symlink(os.path.join(TOP, name), os.path.join(away, name))
         for page, lines in ((readme, of_chain), (examples, of_own_chain), (readme, of_contract), (examples, of_assembled),
                             (readme, of_program), (examples, of_code)):
             for line, status, wanted in lines:
-                ran, text = Ran(['sh', '-c', line], cwd=away), told.get(line, b'')
-                must('\n%s\n%s' % (line, (text + wanted).decode()) in page, 'no page shows %s with what it prints' % line)
-                must_be((ran.status, ran.out, ran.err), (status, wanted, text), line)
+                ran, text, after = Ran(['sh', '-c', line], cwd=away), told.get(line, b''), told_after.get(line, b'')
+                must('\n%s\n%s' % (line, (text + wanted + after).decode()) in page, 'no page shows %s with what it prints' % line)
+                must_be((ran.status, ran.out, ran.err), (status, wanted, text + after), line)
         must_answer(Ran(['sh', '-c', coin], cwd=away), 0, b'none\n', coin + ' after the import')
         ran = Ran(['sh', os.path.join(TOP, 'examples', 'first-chain.sh'), 'new'], cwd=away)
         must_be((ran.status, ran.err), (0, b''), 'first-chain.sh')

@@ -31,6 +31,17 @@ def row(point, block, transaction, output, data):
             + b'\0' + bytes(32) + data_hash(data) + uint(len(data), 4))
 
 
+def amount_of(found):
+    """What a row says that its cell holds."""
+    return number_of(found[44:52])
+
+
+def balance_of(rows, lock):
+    """How many rows are of a lock, and what they hold together."""
+    amounts = [amount_of(it) for it in rows if it[60:92] == lock]
+    return len(amounts), sum(amounts)
+
+
 def in_order(point):
     """The order of rows: by the bytes of the hash, then by the index as a number."""
     return point[:32], number_of(point[32:])
@@ -92,6 +103,25 @@ class Chain:
             self.take(cells, it)
         return cells
 
+    def balances(self, lock):
+        """At the tip after each block how many cells have a lock, by its hash, and the shannons that they hold: a replay, block by
+        block along the tip's branch."""
+        cells, at, found = self.live_cells(0), 0, []
+        balance = balance_of(cells.values(), lock)
+        for place in range(len(self.blocks)):
+            if self.tip(place) == place and place:
+                if self.parents[place] == at:
+                    gone = self.take(cells, place)
+                    come = [it for _, makes in self.events[place] for _, it in makes]
+                    balance = tuple(was + more - less for was, more, less
+                                    in zip(balance, balance_of(come, lock), balance_of(gone, lock)))
+                else:
+                    cells = self.live_cells(place)
+                    balance = balance_of(cells.values(), lock)
+                at = place
+            found.append(balance)
+        return found
+
     @functools.cached_property
     def exts(self):
         """Of each block what its transactions pay, and the rows of the cells that it spends."""
@@ -100,9 +130,9 @@ class Chain:
             if self.parents[place] != at:
                 cells = self.live_cells(self.parents[place])
             spent, at = self.take(cells, place), place
-            made = [sum(number_of(it[44:52]) for _, it in makes) for _, makes in self.events[place][1:]]
+            made = [sum(amount_of(it) for _, it in makes) for _, makes in self.events[place][1:]]
             assert len(spent) == len(made)
-            fees = [uint(number_of(it[44:52]) - after, 8) for it, after in zip(spent, made)]
+            fees = [uint(amount_of(it) - after, 8) for it, after in zip(spent, made)]
             found.append(fixvec(fees) + fixvec(spent))
         return found
 
@@ -128,7 +158,7 @@ class Chain:
         it = cells.get(point)
         if it is None:
             return b'none\n'
-        numbers = number_of(it[44:52]), number_of(it[52:60]), self.numbers[number_of(it[36:40])]
+        numbers = amount_of(it), number_of(it[52:60]), self.numbers[number_of(it[36:40])]
         return b'live %d %d %d 0x%s - 0x%s %d\n' % (*numbers, it[60:92].hex().encode(), it[125:157].hex().encode(),
                                                     number_of(it[157:]))
 
@@ -181,9 +211,9 @@ class Stops:
             self.images.append(('%s, torn %d' % (what, number), {**self.areas, area: it}))
         self.areas[area] = over(at, new, self.areas[area])
 
-    def append(self, end, body):
+    def append(self, end, body, kind=3):
         """A record more, where the log's records end."""
-        whole = record(3, body) + b'\0'
+        whole = record(kind, body) + b'\0'
         self.durably('the record', 'log', end + 1, whole[1:])
         self.durably("the record's gate", 'log', end, whole[:1])
 

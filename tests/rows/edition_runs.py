@@ -216,10 +216,13 @@ class Chain(paying_chain.Chain):
         """One that names the header of a block."""
         return self.naming.setdefault(ancestor.hash(), Transaction([COIN_OUTPUT], headers=[ancestor.hash()]))
 
+    def proposed_on(self, parent):
+        """What a block on this one proposes."""
+        return STATIC + [self.names(it) for it in ancestors(parent)]
+
     def block(self, parent=None, **parts):
         parent = parent or self.tip
-        proposes = STATIC + [self.names(it) for it in ancestors(parent)]
-        made = super().block(parent=parent, proposes=proposes, **parts)
+        made = super().block(parent=parent, proposes=self.proposed_on(parent), **parts)
         fields = [getattr(made, it.name) for it in dataclasses.fields(paying_chain.Block)]
         time = MADE_TIME if made.number == MADE_AT else 1000 + 1000 * made.number
         return model.Block(*fields, WITNESS, time)
@@ -233,14 +236,17 @@ class Chain(paying_chain.Chain):
             found.append(parent)
         return found
 
+    def by_age(self, branch):
+        """Those whose age is just reached after a branch, or just not, by one start of it or the other."""
+        starts = median_time(branch[:MADE_AT]), MADE_TIME
+        ages = sorted({(median_time(branch) - it) // 1000 + more for it in starts for more in (0, 1)})
+        return [AGES[it] for it in ages if it >= 0]
+
     def beside(self, parent, nonce):
         """Blocks on a parent, none of which another stands on."""
         branch = ancestors(parent)
-        median, height = median_time(branch), len(branch)
-        starts = median_time(branch[:MADE_AT]), MADE_TIME
-        ages = sorted({(median - it) // 1000 + more for it in starts for more in (0, 1)})
-        commits = [[AGES[it]] for it in ages if it >= 0]
-        commits += [[self.names(branch[height - back])] for back in (2, SPAN - 1, SPAN, SPAN + 1)]
+        commits = [[it] for it in self.by_age(branch)]
+        commits += [[self.names(branch[len(branch) - back])] for back in (2, SPAN - 1, SPAN, SPAN + 1)]
         commits += [[FRESH, it] for it in (FRESH_BY_TIME, FRESH_BY_NUMBER, FRESH_LATER)] + [[it] for it in BY_CODE]
         return [self.block(parent=parent, commits=it, nonce=nonce) for it in commits]
 
