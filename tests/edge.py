@@ -21,6 +21,7 @@ import sys
 
 sys.dont_write_bytecode = True
 import allocations  # noqa: E402 (beside the line above)
+import asking  # noqa: E402
 import assembling  # noqa: E402
 import chain_snapshots  # noqa: E402
 import documents  # noqa: E402
@@ -49,7 +50,7 @@ def main():
     a.add_argument('words', nargs='*')
     a = a.parse_args()
     modules = (runs, streams, assembling, making, pages, json_texts, folders, allocations, chain_snapshots, script, unproved, layers,
-               documents, tracing, json_program, stored)
+               documents, tracing, json_program, asking, stored)
     checks = [it for module in modules for it in checks_of(module)]
     checks = [it for it in checks if not a.words or any(word in it[0] for word in a.words)]
     program = a.program and os.path.abspath(a.program)

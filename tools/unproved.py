@@ -45,7 +45,7 @@ READ_NOTHING = ('migrate', 'tip', 'header', 'json', 'epoch', 'audit', 'cell', 'l
 WRITE = {'init': 'a store may be made: ./%s FOLDER tip tells', 'import': 'blocks may be kept: ./%s FOLDER tip tells',
          'watch': 'blocks may be kept: ./%s FOLDER tip tells', 'migrate': 'the store may have its edition: the same command tells, ./%s FOLDER migrate N'}
 # programs whose first word is a folder
-IN_A_FOLDER = ('ckbdev',)
+IN_A_FOLDER = ('ckbdev', 'ckbask')
 SIGNALS = (signal.SIGHUP, signal.SIGINT, signal.SIGQUIT, signal.SIGTERM)
 
 

@@ -16,6 +16,7 @@ ghost use Rattle.report_defs.specs.Text as text;
 ghost use Rattle.report_defs.specs.declared.command.Query.TheVariants as queries;
 ghost use Rattle.report_defs.specs.declared.dao.DaoState.TheVariants as states;
 ghost use Rattle.report_defs.specs.Status.{IsOneOf};
+ghost use Rattle.run_store.specs.Keeping.{KeepsNode};
 ghost use Rattle.run_text.specs.Store.{OnlyReads, finding_stops, opening_stops};
 ghost use Rattle.run_query.specs.Queries.{IsCopied, IsCopyFound, IsLiveIn};
 
@@ -43,6 +44,7 @@ pub fn dao<D: Disk>(
 ) -> Result<Vec<u8>, Status>
     requires own { IsItsOwn node.old (D.reads_as disk.old) (D.images disk.old) }
     ensures disk { OnlyReads D.content_of D.faults disk.old disk.new (result ≡ Err Status.DiskFault) }
+    ensures node { KeepsNode node.old node.new (D.reads_as disk.new) (D.images disk.new) }
     ensures text { IsSoundOn node.old (D.reads_as disk.old) → IfOk result (λ text. text.items ≡ reports.answer_to_query (queries.Dao tx_hash index) node.old.chain) }
     ensures stop { (status : Status) → result ≡ Err status → IsOneOf opening_stops status }
     ensures sound { IsSoundOn node.old (D.reads_as disk.old) → result ≡ Err Status.NotAStore → ⊥ }
@@ -67,6 +69,7 @@ fn fetch_cell<D: Disk>(
 ) -> Result<Option<Fetched>, Status>
     requires own { IsItsOwn node.old (D.reads_as disk.old) (D.images disk.old) }
     ensures disk { OnlyReads D.content_of D.faults disk.old disk.new (result ≡ Err Status.DiskFault) }
+    ensures node { KeepsNode node.old node.new (D.reads_as disk.new) (D.images disk.new) }
     ensures chain { node.new.chain ≡ node.old.chain }
     ensures found { IsSoundOn node.old (D.reads_as disk.old) → IfOk result (IsCopyFound (cell_at_tip node.old.chain tx_hash index)) }
     ensures stop { (status : Status) → result ≡ Err status → IsOneOf opening_stops status }

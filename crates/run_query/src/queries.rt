@@ -24,6 +24,7 @@ ghost use Rattle.node_store.specs.Kept.{AreOfTip};
 ghost use Rattle.node_store.specs.Queries.{IsHeaderAt};
 ghost use Rattle.run_text.specs.Output.{Took};
 ghost use Rattle.run_query.specs.Queries.{IsCellFound};
+ghost use Rattle.run_store.specs.Keeping.{KeepsNode};
 ghost use Rattle.run_text.specs.Store.{Delivers, IsQueryPrinted, OnlyReads, opening_stops};
 
 use crate::audit::audit;
@@ -43,7 +44,7 @@ use std::alloc::{AllocError, Global};
 use std::sync::ledger::Ledger;
 
 /// Finds what a query answers over the kept blocks. Each query has a function of its own.
-fn answer_to<D: Disk>(
+pub fn answer_to<D: Disk>(
     alloc: Global,
     disk: &mut D,
     node: &mut Node,
@@ -51,6 +52,7 @@ fn answer_to<D: Disk>(
 ) -> Result<Vec<u8>, Status>
     requires own { IsItsOwn node.old (D.reads_as disk.old) (D.images disk.old) }
     ensures disk { OnlyReads D.content_of D.faults disk.old disk.new (result ≡ Err Status.DiskFault) }
+    ensures node { KeepsNode node.old node.new (D.reads_as disk.new) (D.images disk.new) }
     ensures text { IsSoundOn node.old (D.reads_as disk.old) → IfOk result (λ text. text.items ≡ reports.answer_to_query query node.old.chain) }
     ensures stop { (status : Status) → result ≡ Err status → IsOneOf opening_stops status }
     ensures sound { IsSoundOn node.old (D.reads_as disk.old) → result ≡ Err Status.NotAStore → ⊥ }
@@ -96,6 +98,7 @@ fn header<D: Disk>(
 ) -> Result<Vec<u8>, Status>
     requires own { IsItsOwn node.old (D.reads_as disk.old) (D.images disk.old) }
     ensures disk { OnlyReads D.content_of D.faults disk.old disk.new (result ≡ Err Status.DiskFault) }
+    ensures node { KeepsNode node.old node.new (D.reads_as disk.new) (D.images disk.new) }
     ensures text { IsSome (D.reads_as disk.old) → IfOk result (λ text. text.items ≡ reports.answer_to_query (queries.Header height) node.old.chain) }
     ensures stop { (status : Status) → result ≡ Err status → IsOneOf opening_stops status }
     ensures sound { IsSome (D.reads_as disk.old) → result ≡ Err Status.NotAStore → ⊥ }
@@ -131,6 +134,7 @@ fn json<D: Disk>(
 ) -> Result<Vec<u8>, Status>
     requires own { IsItsOwn node.old (D.reads_as disk.old) (D.images disk.old) }
     ensures disk { OnlyReads D.content_of D.faults disk.old disk.new (result ≡ Err Status.DiskFault) }
+    ensures node { KeepsNode node.old node.new (D.reads_as disk.new) (D.images disk.new) }
     ensures text { IsSome (D.reads_as disk.old) → IfOk result (λ text. text.items ≡ reports.answer_to_query (queries.Json height) node.old.chain) }
     ensures stop { (status : Status) → result ≡ Err status → IsOneOf opening_stops status }
     ensures sound { IsSome (D.reads_as disk.old) → result ≡ Err Status.NotAStore → ⊥ }

@@ -15,5 +15,5 @@ mod questions;
 
 pub use assembling::assemble;
 pub use pool_defs::Line;
-pub use questions::question;
+pub use questions::{check, question};
 pub use tx_pool::Assembled;

@@ -19,6 +19,7 @@ ghost use Rattle.run_text.specs.Whole.{IsReadWhole};
 ghost use Rattle.node_store.specs.OpeningSteps.{moves_to_open};
 ghost use Rattle.run_text.specs.Output.{Transfers};
 ghost use Rattle.node_store.specs.Node.{IsItsOwn, IsSoundOn};
+ghost use Rattle.run_store.specs.Keeping.{KeepsNode};
 ghost use Rattle.run_text.specs.Store.{OnlyReads, opening_stops};
 ghost use Rattle.run_question.specs.Question.{IsAnswerTo, AnswersQuestion, DeliversAnswer};
 
@@ -76,7 +77,7 @@ fn answer_to<D: Disk>(
 }
 
 /// Judges a transaction alone, and says what came of it.
-fn check<D: Disk>(
+pub fn check<D: Disk>(
     alloc: Global,
     disk: &mut D,
     node: &mut Node,
@@ -84,6 +85,7 @@ fn check<D: Disk>(
 ) -> Result<Answer, Status>
     requires own { IsItsOwn node.old (D.reads_as disk.old) (D.images disk.old) }
     ensures disk { OnlyReads D.content_of D.faults disk.old disk.new (result ≡ Err Status.DiskFault) }
+    ensures node { KeepsNode node.old node.new (D.reads_as disk.new) (D.images disk.new) }
     ensures answer { IsSoundOn node.old (D.reads_as disk.old) → IfOk result (λ answer. IsAnswerTo Question.Check node.old.chain (item.now ∷ []) (string_bytes answer.text) answer.status) }
     ensures one_of { IfOk result (λ answer. IsOneOf (Status.Done ∷ Status.SomeRefused ∷ []) answer.status) }
     ensures stop { (status : Status) → result ≡ Err status → IsOneOf opening_stops status }
@@ -108,6 +110,7 @@ fn judge_item<D: Disk>(
 ) -> Result<Trial, Status>
     requires own { IsItsOwn node.old (D.reads_as disk.old) (D.images disk.old) }
     ensures disk { OnlyReads D.content_of D.faults disk.old disk.new (result ≡ Err Status.DiskFault) }
+    ensures node { KeepsNode node.old node.new (D.reads_as disk.new) (D.images disk.new) }
     ensures trial { IsSoundOn node.old (D.reads_as disk.old) → IfOk result (λ tried. tried ≡ trials.trial node.old.chain item.now) }
     ensures stop { (status : Status) → result ≡ Err status → IsOneOf opening_stops status }
     ensures sound { IsSoundOn node.old (D.reads_as disk.old) → result ≡ Err Status.NotAStore → ⊥ }

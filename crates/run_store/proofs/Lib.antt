@@ -1,3 +1,4 @@
 pub mod DiskLemmas
+pub mod KeepLemmas
 pub mod LookLemmas
 pub mod RecordLemmas

@@ -3,6 +3,7 @@ use Rattle.std.specs.Prelude.{IfOk}
 use Rattle.report_defs.specs.Queries.{audit_answer}
 use Rattle.report_defs.specs.Text.{audit_line}
 use Rattle.run_text.proofs.Exits.{same_stop}
+use Rattle.run_store.proofs.KeepLemmas.{keeps_left}
 use Rattle.run_store.proofs.LookLemmas.{looks_found, looks_stopped, memory_no_fault, memory_no_none, memory_opening}
 use Rattle.run_query.proofs.AuditLemmas.{undamaged-stop}
 use Rattle.run_query.proofs.audit.audit.Goals as goal
@@ -27,3 +28,9 @@ returns-clause-stop g c = λ status is. memory_opening status (c.line_or_stop.en
 
 pub returns-clause-sound : goal.returns-clause-sound
 returns-clause-sound g c = λ sound is. memory_no_none c.line_or_stop.result c.line_or_stop.ensures.memory is
+
+pub returns-in-Err-clause-node : goal.returns-in-Err-clause-node
+returns-in-Err-clause-node g c = keeps_left c.in-Err.ensures.left
+
+pub returns-clause-node : goal.returns-clause-node
+returns-clause-node g c = keeps_left c.in-Ok.ensures.left

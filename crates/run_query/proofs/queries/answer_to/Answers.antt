@@ -1,3 +1,4 @@
+use Rattle.run_store.proofs.KeepLemmas.{keeps_all}
 use Rattle.run_store.proofs.LookLemmas.{looks_not, memory_no_fault}
 use Rattle.run_query.proofs.queries.answer_to.Goals as goal
 
@@ -9,3 +10,15 @@ returns-in-Epoch-clause-disk g c = looks_not c.args.disk.now (memory_no_fault c.
 
 pub returns-in-Cell-clause-disk : goal.returns-in-Cell-clause-disk
 returns-in-Cell-clause-disk g c = looks_not c.args.disk.now (memory_no_fault c.cell.result c.cell.ensures.memory)
+
+pub returns-in-Tip-clause-node : goal.returns-in-Tip-clause-node
+returns-in-Tip-clause-node g c = keeps_all c.args.node.now (g.D.Disk.reads_as c.args.disk.now) (g.D.Disk.images c.args.disk.now) c.requires.own
+
+pub returns-in-Epoch-clause-node : goal.returns-in-Epoch-clause-node
+returns-in-Epoch-clause-node g c = keeps_all c.args.node.now (g.D.Disk.reads_as c.args.disk.now) (g.D.Disk.images c.args.disk.now) c.requires.own
+
+pub returns-in-Cell-clause-node : goal.returns-in-Cell-clause-node
+returns-in-Cell-clause-node g c = keeps_all c.args.node.now (g.D.Disk.reads_as c.args.disk.now) (g.D.Disk.images c.args.disk.now) c.requires.own
+
+pub returns-in-Cells-clause-node : goal.returns-in-Cells-clause-node
+returns-in-Cells-clause-node g c = keeps_all c.args.node.now (g.D.Disk.reads_as c.args.disk.now) (g.D.Disk.images c.args.disk.now) c.requires.own

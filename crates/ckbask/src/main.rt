@@ -1,0 +1,53 @@
+//! `ckbask`: many questions over one opening of a store, line by line. It prints nothing itself: its one word is the folder, and
+//! what it reads, writes and leaves of the folder is `ask` of run_ask.
+#![tactic(auto)]
+
+ghost use Rattle.std.specs.Prelude.{◌≡◌, ◌<◌};
+
+mod ahead;
+
+use ahead::Ahead;
+use outside::Steps;
+use outside_os::{FolderDisk, StdinSource, StdoutSink};
+use report_defs::Status;
+use run_ask::ask;
+use std::env;
+use std::io::ErrorKind;
+use std::marker::Brand;
+use std::process::ExitCode;
+use std::sync::ledger::{Blank, Ledger};
+
+/// The one word after the program's name, which is not empty.
+fn folder_of(rt: &HostRuntime) -> Result<String, Status> {
+    let mut args = match env::args(rt) {
+        Ok(args) => args,
+        Err(error) if error.kind() == ErrorKind::OutOfMemory => return Err(Status::NoMemory),
+        Err(_) => return Err(Status::BadWords),
+    };
+    let _ = args.next();
+    match (args.next(), args.next()) {
+        (Some(folder), None) if !folder.is_empty() => Ok(folder),
+        _ => Err(Status::BadWords),
+    }
+}
+
+/// Asks over the standard streams, the store's folder, and a count of steps from 0.
+fn ask_with<L: Ledger>(rt: HostRuntime, folder: String, blank: Blank) -> Status
+    requires name { blank.name ≡ L.name }
+    requires parts { blank.parts ≡ L.parts }
+    requires some { 0 < L.parts }
+{
+    let mut steps = Steps::<L>::new(blank);
+    let mut input = Ahead::new(StdinSource::new(rt));
+    let mut out = StdoutSink::new(rt);
+    let mut disk = FolderDisk::new(rt, folder);
+    ask(rt.alloc(), &mut input, &mut out, &mut disk, &mut steps)
+}
+
+fn main(rt: HostRuntime) -> ExitCode {
+    let status = match folder_of(&rt) {
+        Ok(folder) => ask_with::<Brand>(rt, folder, Blank::new(1)),
+        Err(status) => status,
+    };
+    ExitCode::from(status.number())
+}
