@@ -1,50 +1,49 @@
-//! `ckbtrace` runs an ELF file as `exec` of `ckbdev` does, and prints on one page how it ended: the line of `exec`, the
-//! cycles, the instruction that ended it, the last jumps and the registers. Each text that the program prints by syscall
-//! 2177 comes before that, as it is printed.
+//! `ckbtrace` explains. Of an ELF file, which it runs as `exec` of `ckbdev` does, it prints on one page how it ended: the line
+//! of `exec`, the cycles, the instruction that ended it, the last jumps and the registers. Each text that the program prints by
+//! syscall 2177 comes before that, as it is printed. Of a transaction or a block it prints the line of `check` or `import`, and
+//! below it why that is the answer.
 //!
-//! It makes the steps of the machine itself, and answers each ECALL as for a program that runs alone. No clause says what
-//! it prints: that it is safe is proved, and tests compare its pages with those of a plain machine.
+//! What a page says no clause says: that the program is safe is proved, and tests compare its pages with those of models. What
+//! is proved of the line and of the store stands in `run_explanation`.
 #![tactic(auto)]
 
-ghost use Rattle.std.specs.Prelude.{◌≤◌, ◌^◌};
+ghost use Rattle.std.specs.Prelude.{◌≡◌, ◌<◌, ◌≤◌, ◌^◌};
 
-mod jumps;
-mod page;
+mod program;
 mod status;
-mod text;
-mod trace;
 mod words;
 
-use outside::{Sink, Source, read_full};
-use outside_os::{StdinSource, StdoutSink};
-use page::{bad_elf, spent_loading};
-use program_run::{Started, start};
+use outside::{Sink, Source, Steps, read_full};
+use outside_os::{FolderDisk, StdinSource, StdoutSink};
+use program::{trace_file, write_text};
+use run_explanation::{Wanted, explain};
 use status::Status;
 use std::alloc::Global;
 use std::env;
 use std::io::ErrorKind;
+use std::marker::Brand;
 use std::process::ExitCode;
-use trace::{run_to_page, write_text};
-use words::budget_of;
+use std::sync::ledger::{Blank, Ledger};
+use words::{budget_of, wanted_by};
 
 /// The most bytes of a file, as of `exec`.
 const FILE_LIMIT: usize = 1_048_576;
 
-/// The one word.
-fn word_of(rt: &HostRuntime) -> Result<String, Status> {
+/// The words after the program's name.
+fn words_of(rt: &HostRuntime) -> Result<Vec<String>, Status> {
     let mut args = match env::args(rt) {
         Ok(args) => args,
         Err(error) if error.kind() == ErrorKind::OutOfMemory => return Err(Status::NoMemory),
         Err(_) => return Err(Status::BadWords),
     };
     let _ = args.next();
-    let Some(word) = args.next() else {
-        return Err(Status::BadWords);
-    };
-    if args.next().is_some() {
-        return Err(Status::BadWords);
+    let mut words = Vec::new(rt.alloc());
+    for word in args {
+        if words.push(word).is_err() {
+            return Err(Status::NoMemory);
+        }
     }
-    Ok(word)
+    Ok(words)
 }
 
 /// Reads a file, runs it, and writes its page.
@@ -67,39 +66,59 @@ fn trace_input<S: Source, K: Sink>(
     trace_file(alloc, budget, &file[..end], out)
 }
 
-/// Runs a file, and writes its page.
-fn trace_file<K: Sink>(alloc: Global, budget: u64, file: &[u8], out: &mut K) -> Result<(), Status>
-    requires { budget ≤ 2 ^ 40 }
-{
-    match start(alloc, file, budget) {
-        Ok(Started::Ready(machine)) => run_to_page(alloc, machine, budget, out),
-        Ok(Started::Spent { cycles }) => {
-            let page = spent_loading(alloc, cycles, budget)?;
-            write_text(&page, out)
-        }
-        Ok(Started::BadElf(condition)) => {
-            let page = bad_elf(alloc, condition)?;
-            write_text(&page, out)
-        }
-        Err(_) => Err(Status::NoMemory),
-    }
-}
-
-/// Runs over the standard streams.
-fn run(rt: HostRuntime) -> Result<(), Status> {
-    let word = word_of(&rt)?;
-    let Some(budget) = budget_of(&word) else {
-        return Err(Status::BadWords);
+/// Runs a program over the standard streams, within so many cycles.
+fn run_trace(rt: HostRuntime, word: &str) -> u8 {
+    let Some(budget) = budget_of(word) else {
+        return Status::BadWords.number();
     };
     let mut input = StdinSource::new(rt);
     let mut out = StdoutSink::new(rt);
-    trace_input(rt.alloc(), budget, &mut input, &mut out)
+    match trace_input(rt.alloc(), budget, &mut input, &mut out) {
+        Ok(()) => Status::Done.number(),
+        Err(status) => status.number(),
+    }
+}
+
+/// Explains an item over the standard streams and a store's folder.
+fn run_explain<L: Ledger>(rt: HostRuntime, folder: &String, wanted: Wanted, blank: Blank) -> u8
+    requires name { blank.name ≡ L.name }
+    requires parts { blank.parts ≡ L.parts }
+    requires some { 0 < L.parts }
+{
+    let mut steps = Steps::<L>::new(blank);
+    let mut input = StdinSource::new(rt);
+    let mut out = StdoutSink::new(rt);
+    let Ok(folder) = folder.clone() else {
+        return Status::NoMemory.number();
+    };
+    let mut disk = FolderDisk::new(rt, folder);
+    explain(
+        rt.alloc(),
+        &mut input,
+        &mut out,
+        &mut disk,
+        wanted,
+        &mut steps,
+    )
+    .number()
+}
+
+/// Runs as the words ask.
+fn run(rt: HostRuntime, words: &[String]) -> u8 {
+    match words {
+        [] => Status::BadWords.number(),
+        [word] => run_trace(rt, word),
+        [folder, rest @ ..] => match wanted_by(rest) {
+            Some(wanted) => run_explain::<Brand>(rt, folder, wanted, Blank::new(1)),
+            None => Status::BadWords.number(),
+        },
+    }
 }
 
 fn main(rt: HostRuntime) -> ExitCode {
-    let status = match run(rt) {
-        Ok(()) => Status::Done,
-        Err(status) => status,
+    let number = match words_of(&rt) {
+        Ok(words) => run(rt, &words),
+        Err(status) => status.number(),
     };
-    ExitCode::from(status.number())
+    ExitCode::from(number)
 }

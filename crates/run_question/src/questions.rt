@@ -99,8 +99,8 @@ fn check<D: Disk>(
     }
 }
 
-/// Judges the transaction of an item alone.
-fn judge_item<D: Disk>(
+/// Judges the transaction of an item alone, as `check` does: J1 where it is no canonical `Transaction`.
+pub fn judge_item<D: Disk>(
     alloc: Global,
     disk: &mut D,
     node: &mut Node,
@@ -122,8 +122,8 @@ fn judge_item<D: Disk>(
     }
 }
 
-/// What is said of a transaction that was judged, and the status.
-fn answer_of_trial(alloc: Global, tried: &Trial) -> Result<Answer, NoMemory>
+/// What `check` says of a transaction that was judged, and the status.
+pub fn answer_of_trial(alloc: Global, tried: &Trial) -> Result<Answer, NoMemory>
     ensures text { IfOk result (λ answer. string_bytes answer.text ≡ text.trial_line tried.now) }
     ensures status { IfOk result (λ answer. answer.status ≡ reports.status_of_trial tried.now) }
     ensures one_of { IfOk result (λ answer. IsOneOf (Status.Done ∷ Status.SomeRefused ∷ []) answer.status) }

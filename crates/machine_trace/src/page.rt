@@ -2,6 +2,8 @@
 ghost use Rattle.std.specs.Prelude.{◌<◌};
 
 use crate::jumps::Jumps;
+use crate::symbols::Symbols;
+use crate::tracing::{Ended, Notes};
 use machine_defs::Outcome;
 use std::alloc::{AllocError, Global};
 use std::fmt::Write;
@@ -16,34 +18,42 @@ const NAMES: [&str; 32] = [
 ];
 
 /// The line of a file that is no program.
-pub(crate) fn bad_elf(alloc: Global, condition: u8) -> Result<String, AllocError> {
+pub fn bad_elf(alloc: Global, condition: u8) -> Result<String, AllocError> {
     format!(in alloc; "bad elf {condition}\n")
 }
 
 /// The page of a program whose loading alone passes the budget.
-pub(crate) fn spent_loading(alloc: Global, cycles: u64, budget: u64) -> Result<String, AllocError> {
+pub fn spent_loading(alloc: Global, cycles: u64, budget: u64) -> Result<String, AllocError> {
     format!(in alloc; "spent\ncycles {cycles} of {budget}, for loading alone\n")
 }
 
-/// The page of a program that ended at the instruction at `pc`.
-pub(crate) fn page_of(
+/// The page of a program that ended so: the line of `exec`, and then how it came there.
+pub fn page_of(
     alloc: Global,
     machine: &mut Machine,
-    jumps: &Jumps,
-    outcome: Outcome,
-    pc: u64,
+    noted: &Notes,
+    ended: &Ended,
+    symbols: &Symbols<'_>,
     budget: u64,
 ) -> Result<String, AllocError> {
     let mut page = String::new(alloc);
     let cycles = machine.cycles();
-    push_outcome(&mut page, outcome, cycles)?;
+    push_outcome(&mut page, ended.outcome, cycles)?;
     writeln!(page, "cycles {cycles} of {budget}")?;
-    write!(page, "pc {pc:#x} ")?;
+    let pc = ended.pc;
+    write!(page, "pc {pc:#x}")?;
+    symbols.push_name(&mut page, pc)?;
+    page.push_str(" ")?;
     push_instruction(alloc, &mut page, machine.memory_mut(), pc)?;
     page.push_str("\n")?;
-    push_jumps(alloc, &mut page, machine.memory_mut(), jumps)?;
+    push_jumps(alloc, &mut page, machine.memory_mut(), &noted.jumps, symbols)?;
     push_registers(&mut page, machine)?;
     Ok(page)
+}
+
+/// Appends the last syscalls of a run.
+pub fn push_calls(page: &mut String, noted: &Notes) -> Result<(), AllocError> {
+    noted.calls.push(page)
 }
 
 /// Appends the line of `exec`.
@@ -88,15 +98,19 @@ fn push_jumps(
     page: &mut String,
     memory: &mut Memory,
     jumps: &Jumps,
+    symbols: &Symbols<'_>,
 ) -> Result<(), AllocError> {
     page.push_str("last jumps\n")?;
     for i in 0..jumps.len() {
         let jump = jumps.at(i);
         let from = jump.from;
-        write!(page, "  {from:#x} ")?;
+        write!(page, "  {from:#x}")?;
+        symbols.push_name(page, from)?;
+        page.push_str(" ")?;
         push_instruction(alloc, page, memory, from)?;
         let to = jump.to;
         write!(page, " to {to:#x}")?;
+        symbols.push_name(page, to)?;
         let times = jump.times;
         if times > 1 {
             write!(page, ", {times} times")?;
