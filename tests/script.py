@@ -73,7 +73,8 @@ def check_script_explains_statuses(_):
         must_tell(['other', 'import'], 7, b'', 'something else')
         must_tell(['other/log.bin', 'tip'], 5, b'', "is no folder")
         must_answer(Ran([SCRIPT, 'store', 'init'], FIRST_INIT, cwd=away), 0, FIRST_LINE, 'init')
-        must_tell(['store', 'init'], 10, b'', 'has a store', FIRST_INIT)
+        for taken in ('store', 'other'):
+            must_tell([taken, 'init'], 10, b'', "the folder '%s' has a log.bin already" % taken, FIRST_INIT)
         with open(os.path.join(away, 'store', 'log.bin'), 'rb') as log:
             fcntl.flock(log, fcntl.LOCK_EX)
             must_tell(['store', 'tip'], 5, b'', "another run has the folder 'store'", env=impatient(away))

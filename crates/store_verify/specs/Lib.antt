@@ -1,0 +1,5 @@
+pub mod Parts
+pub mod Replay
+pub mod Areas
+pub mod Looked
+pub mod Answer

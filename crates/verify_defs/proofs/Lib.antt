@@ -1,0 +1,4 @@
+pub mod Taken
+pub mod Differences
+pub mod Causes
+pub mod FaultLemmas
