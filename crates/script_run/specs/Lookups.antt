@@ -1,8 +1,8 @@
 -- What is found for a script, beside what it is answered.
-use Rattle.std.specs.Prelude.{◌≡◌, ⊤, Bool, true, ℕ, ◌*◌, ◌<◌, ◌==◌, List, Option, Some, None, IsSome, IsSomeAnd, slice_get, if◌then◌else◌}
+use Rattle.std.specs.Prelude.{◌≡◌, ⊤, Bool, true, ℕ, ◌*◌, ◌<◌, ◌==◌, List, Option, Some, None, IsSome, IsSomeAnd, IfSome, slice_get, if◌then◌else◌}
 use Rattle.std.specs.Option.{option_map, option_and_then}
 use Rattle.std.specs.List.{AllZip, list_any}
-use Rattle.chain_defs.specs.Shape.{encoded}
+use Rattle.chain_defs.specs.Shape.{encoded, decoded}
 use Rattle.chain_defs.specs.Schema.{Header, header, CellInput, cell_input, cell_output, out_point, script, transaction}
 use Rattle.chain_defs.specs.Hashes.{transaction_hash}
 use Rattle.chain_defs.specs.Epochs.{epoch_number}
@@ -129,6 +129,11 @@ load_meaning scene it call load.Nothing = world.Unknown
 -- the header of the kept block at a place
 abbrev pub kept_header : List Stored → ℕ → Option Header
 kept_header stored place = option_map (λ it. it.block.header) (slice_get stored place)
+
+-- Headers that were read, by the places of their blocks, are those of the blocks that are known.
+abbrev pub AreRead : Option (List Stored) → (ℕ → Option (List ℕ)) → Type 0
+AreRead told read = (place : ℕ) (bytes : List ℕ) → read place ≡ Some bytes
+    → IfSome told (λ stored. IfSome (slice_get stored place) (λ made. decoded header bytes ≡ Some made.block.header))
 
 -- What surrounds the script of a group, where the kept blocks are known and show a scene.
 abbrev pub known_items : Bool → ℕ → ResolvedTxValue → GroupValue → Option (List Stored) → Option Items

@@ -1,5 +1,7 @@
 // What surrounds the script of a group, and the run of its code there.
-ghost use Rattle.std.specs.Prelude.{◌≡◌, ◌^◌, ◌*◌, ◌<◌, ◌≤◌, List, Some, Err, IfOk, IsSome, slice_get};
+ghost use Rattle.std.specs.Prelude.{◌≡◌, ◌^◌, ◌*◌, ◌<◌, ◌≤◌, List, Some, Err, IfOk, IsSome, slice_get, nat_eq};
+ghost use Rattle.std.specs.HashMap.{get};
+ghost use Rattle.std.proofs.Props.{props};
 ghost use Rattle.outside.specs.declared.disk.Damage.{Damage};
 ghost use Rattle.outside.specs.declared.disk.ReadStop.TheVariants.{Damaged};
 ghost use Rattle.machine_defs.specs.Program.{execution};
@@ -10,7 +12,7 @@ ghost use Rattle.chain_tree.specs.Reading.{HasRead, stop_of};
 ghost use Rattle.chain_defs.specs.Schema.{Header, header};
 ghost use Rattle.chain_defs.specs.Shape.{IsA};
 ghost use Rattle.chain_defs.specs.Epochs.{epoch_number};
-ghost use Rattle.script_run.specs.Lookups.{bytes_of, header_part};
+ghost use Rattle.script_run.specs.Lookups.{AreRead, bytes_of, header_part};
 ghost use Rattle.verdict_defs.specs.Scene.{Scene};
 ghost use Rattle.verdict_defs.specs.Items.{items};
 ghost use Rattle.script_run.specs.Running.{ExitsWithin};
@@ -26,7 +28,12 @@ use mol_schema::{BlockView, HeaderView};
 use outside::ReadStop;
 use program_run::{Execution, Stopped, execute_in};
 use std::alloc::Global;
+use std::collections::HashMap;
 use vm_sys::{Call, Found, World};
+
+/// The headers that a group's script has asked for, by the places of their blocks: 208 bytes each, so that a block is read
+/// once for its header, however often the script asks.
+type Headers = HashMap<u32, [u8; 208]>;
 
 /// What surrounds the script of a group.
 #[derive(Drop)]
@@ -35,7 +42,9 @@ pub(crate) struct GroupWorld<'a, 'w, 'b, B: Blocks> {
     tx: &'w ShownTx<'a>,
     group: &'w Group<'a>,
     hand: Option<Bytes<'a>>,
+    headers: &'b mut Headers,
     ghost counts: { B.count blocks.now ≡ tx.now.kept },
+    ghost are_read: { AreRead (B.told blocks.now) (get nat_eq headers.now) } by { Prim.hlevel props },
 }
 
 impl<'a, 'w, 'b, B: Blocks> World for GroupWorld<'a, 'w, 'b, B> {
@@ -76,7 +85,7 @@ impl<'a, 'w, 'b, B: Blocks> World for GroupWorld<'a, 'w, 'b, B> {
                 Answer::Unknown => Ok(Found::Unknown),
             },
             Lookup::InBlock(place, part) => {
-                match read_header(self.blocks, place, part, tx.epoch_length) {
+                match read_header(self.blocks, self.headers, place, part, tx.epoch_length) {
                     Ok(bytes) => {
                         self.hand = Some(bytes);
                         Ok(Found::Here)
@@ -98,21 +107,51 @@ impl<'a, 'w, 'b, B: Blocks> World for GroupWorld<'a, 'w, 'b, B> {
 /// Reads a part of the header of the block at a place.
 fn read_header<'a, B: Blocks>(
     blocks: &mut B,
+    headers: &mut Headers,
     place: u32,
     part: HeaderPart,
     epoch_length: u32,
 ) -> Result<Bytes<'a>, ReadStop>
     requires within { place < B.count blocks.old }
+    requires are_read { AreRead (B.told blocks.old) (get nat_eq headers.old) }
     ensures read { HasRead B.told B.count B.loans_of B.faults B.damages blocks.old blocks.new (stop_of result) }
+    ensures are_read { AreRead (B.told blocks.new) (get nat_eq headers.new) }
     ensures part { (stored : List Stored) (made : Stored) → B.told blocks.old ≡ Some stored → slice_get stored place ≡ Some made
         → IfOk result (λ bytes. bytes_of bytes ≡ header_part epoch_length part made.block.header) }
     ensures undamaged { IsSome (B.told blocks.old) → (damage : Damage) → result ≡ Err (Damaged damage) → ⊥ }
 {
+    match header_at(blocks, headers, place) {
+        Ok(bytes) => Ok(part_of(bytes, part, epoch_length)),
+        Err(stop) => Err(stop),
+    }
+}
+
+/// The bytes of the header of the block at a place, which is read where they are not there yet.
+fn header_at<B: Blocks>(
+    blocks: &mut B,
+    headers: &mut Headers,
+    place: u32,
+) -> Result<[u8; 208], ReadStop>
+    requires within { place < B.count blocks.old }
+    requires are_read { AreRead (B.told blocks.old) (get nat_eq headers.old) }
+    ensures read { HasRead B.told B.count B.loans_of B.faults B.damages blocks.old blocks.new (stop_of result) }
+    ensures are_read { AreRead (B.told blocks.new) (get nat_eq headers.new) }
+    ensures header { (stored : List Stored) (made : Stored) → B.told blocks.old ≡ Some stored → slice_get stored place ≡ Some made
+        → IfOk result (λ bytes. IsA header bytes made.block.header) }
+    ensures undamaged { IsSome (B.told blocks.old) → (damage : Damage) → result ≡ Err (Damaged damage) → ⊥ }
+{
+    if let Some(bytes) = headers.get(&place) {
+        return Ok(*bytes);
+    }
     match blocks.bring(place) {
         Ok(()) => {}
         Err(stop) => return Err(stop),
     }
-    Ok(part_of(header_of(&blocks.block()), part, epoch_length))
+    let bytes = header_of(&blocks.block());
+    match headers.insert(place, bytes) {
+        Ok(_) => Ok(bytes),
+        Err(_) => Err(ReadStop::NoMemory),
+    }
 }
 
 /// The bytes of a block's header.
@@ -176,11 +215,13 @@ pub(crate) fn run_code<'a, 'w, B: Blocks>(
     ensures within { IfOk result (ExitsWithin budget) }
     ensures undamaged { IsSome (B.told blocks.old) → (damage : Damage) → result ≡ Err (Damaged damage) → ⊥ }
 {
+    let mut headers = HashMap::new(alloc);
     let mut world = GroupWorld {
         blocks,
         tx,
         group,
         hand: None,
+        headers: &mut headers,
     };
     let came = execute_in(alloc, code, budget, &mut world);
     give_back(world);

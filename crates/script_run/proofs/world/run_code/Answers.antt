@@ -17,8 +17,8 @@ returns-in-Ok-clause-came g c = λ stored scene tells shown hash.
     c.in-Ok.ensures.came _ (told-is c.args.tx.now.second c.args.tx.now.epoch_length c.args.tx.now.it c.args.group.now (g.B.Blocks.told c.args.blocks.now) stored scene tells shown)
     ∙ ap (λ (items : Items). execution (syscall items) c.args.budget c.args.code.now) (same-items scene c.args.group.now hash)
 
-pub returns-in-Err-Running-clause-read : goal.returns-in-Err-Running-clause-read
-returns-in-Err-Running-clause-read g c =
+pub returns-clause-read : goal.returns-clause-read
+returns-clause-read g c =
     let stop = c.in-Err-Running.stop in
     let is : c.execute_in-came.result ≡ Err (Running stop) = search rules in
     record {

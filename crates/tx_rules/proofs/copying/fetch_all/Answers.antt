@@ -19,27 +19,24 @@ returns-in_default g c = record {
   rows = tt;
   outputs = tt;
   of_rows = tt;
+  again = tt;
   copied = λ stored seen site founds tells is are_seen rows. tt;
   undamaged = λ stored seen site founds tells is are_seen rows damage same. memory_undamaged damage same;
 }
 
-pub returns-in_default-none_taken : goal.returns-in_default-none_taken
-returns-in_default-none_taken g c = record {
+pub returns-in_default-by_block : goal.returns-in_default-by_block
+returns-in_default-by_block g c = record {
   read = read_short (unread c.args.blocks.now);
   rows = tt;
   outputs = tt;
   of_rows = tt;
+  again = tt;
   copied = λ stored seen site founds tells is are_seen rows. tt;
   undamaged = λ stored seen site founds tells is are_seen rows damage same. memory_undamaged damage same;
 }
 
-pub take_several-requires : goal.take_several-requires
-take_several-requires g c = record {
-  placed = c.requires.placed;
-  counts = c.requires.counts;
-  places = All-same (λ (it : ℕ × ℕ). it.1 < length c.args.rows.now) c.deref.result.now c.in-Ok.order.items c.deref.ensures.value c.in-Ok.ensures.places;
-  long = ap length (c.deref_mut.ensures.value ∙ c.in-Ok-none_taken.ensures) ∙ length-replicate (length c.args.rows.now) None;
-}
+pub take_before-requires : goal.take_before-requires
+take_before-requires g c = ap length (c.deref_mut.ensures.value ∙ c.in-Ok.ensures) ∙ length-replicate (length c.args.rows.now) None
 
 pub returns-in-Err : goal.returns-in-Err
 returns-in-Err g c = record {
@@ -47,6 +44,7 @@ returns-in-Err g c = record {
   rows = tt;
   outputs = tt;
   of_rows = tt;
+  again = tt;
   copied = λ stored seen site founds tells is are_seen rows. tt;
   undamaged = λ stored seen site founds tells is are_seen rows damage same.
       c.in-Err.ensures.undamaged stored seen site founds tells is are_seen rows damage (handed c.in-Err.stop _ same);
