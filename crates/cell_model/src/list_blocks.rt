@@ -1,7 +1,7 @@
 // Kept blocks in memory, as a source of blocks that tells them.
 ghost use Rattle.std.specs.Prelude.{◌≡◌, ◌+◌, ◌<◌, ◌^◌, ◌++◌, [], ◌∷◌, Some, None, length, map, IfOk, IsOk, OnOk, OnErr};
 ghost use Rattle.std.specs.List.{All};
-ghost use Rattle.chain_defs.specs.Shape.{decoded};
+ghost use Rattle.chain_defs.specs.Shape.{IsA, decoded};
 ghost use Rattle.chain_defs.specs.Schema as schema;
 ghost use Rattle.chain_tree.specs.Told.{blocks_of};
 ghost use Rattle.chain_tree.specs.Reading.{nothing_found};
@@ -42,6 +42,15 @@ impl Model for ListBlocks {
     ghost invariant = { λ it. AreKept (contents it.blocks.items) (contents it.exts.items)
         × IfSome it.hand (λ place. place < length it.blocks.items)
         × (id_lists it.ids.items ≡ all_ids it.blocks.items) };
+}
+
+/// The bytes of a block's header.
+fn header_of(block: &BlockView<'_>) -> [u8; 208]
+    ensures { IsA schema.header result block.now.header }
+{
+    let mut bytes = [0u8; 208];
+    bytes.copy_from_slice(block.header().bytes());
+    bytes
 }
 
 /// The proposal ids of the transactions of a block after its first, in their order.
@@ -165,11 +174,18 @@ impl Blocks for ListBlocks {
         }
     }
 
-    fn ids(&self) -> &[[u8; 10]] {
+    fn ids(&mut self) -> Result<Vec<[u8; 10]>, NoMemory> {
         match self.hand {
-            Some(e) => &self.ids[e as usize],
+            Some(e) => {
+                let ids = &self.ids[e as usize];
+                Ok(ids.to_vec(*ids.allocator())?)
+            }
             None => unreachable!(),
         }
+    }
+
+    fn header(&mut self, e: u32) -> Result<[u8; 208], ReadStop> {
+        Ok(header_of(&BlockView::from_encoding(&self.blocks[e as usize])))
     }
 
     fn report(&mut self, stop: ReadStop) {

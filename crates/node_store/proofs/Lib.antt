@@ -7,6 +7,7 @@ pub mod WayLaws
 pub mod HeldLaws
 pub mod HeldLemmas
 pub mod StoredLemmas
+pub mod HeaderLemmas
 pub mod LogLemmas
 pub mod AgreeLemmas
 pub mod KeptBelow

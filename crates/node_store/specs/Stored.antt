@@ -38,6 +38,12 @@ beside ext b = record { block = b; ext = ext }
 abbrev pub stored_in : ℕ → List ℕ → Option Stored
 stored_in place body = option_and_then (λ parts. option_map (beside parts.1) (decoded block parts.0)) (parts_in place body)
 
+-- Where the header of a block stands in the body of the entry at a place: it is the first field of the block's table, after the full size and four
+-- offsets, and the block of the genesis is its whole body, where any other stands after four bytes of its length.
+abbrev pub header_place : ℕ → ℕ
+header_place zero = 20
+header_place (suc place) = 24
+
 -- the one that LOG has for the entry at a place
 abbrev pub stored_of : Image → ℕ → Entry → Option Stored
 stored_of image place entry = option_and_then (stored_in place) (body_at image entry)

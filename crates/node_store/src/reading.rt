@@ -1,11 +1,15 @@
 // A body that is read from LOG into the cache.
-ghost use Rattle.std.specs.Prelude.{◌≡◌, ◌<◌, Some, None, Err, length, IfOk, IsOk, OnOk, IfSome, IsSome, IsSomeAnd, IsTrue};
+ghost use Rattle.std.specs.Prelude.{◌≡◌, ◌<◌, ◌≤◌, Some, None, Err, length, IfOk, IsOk, OnOk, IfSome, IsSome, IsSomeAnd, IsTrue};
 ghost use Rattle.outside.specs.Causes.{CountsFault};
 ghost use Rattle.outside.specs.declared.disk.Area.TheVariants.{Log as log_area};
 ghost use Rattle.outside.specs.declared.disk.Damage.{Damage};
 ghost use Rattle.outside.specs.declared.disk.ReadStop.TheVariants.{DiskFault as disk_fault, Damaged as damaged};
+ghost use Rattle.chain_defs.specs.Shape.{IsA};
+ghost use Rattle.chain_defs.specs.Schema.{header};
 ghost use Rattle.cell_defs.specs.Ext.{is_ext};
+ghost use Rattle.chain_tree.specs.Told.{Stored};
 ghost use Rattle.chain_tree.specs.Entries.{entry_at};
+ghost use Rattle.node_store.specs.Stored as stored;
 ghost use Rattle.node_store.specs.Stored.{body_at, stored_of, stored_at};
 ghost use Rattle.node_store.specs.Held.{held_at, IsKept};
 
@@ -69,10 +73,50 @@ fn read_body<D: Disk>(
         Ok(bytes) => bytes,
         Err(stop) => return Err(stop),
     };
-    match KeptBody::read(alloc, place, bytes) {
-        Ok(Some(body)) => Ok(body),
-        Ok(None) => Err(damage_at(entry)),
-        Err(_) => Err(ReadStop::NoMemory),
+    match KeptBody::read(place, bytes) {
+        Some(body) => Ok(body),
+        None => Err(damage_at(entry)),
+    }
+}
+
+/// Where the header of a block stands in the body of the entry at a place.
+fn header_place(place: u32) -> usize
+    ensures place { result ≡ stored.header_place place }
+    ensures fits { result ≤ 24 }
+{
+    if place == 0 { 20 } else { 24 }
+}
+
+/// The bytes of the header of an entry's block, which are read by themselves. That LOG has so many there is
+/// tested; the rest of the body is not looked at.
+pub(crate) fn read_header<D: Disk>(
+    disk: &mut D,
+    place: u32,
+    entry: &Entry,
+) -> Result<[u8; 208], ReadStop>
+    ensures content { D.content_of disk.new ≡ D.content_of disk.old }
+    ensures same { D.reads_as disk.new ≡ D.reads_as disk.old }
+    ensures header { IfSome (D.reads_as disk.old) (λ image. (it : Stored) → stored_of image place entry.now ≡ Some it → IfOk result (λ bytes. IsA header bytes it.block.header)) }
+    ensures missing { IfSome (D.reads_as disk.old) (λ image. (damage : Damage) → result ≡ Err (damaged damage) → stored_of image place entry.now ≡ None) }
+    ensures place { (damage : Damage) → result ≡ Err (damaged damage) → damage ≡ record { area = log_area; at = entry.now.at } }
+    ensures cause { CountsFault (D.faults disk.old) (D.faults disk.new) (result ≡ Err disk_fault) }
+{
+    let from = header_place(place);
+    let end = from + 208;
+    if entry.len < end as u32 {
+        return Err(damage_at(entry));
+    }
+    let mut read = [0u8; 232];
+    match disk.read(Area::Log, entry.at, &mut read) {
+        Ok(count) => {
+            if count < end {
+                return Err(damage_at(entry));
+            }
+            let mut bytes = [0u8; 208];
+            bytes.copy_from_slice(&read[from..end]);
+            Ok(bytes)
+        }
+        Err(_) => Err(ReadStop::DiskFault),
     }
 }
 

@@ -11,10 +11,10 @@ ghost use Rattle.node_store.specs.Stored.{stored_at, known_by};
 ghost use Rattle.node_store.specs.Held.{Lent, held_at, IsKept, IsInHand};
 
 use crate::cache::Cache;
-use crate::reading::load;
+use crate::reading::{load, read_header};
 use chain_tree::{Blocks, Tree};
 use mol_schema::BlockView;
-use outside::{Disk, ReadStop};
+use outside::{Disk, NoMemory, ReadStop};
 use std::alloc::Global;
 
 /// The kept blocks of a tree, as LOG has them. It borrows the disk, the tree of the entries, and a cache of what was
@@ -126,10 +126,20 @@ impl<'d, D: Disk> Blocks for Store<'d, D> {
         }
     }
 
-    fn ids(&self) -> &[[u8; 10]] {
+    fn ids(&mut self) -> Result<Vec<[u8; 10]>, NoMemory> {
         match self.hand {
-            Some(e) => self.cache.body(e).ids(),
+            Some(e) => self.cache.ids(self.alloc, e),
             None => unreachable!(),
+        }
+    }
+
+    fn header(&mut self, e: u32) -> Result<[u8; 208], ReadStop> {
+        match read_header(self.disk, e, self.tree.entry(e)) {
+            Ok(bytes) => Ok(bytes),
+            Err(stop) => {
+                self.cache.note(stop);
+                Err(stop)
+            }
         }
     }
 

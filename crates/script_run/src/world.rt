@@ -22,7 +22,7 @@ use crate::groups::Group;
 use crate::items::look_up;
 use crate::shown::ShownTx;
 use chain_tree::Blocks;
-use mol_schema::{BlockView, HeaderView};
+use mol_schema::HeaderView;
 use outside::ReadStop;
 use program_run::{Execution, Stopped, execute_in};
 use std::alloc::Global;
@@ -108,20 +108,10 @@ fn read_header<'a, B: Blocks>(
         → IfOk result (λ bytes. bytes_of bytes ≡ header_part epoch_length part made.block.header) }
     ensures undamaged { IsSome (B.told blocks.old) → (damage : Damage) → result ≡ Err (Damaged damage) → ⊥ }
 {
-    match blocks.bring(place) {
-        Ok(()) => {}
-        Err(stop) => return Err(stop),
+    match blocks.header(place) {
+        Ok(bytes) => Ok(part_of(bytes, part, epoch_length)),
+        Err(stop) => Err(stop),
     }
-    Ok(part_of(header_of(&blocks.block()), part, epoch_length))
-}
-
-/// The bytes of a block's header.
-fn header_of(block: &BlockView<'_>) -> [u8; 208]
-    ensures { IsA header result block.now.header }
-{
-    let mut bytes = [0u8; 208];
-    bytes.copy_from_slice(block.header().bytes());
-    bytes
 }
 
 /// A part of a header that is encoded.

@@ -78,7 +78,7 @@ fn answer(
         hash: tx_hash(tx),
         proposed: true,
     };
-    let resolved = resolve(alloc, &judged, at, state, blocks);
+    let resolved = resolve(alloc, &judged, at, state, blocks, Vec::new(alloc));
     text_of(alloc, &resolved)
 }
 
