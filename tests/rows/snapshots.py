@@ -13,8 +13,8 @@ They stand at the end there. A row is `snapshot`, what is done, the area (`a` or
     read    the bytes of all rows in order, the number and the place of the tip; or `none`,
             `damaged`, `disk_fault`
     close   `ok` or `disk_fault`
-    write   a number, the place and the hash of the tip, and rows in some order: the area is
-            closed and their snapshot is written, `ok` or `disk_fault`
+    write   a number of the area, the place and the hash of the tip, and rows in some order:
+            their snapshot is written, `ok` or `disk_fault`
 
 The bytes are put together here, by docs/STORE.md. A disk has the numbers of the calls that
 fail; of a write that fails the first half is done.
@@ -172,8 +172,8 @@ def writing():
         emit('snapshot', 'read', 'a', b''.join(ROWS[1:]), 3, 2)
         emit('snapshot', 'number', 'a', 3)
     emit('disk', '-')
-    emit('snapshot', 'write', 'b', 2 ** 32 - 1, 0, tip_hash(0), b'', 'ok')
-    emit('snapshot', 'read', 'b', b'', 2 ** 32 - 1, 0)
+    emit('snapshot', 'write', 'b', 2 ** 32 - 2, 0, tip_hash(0), b'', 'ok')
+    emit('snapshot', 'read', 'b', b'', 2 ** 32 - 2, 0)
     emit('snapshot', 'number', 'a', 'none')
     emit('snapshot', 'bytes', 'a', b'')
     print('# each call of the disk fails')
@@ -181,9 +181,9 @@ def writing():
         body = NEW[1:]
         half = over(closed[:1] + body[:len(body) // 2], closed)
         whole = over(closed[:1] + body, closed)
-        # the calls of `close`: it reads, writes the gate where that is needed, and syncs
+        # the calls that close the gate: it is read, written where that is needed, and synced
         steps = [before] + ([before, closed] if before != closed else [closed])
-        # those of `write`: the body, a sync, the gate, a sync
+        # those that write: the body, a sync, the gate, a sync
         for fails, after in enumerate(steps + [half, whole, whole, over(NEW, closed)], 1):
             written(before, fails, 'disk_fault', after)
             if len(steps) < fails < len(steps) + 4:

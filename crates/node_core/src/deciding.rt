@@ -12,7 +12,7 @@ ghost use Rattle.rule_defs.specs.declared.rule.Rule.{Rule};
 ghost use Rattle.block_judge.specs.declared.stop.JudgeStop.TheVariants.{Broken, Read};
 ghost use Rattle.verdict_defs.specs.Trial.{trial_on};
 ghost use Rattle.verdict_defs.specs.declared.trial.Trial.TheVariants.{Passes, Refused};
-ghost use Rattle.node_store.specs.Steps.{moves_on, moves_of_block};
+ghost use Rattle.node_store.specs.Steps.{moves_on, moves_of_block, moves_until};
 ghost use Rattle.cell_state.specs.State.{rows};
 ghost use Rattle.cell_state.specs.Moves.{AreOf};
 ghost use Rattle.chain_tree.specs.Reading.{HasRead, stop_of};
@@ -146,6 +146,8 @@ fn decide_on<B: Blocks, L: Ledger>(
     ensures undamaged { HoldsJoined kept.now (B.told blocks.old) → AreOfTip kept.now.chain.blocks (rows state)
         → (damage : Damage) → result ≡ Err (Damaged damage) → ⊥ }
     ensures asked { result ≡ Err NoMemory → WantsMemory kept.now.chain candidate.now.block.now }
+    ensures exactly { IfOk result (λ it. steps.new ≡ steps.old + moves_until kept.now.chain.blocks
+        (moves_on kept.now.chain candidate.now.block.now (Some candidate.now.entry.parent)) it.1) }
     ensures most { steps.new ≤ steps.old + (moves_on kept.now.chain candidate.now.block.now (Some candidate.now.entry.parent) - 1) }
     ensures sight { moves_on kept.now.chain candidate.now.block.now (Some candidate.now.entry.parent) ≡ 0 → blocks.new ≡ blocks.old }
 {
@@ -204,6 +206,7 @@ fn decide_block<B: Blocks, L: Ledger>(
     ensures undamaged { HoldsJoined kept.now (B.told blocks.old) → AreOfTip kept.now.chain.blocks (rows state)
         → (damage : Damage) → result ≡ Err (Damaged damage) → ⊥ }
     ensures asked { result ≡ Err NoMemory → WantsMemory kept.now.chain block.now }
+    ensures exactly { IfOk result (λ it. steps.new ≡ steps.old + moves_until kept.now.chain.blocks (moves_of_block kept.now.chain block.now) it.1) }
     ensures most { steps.new ≤ steps.old + (moves_of_block kept.now.chain block.now - 1) }
     ensures sight { moves_of_block kept.now.chain block.now ≡ 0 → blocks.new ≡ blocks.old }
 {

@@ -19,12 +19,14 @@ use Rattle.chain_tree.specs.Blocks.{IndexesBlocks}
 use Rattle.chain_tree.proofs.BlockLemmas.{len-same}
 use Rattle.disk_defs.specs.Log.{Record, records_of, of_blocks, edition_of, end_of_log}
 use Rattle.disk_defs.specs.LogLaws.{HasFittingBody}
-use Rattle.disk_defs.specs.Rest.{IsSettled}
+use Rattle.disk_defs.specs.Rest.{IsSettled, HasAppended}
 use Rattle.disk_defs.proofs.Contents.{editions_are_kept, blocks_of_more}
 use Rattle.log_file.specs.Pieces.{block_record, Names}
 use Rattle.log_file.specs.Grammar.{record_of}
 use Rattle.log_file.specs.Opening.{NameBodies, kept_records}
 use Rattle.log_file.specs.declared.log.Rec.{Rec}
+use Rattle.snapshots.specs.Writing.{HasAnyArea}
+use Rattle.node_store.proofs.KeepingLemmas.{no-some}
 use Rattle.node_store.specs.Held.{CacheValue, held_at, OnlyAdds, AgreesWith}
 use Rattle.node_store.specs.Stored.{later_record, CanBeKept}
 use Rattle.node_store.proofs.LogLemmas.{follows_the_log, adds_a_record}
@@ -172,6 +174,15 @@ module _ (kept next : KeptValue) (b : Block) (item ext : List ℕ) (entry : Entr
 pub of_told : (node : NodeValue) (reads : Option Image) (images : Image → Type 0) (image : Image) → reads ≡ Some image → IsItsOwn node reads images
     → IsOf node reads images
 of_told node reads images image told own = subst (λ (o : Option Image). IfSome o (λ _. IsOf node reads images)) told own
+
+pub of_some : (node : NodeValue) (reads : Option Image) (images : Image → Type 0) → IsSome reads → IsItsOwn node reads images → IsOf node reads images
+of_some node None images told own = absurd (no-some told)
+of_some node (Some image) images told own = own
+
+-- while a record is put after the others, the areas of snapshots are as they were
+pub appended-beside : (place : ℕ) (records : List Record) (r : Record) (images : Image → Type 0) (image : Image) → HasAppended place records r images image
+    → HasAnyArea Log images image
+appended-beside place records r images image (before, left, (bytes, appended, is)) = (before, left, (bytes, tt, is))
 
 -- a byte stands where its records end
 pub own_there : (node : NodeValue) (reads : Option Image) (images : Image → Type 0) → IsItsOwn node reads images

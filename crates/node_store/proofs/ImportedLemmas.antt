@@ -1,10 +1,11 @@
 -- The parts of an import put together: an item is decided on, which only looks at the disk; a block joins; a snapshot is taken beside it.
-use Rattle.std.proofs.Common.{◌≡◌, ◌≢◌, ◌⊎◌, inl, inr, true, false, ℕ, ◌+◌, ◌-◌, ◌≤◌, List, ◌∷◌, ◌++◌, length, Option, Some, Result, Ok, Err, refl, sym, ap, ◌∙◌, subst, arith}
+use Rattle.std.proofs.Common.{◌≡◌, ◌≢◌, ◌⊎◌, inl, inr, true, false, ℕ, ◌+◌, ◌-◌, ◌≤◌, List, ◌∷◌, ◌++◌, length, Option, Some, None, Result, Ok, Err, refl, sym, ap, ◌∙◌, subst, arith}
 use Rattle.std.specs.Prelude.{IfSome, IsSome, IfErr}
 use Rattle.outside.specs.declared.disk.ReadStop.{ReadStop}
 use Rattle.outside.specs.declared.disk.ReadStop.TheVariants.{DiskFault, NoMemory}
 use Rattle.outside.specs.declared.disk.Area.TheVariants.{Log}
 use Rattle.outside.specs.Image.{Image}
+use Rattle.outside.proofs.Moments.{leaves_also, leaves_then}
 use Rattle.outside.specs.Disk.{OthersRead, LeavesOnly, IsAsBefore, ComesBy, AreaKept}
 use Rattle.chain_defs.specs.Shape.{decoded}
 use Rattle.chain_defs.specs.Schema.{Block, block}
@@ -16,24 +17,25 @@ use Rattle.verdict_defs.specs.declared.verdict.Verdict.{Verdict}
 use Rattle.verdict_defs.specs.declared.verdict.Verdict.TheVariants.{Joined}
 use Rattle.disk_defs.specs.Log.{Record}
 use Rattle.disk_defs.specs.Rest.{IsSettled}
+use Rattle.snapshots.specs.Writing.{HasAnyArea}
 use Rattle.store_defs.specs.Store.{StandsFor, AreJoined}
 use Rattle.log_file.specs.Pieces.{block_record}
 use Rattle.node_store.specs.declared.decision.Decision.{Decision}
 use Rattle.node_store.specs.declared.decision.Decision.TheVariants.{Joins, Stays}
 use Rattle.node_store.specs.declared.decision.Joining.{Joining}
-use Rattle.node_store.specs.Import.{IsImported, LeavesEither, IsLogged, TakesSteps, IsDecidedOn, HasJoined}
+use Rattle.node_store.specs.Import.{IsImported, LeavesEither, IsLogged, BeginsNone, TakesSteps, IsDecidedOn, HasJoined}
 use Rattle.node_store.specs.Judging.{IsReadyItem, IsDecided, place_for}
 use Rattle.node_store.specs.Held.{CacheValue}
 use Rattle.node_store.specs.Kept.{KeptValue, AreOfFound, AreOfTip}
 use Rattle.node_store.specs.Node.{NodeValue, node_of, kept_in, IsItsOwn, IsSoundNode, IsSoundOn, IsOnlyImage, IsOn, IsLeftByImport, IsSettledAfter}
-use Rattle.node_store.specs.Snapshot.{snapshot_at, OthersReadBut, OnlySnapshotReads, HasSnapshot, LacksSnapshot, IsSettledWith}
-use Rattle.node_store.specs.Steps.{moves_for}
+use Rattle.node_store.specs.Snapshot.{snapshot_at, LeavesSnapshots, OthersReadBut, OnlySnapshotReads, HasSnapshot, LacksSnapshot, IsSettledWith}
+use Rattle.node_store.specs.Steps.{moves_for, moves_until, moves_to_join}
 use Rattle.node_store.proofs.BesideLemmas.{others-log, others-both, own-beside, on-beside, after-beside, behind-beside, keeps-beside, moments-beside}
 use Rattle.node_store.proofs.ImportLemmas.{joined_stays_not, verdict_is, stays_so}
 use Rattle.node_store.proofs.DiskLemmas.{before_calls}
-use Rattle.node_store.proofs.KeepingLemmas.{started_import, settled_still, settled_grown}
+use Rattle.node_store.proofs.KeepingLemmas.{any-here, started_import, settled_still, settled_grown}
 use Rattle.node_store.proofs.StayingLemmas.{of-told, sound-on, sound-joined, settled-looked, only-looked, others-looked, moments-looked, keeps-looked, others-then, moments-then, keeps-then}
-use Rattle.node_store.proofs.StepLemmas.{moves-on-tip, moves-joining}
+use Rattle.node_store.proofs.StepLemmas.{moves-on-tip, moves-joining, with-stays, with-joins}
 
 -- What is known of a node that a block joins, of its parts.
 pub record AreParts (kept : KeptValue) (cells : StateValue) (item : List ℕ) (joining : Joining) : Type 0 where
@@ -46,13 +48,16 @@ pub record AreParts (kept : KeptValue) (cells : StateValue) (item : List ℕ) (j
 module _ (before : NodeValue) (item : List ℕ) (start mid : ℕ) (most : mid ≤ start + (moves_for before.chain item - 1)) where
   pub steps-stopped : (stop : ReadStop) → TakesSteps before item (Err stop) start mid
   steps-stopped stop = record {
+    exactly = tt;
     steps = λ b is on_tip. omega (arith, most, moves-on-tip before.chain item b is on_tip);
     most = omega (arith, most);
     stays = tt;
   }
 
-  pub steps-stayed : (node : NodeValue) (answer : Verdict) → TakesSteps before item (Ok (node, answer)) start mid
-  steps-stayed node answer = record {
+  pub steps-stayed : (node : NodeValue) (answer : Verdict) → joins answer ≡ false → mid ≡ start + moves_until before.chain.blocks (moves_for before.chain item) (Stays answer)
+      → TakesSteps before item (Ok (node, answer)) start mid
+  steps-stayed node answer stays each = record {
+    exactly = subst (λ (n : ℕ). mid ≡ start + n) (sym (with-stays before.chain item answer stays)) each;
     steps = λ b is on_tip. omega (arith, most, moves-on-tip before.chain item b is on_tip);
     most = omega (arith, most);
     stays = λ _. most;
@@ -61,16 +66,19 @@ module _ (before : NodeValue) (item : List ℕ) (start mid : ℕ) (most : mid �
   module _ (end : ℕ) (own : end ≤ mid + 1) (some : 1 ≤ moves_for before.chain item) where
     pub steps-joining : (stop : ReadStop) → TakesSteps before item (Err stop) start end
     steps-joining stop = record {
+      exactly = tt;
       steps = λ b is on_tip. omega (arith, own, most, moves-on-tip before.chain item b is on_tip);
       most = omega (arith, own, most, some);
       stays = tt;
     }
 
-    pub steps-joined : (node : NodeValue) (answer : Verdict) → joins answer ≡ true → TakesSteps before item (Ok (node, answer)) start end
-    steps-joined node answer joined = record {
+    pub steps-joined : (node : NodeValue) (joining : Joining) → mid ≡ start + moves_until before.chain.blocks (moves_for before.chain item) (Joins joining)
+        → end ≡ mid + moves_to_join before.chain.blocks joining → TakesSteps before item (Ok (node, Joined joining.entry.number joining.entry.hash)) start end
+    steps-joined node joining first taken = record {
+      exactly = with-joins before.chain item joining start mid end first taken;
       steps = λ b is on_tip. omega (arith, own, most, moves-on-tip before.chain item b is on_tip);
       most = omega (arith, own, most, some);
-      stays = λ stays. absurd (joined_stays_not (sym joined ∙ stays));
+      stays = λ stays. absurd (joined_stays_not stays);
     }
 
 module _ {S C : Type 0} (content_of : S → C) (reads_as : S → Option Image) (images : S → Image → Type 0) (moment : S → ℕ) (left_since : S → ℕ → Image → Type 0)
@@ -88,6 +96,24 @@ module _ {S C : Type 0} (content_of : S → C) (reads_as : S → Option Image) (
   others-same =
       others-log (snapshot_at (length before.chain.blocks)) (reads_as old) (reads_as mid)
       (others-looked content_of reads_as images moment left_since rests old mid looked)
+
+  pub snapshots-looked : LeavesSnapshots reads_as images moment left_since old mid
+  snapshots-looked = record {
+    reads = others-looked content_of reads_as images moment left_since rests old mid looked;
+    moments = λ _. leaves_also moment left_since old mid (images old) (HasAnyArea Log (images old)) (rests old mid looked).moments (any-here Log (images old));
+  }
+
+  -- and LOG alone was written then
+  pub snapshots-joining : (new : S) → OthersRead Log (reads_as mid) (reads_as new)
+      → (IsSome (reads_as mid) → LeavesOnly moment left_since mid new (HasAnyArea Log (images mid))) → LeavesSnapshots reads_as images moment left_since old new
+  snapshots-joining new others beside = record {
+    reads = others-then content_of reads_as images moment left_since rests old mid looked new others;
+    moments = λ told.
+        leaves_then moment left_since old mid new (HasAnyArea Log (images old)) (snapshots-looked.moments told)
+        (leaves_also moment left_since mid new (HasAnyArea Log (images mid)) (HasAnyArea Log (images old))
+        (beside (subst IsSome (sym (rests old mid looked).reads) told))
+        (λ image (before, left, step). (before, ((rests old mid looked).images before).0 left, step)));
+  }
 
   -- the judge was stopped
   pub logged-stopped : (stop : ReadStop) → IsLogged before item (Err stop) (content_of old) (content_of mid) (reads_as old) (reads_as mid) (images old) (images mid)
@@ -124,6 +150,12 @@ module _ {S C : Type 0} (content_of : S → C) (reads_as : S → Option Image) (
       only-here only =
           subst (λ (k : Chain). IsOnlyImage k (reads_as mid) (images mid)) (sym chain-is)
           (only-looked content_of reads_as images moment left_since rests old mid looked before.chain only)
+
+      pub steps-out : (start now : ℕ) → now ≤ start + (moves_for before.chain item - 1) → now ≡ start + moves_until before.chain.blocks (moves_for before.chain item) decision
+          → TakesSteps before item (Ok (node, answer)) start now
+      steps-out start now most each =
+          steps-stayed before item start now most node answer stays
+          (subst (λ (d : Decision). now ≡ start + moves_until before.chain.blocks (moves_for before.chain item) d) found each)
 
       pub imported-stays : IsImported before node item answer (reads_as old) (reads_as mid) (images old) (images mid)
       imported-stays = record {
@@ -172,6 +204,15 @@ module _ {S C : Type 0} (content_of : S → C) (reads_as : S → Option Image) (
 
       pub takes-one : 1 ≤ moves_for before.chain item
       takes-one = moves-joining before.chain item joining ready-here
+
+      -- so many steps it took
+      pub steps-in : (next : NodeValue) (start now end : ℕ) → now ≤ start + (moves_for before.chain item - 1) → end ≤ now + 1
+          → now ≡ start + moves_until before.chain.blocks (moves_for before.chain item) decision → end ≡ now + moves_to_join node.chain.blocks joining
+          → TakesSteps before item (Ok (next, Joined joining.entry.number joining.entry.hash)) start end
+      steps-in next start now end most own first taken =
+          steps-joined before item start now most end own takes-one next joining
+          (subst (λ (d : Decision). now ≡ start + moves_until before.chain.blocks (moves_for before.chain item) d) found first)
+          (subst (λ (k : Chain). end ≡ now + moves_to_join k.blocks joining) chain-is taken)
 
       -- what is known of it as it joins
       pub sound-parts : IsSoundOn before (reads_as old) → AreParts (kept_in node) node.cells item joining
@@ -321,6 +362,18 @@ module _ {S C : Type 0} (content_of : S → C) (reads_as : S → Option Image) (
                           refl (settled-joined records settled);
                     });
               }
+
+-- ---- No snapshot was begun
+
+-- as none was due where a block joined
+pub due-none : (due : Option ℕ) (node : NodeValue) (answer : Verdict) → joins answer ≡ true → BeginsNone due (Ok (node, answer)) → due ≡ None
+due-none None node answer joined none = refl
+due-none (Some number) node answer joined none = absurd (joined_stays_not (sym joined ∙ none))
+
+-- or as the disk did not fail
+pub none-begun : (due : Option ℕ) (stop : ReadStop) → BeginsNone due (Err stop) → (due ≡ None) ⊎ (stop ≢ DiskFault)
+none-begun None stop none = inl refl
+none-begun (Some number) stop none = inr none
 
 -- ---- While a block joins
 

@@ -1,8 +1,9 @@
 -- What the disk keeps of its records, whatever a call answers.
 use Rattle.std.proofs.Common.{◌≡◌, ◌⊎◌, ℕ, false, true, List, [], ◌∷◌, ◌++◌, Option, Some, None, refl, sym, ap, subst, inl, inr, arith}
-use Rattle.std.specs.Prelude.{is_some}
+use Rattle.std.specs.Prelude.{is_some, IsSome}
 use Rattle.outside.specs.declared.disk.Area.{Area}
-use Rattle.outside.specs.Image.{Image}
+use Rattle.outside.specs.Image.{Image, content}
+use Rattle.outside.proofs.Images.{own_content}
 use Rattle.outside.specs.Disk.{NoneNew, OthersRead, LeavesOnly, IsKnownAsBefore}
 use Rattle.outside.proofs.Moments.{started}
 use Rattle.verdict_defs.specs.declared.verdict.Verdict.{Verdict}
@@ -10,7 +11,17 @@ use Rattle.verdict_defs.specs.Verdict.{joins}
 use Rattle.disk_defs.specs.Log.{Record, log_of}
 use Rattle.disk_defs.specs.Rest.{IsAtRest, IsSettled, IsAppended, HasAppended, HasLog}
 use Rattle.log_file.specs.Pieces.{block_record}
+use Rattle.snapshots.specs.Writing.{HasAnyArea}
 use Rattle.node_store.specs.Node.{IsLeftByOpening, IsLeftByImport, AreRecordsWith, IsSettledAfter}
+
+-- ---- The areas of snapshots
+
+pub no-some : IsSome {T = Image} None → ⊥
+no-some some = cc
+
+-- before the first call
+pub any-here : (area : Area) (images : Image → Type 0) (image : Image) → images image → HasAnyArea area images image
+any-here area images image left = (image, left, (content area image, tt, own_content area image))
 
 -- what opening leaves where the snapshots were synced before
 pub left_by_opening : (bytes : List ℕ) (images images1 : Image → Type 0) → NoneNew images images1

@@ -14,6 +14,7 @@ use Rattle.outside.specs.declared.disk.ReadStop.TheVariants.{Damaged}
 use Rattle.outside.specs.Image.{Image, content, with_content}
 use Rattle.chain_defs.specs.Schema.{OutPoint, Block}
 use Rattle.chain_defs.specs.Kept.{block_at, block_hash}
+use Rattle.chain_defs.specs.Branch.{distance}
 use Rattle.chain_defs.specs.Tip.{tip_place}
 use Rattle.cell_defs.specs.Ext.{count_at}
 use Rattle.cell_defs.specs.Row.{Row}
@@ -35,7 +36,7 @@ use Rattle.snapshots.specs.Rows.{IsHeld}
 use Rattle.store_defs.specs.Store.{IsJoined}
 use Rattle.store_defs.specs.SnapshotLaws.{HasSoundAreas}
 use Rattle.node_store.specs.Snapshot.{number_in, area_with, newest, tip_in}
-use Rattle.node_store.specs.Opening.{IsOfArea, IsOfSnapshot, HoldsOneOf, HasNewestOf}
+use Rattle.node_store.specs.Opening.{IsOfArea, IsOfSnapshot, HoldsOneOf, HasNewestOf, HasNumber, HaveNumbers}
 use Rattle.node_store.specs.OpeningSteps.{distance_to, moves_by}
 
 none-some : (area : Area) → None ≡ Some area → ⊥
@@ -80,6 +81,22 @@ number-damaged area entries reads mid now stop damage same told tells is = from
       record { gate = told.0; none = λ s holds of. absurd (omega (arith, long-enough (content area now) s holds, told.1)) },
       told.2,
     )
+
+-- a number was read after each open gate
+has-number : (area : Area) (bytes : List ℕ) (found : Option ℕ) → AnswersNumber area bytes (Ok found) → HasNumber bytes
+has-number area bytes None closed = λ gate. absurd (true-false (sym gate ∙ closed))
+has-number area bytes (Some number) told = λ gate. told.1
+
+pub have-numbers : (reads mid : Option Image) (a b : Option ℕ) → mid ≡ reads → IfSome reads (λ image. AnswersNumber SnapA (content SnapA image) (Ok a))
+    → IfSome mid (λ image. AnswersNumber SnapB (content SnapB image) (Ok b)) → IfSome reads HaveNumbers
+have-numbers None mid a b same first second = tt
+have-numbers (Some now) mid a b same first second = (
+  has-number SnapA now.snap_a a first,
+  has-number SnapB now.snap_b b (subst (λ (o : Option Image). IfSome o (λ image. AnswersNumber SnapB (content SnapB image) (Ok b))) same second),
+)
+
+pub at-told : (P : Image → Type 0) (reads : Option Image) (now : Image) → reads ≡ Some now → IfSome reads P → P now
+at-told P reads now told has = subst (λ (o : Option Image). IfSome o P) told has
 
 -- ---- The area that is loaded
 
@@ -273,22 +290,24 @@ tip-of : (bytes : List ℕ) (s : Snapshot) → Holds bytes s → tip_in bytes �
 tip-of bytes s holds = ap tip_in holds.parts ∙ tip-held s holds.after holds.form.number holds.form.tip
 
 pub led-from : (kept : List Block) (area : Area) (entries : List Entry) (reads : Option Image) (now : Image) (before after number tip : ℕ) (state : StateValue)
-    → reads ≡ Some now → IfSome reads (λ image. after ≤ before + row_count (content area image))
-    → IfSome reads (λ image. AnswersSnapshot area entries (content area image) before after (Ok (Some (number, tip, state))))
-    → after + distance_to kept tip (tip_place kept) ≤ before + moves_by kept now (Some area)
-led-from kept area entries reads now before after number tip state told most tells = from here
+    → reads ≡ Some now → IfSome reads (λ image. AnswersSnapshot area entries (content area image) before after (Ok (Some (number, tip, state))))
+    → after + distance_to kept tip (tip_place kept) ≡ before + moves_by kept now (Some area)
+led-from kept area entries reads now before after number tip state told tells = from here
   where
-    few : after ≤ before + row_count (content area now)
-    few = subst (λ (o : Option Image). IfSome o (λ image. after ≤ before + row_count (content area image))) told most
-
     here : AnswersSnapshot area entries (content area now) before after (Ok (Some (number, tip, state)))
     here = subst (λ (o : Option Image). IfSome o (λ image. AnswersSnapshot area entries (content area image) before after (Ok (Some (number, tip, state))))) told tells
 
     from : AnswersSnapshot area entries (content area now) before after (Ok (Some (number, tip, state)))
-        → after + distance_to kept tip (tip_place kept) ≤ before + moves_by kept now (Some area)
+        → after + distance_to kept tip (tip_place kept) ≡ before + moves_by kept now (Some area)
     from (s, read) =
         let same : tip ≡ tip_in (content area now) = read.tip_is ∙ sym (tip-of (content area now) s read.holds) in
-        subst (λ (n : ℕ). after + distance_to kept n (tip_place kept) ≤ before + moves_by kept now (Some area)) (sym same) (omega (arith, few))
+        let each : after ≡ before + row_count (content area now) = read.steps ∙ ap (λ (n : ℕ). before + n) (sym read.counted) in
+        subst (λ (n : ℕ). after + distance_to kept n (tip_place kept) ≡ before + moves_by kept now (Some area)) (sym same) (omega (arith, each))
+
+-- the way from there to the tip
+pub led-on : (kept : List Block) (from tip : ℕ) (place : Option ℕ) (before mid after moves : ℕ) → place ≡ Some tip
+    → mid + distance_to kept from place ≡ before + moves → after ≡ mid + distance kept from tip → after ≡ before + moves
+led-on kept from tip place before mid after moves at led moved = omega (arith, led, moved, ap (distance_to kept from) at)
 
 -- ---- The answer of a reading
 
@@ -306,10 +325,9 @@ module _ (kept : List Block) (area : Area) (entries : List Entry) (reads : Optio
   loaded-cells (number, tip, state) is tells now told newest_is both =
       rows-loaded kept area entries reads now before after number tip state told newest_is both (subst Tells is tells)
 
-  pub loaded-led : (it : ℕ × ℕ × StateValue) → found ≡ Some it → Tells found → IfSome reads (λ image. after ≤ before + row_count (content area image))
-      → (now : Image) → reads ≡ Some now → after + distance_to kept it.1 (tip_place kept) ≤ before + moves_by kept now (Some area)
-  loaded-led (number, tip, state) is tells most now told =
-      led-from kept area entries reads now before after number tip state told most (subst Tells is tells)
+  pub loaded-led : (it : ℕ × ℕ × StateValue) → found ≡ Some it → Tells found → (now : Image) → reads ≡ Some now
+      → after + distance_to kept it.1 (tip_place kept) ≡ before + moves_by kept now (Some area)
+  loaded-led (number, tip, state) is tells now told = led-from kept area entries reads now before after number tip state told (subst Tells is tells)
 
   pub loaded-whole : (it : ℕ × ℕ × StateValue) → found ≡ Some it → Tells found → (now : Image) → reads ≡ Some now → HoldsOneOf entries (content area now)
   loaded-whole (number, tip, state) is tells now told = from

@@ -33,7 +33,7 @@ use Rattle.node_store.specs.Stored.{CanBeKept}
 use Rattle.node_store.specs.Kept.{KeptValue, kept_of, stored_of, CountFees, AreOfTip, AreOfKept}
 use Rattle.node_store.specs.Node.{NodeValue, node_of, IsWithin, IsBounded, IsReadBy, IsOf, IsItsOwn, IsSoundNode, IsOnlyImage, IsOn, IsLeftByOpening}
 use Rattle.node_store.specs.Gathering.{IsBodyOfUnfit}
-use Rattle.node_store.specs.Opening.{NameItsBodies, IsOfCells, IsNoneFrom, IsNoStoreAt, SaysTheSame, LeavesStore, IsReadFrom, HasNewestOf}
+use Rattle.node_store.specs.Opening.{NameItsBodies, IsOfCells, IsNoneFrom, IsNoStoreAt, SaysTheSame, LeavesStore, IsReadFrom, HasNewestOf, HaveNumbers}
 use Rattle.store_defs.specs.SnapshotLaws.{HasSoundAreas}
 use Rattle.chain_defs.specs.Schema.{Block}
 use Rattle.node_store.specs.Snapshot.{number_in, area_with, newest}
@@ -473,6 +473,17 @@ module _ {D : Type 0} (reads_as : D → Option Image) (images : D → Image → 
   moved_to_open before after most now told =
       subst (λ (s : Store). after ≤ before + moves_over now s) (sym (from_at now told).keeps)
       (subst (λ (n : ℕ). after ≤ before + n) (moves_same kept.chain.blocks now others.0) (most (with_content Log others.0 now) (told_mid now told)))
+
+  pub moved_exactly : (before after : ℕ)
+      → ((there : Image) → reads_as mid ≡ Some there → after ≡ before + moves_by kept.chain.blocks there (newest there))
+      → (now : Image) → reads_as old ≡ Some now → after ≡ before + moves_to_open now
+  moved_exactly before after each now told =
+      subst (λ (s : Store). after ≡ before + moves_over now s) (sym (from_at now told).keeps)
+      (subst (λ (n : ℕ). after ≡ before + n) (moves_same kept.chain.blocks now others.0) (each (with_content Log others.0 now) (told_mid now told)))
+
+  -- a number was read after each open gate
+  pub numbers_led : ((there : Image) → reads_as mid ≡ Some there → HaveNumbers there) → IfSome (reads_as old) HaveNumbers
+  numbers_led has = if_told HaveNumbers (reads_as old) (λ now told. has (with_content Log others.0 now) (told_mid now told))
 
   -- the snapshot that was loaded is there
   pub whole_led : ((there : Image) → reads_as mid ≡ Some there → HasNewestOf kept.entries there) → IfSome (reads_as old) (HasNewestOf kept.entries)

@@ -1,14 +1,13 @@
 -- What a snapshot leaves of the disk while it is taken, and after it.
 use Rattle.std.proofs.Common.{◌≡◌, ℕ, ◌≤◌, List, Option, Some, None, refl, sym, ap, ◌∙◌, subst, inl, inr}
-use Rattle.std.specs.Prelude.{IfSome, IsSome, IsSomeAnd, Result, Ok, Err, OnOk}
+use Rattle.std.specs.Prelude.{IfSome, IsSomeAnd, Result, Ok, Err, OnOk}
 use Rattle.std.specs.Option.{option_map}
 use Rattle.std.proofs.lemmas.Option.{same_Some}
 use Rattle.outside.specs.declared.disk.Area.{Area}
 use Rattle.outside.specs.declared.disk.Area.TheVariants.{Log, SnapA, SnapB}
 use Rattle.outside.specs.Image.{Image, InArea, content, with_content}
-use Rattle.outside.specs.Disk.{ComesBy, IsDurable, OthersRead, LeavesOnly}
+use Rattle.outside.specs.Disk.{ComesBy, IsDurable, OthersRead}
 use Rattle.outside.proofs.Images.{own_content}
-use Rattle.outside.proofs.Moments.{leaves_also, leaves_then, now_too}
 use Rattle.chain_defs.specs.Schema.{OutPoint, Block}
 use Rattle.chain_defs.specs.Kept.{block_at}
 use Rattle.chain_defs.specs.Tip.{tip_place}
@@ -18,85 +17,17 @@ use Rattle.chain_tree.specs.Blocks.{Describes}
 use Rattle.verdict_defs.specs.Chain.{Chain}
 use Rattle.disk_defs.specs.Snapshot.{Snapshot, Holds, area_of, IsOfBlocks}
 use Rattle.disk_defs.proofs.AreaLaws.{none-in-the-log, is-of-its-tip}
-use Rattle.snapshots.specs.Writing.{IsAsItWasOrClosed, IsClosedOr, HasArea, HasAnyArea, HoldsNew}
+use Rattle.snapshots.specs.Writing.{IsTaken, HasAnyArea, HoldsNew}
 use Rattle.store_defs.specs.Store.{StandsFor}
 use Rattle.store_defs.proofs.SnapshotLemmas.{stands_with_closed_area, stands_with_snapshot}
 use Rattle.node_store.specs.Kept.{AreOfTip}
 use Rattle.node_store.specs.Node.{IsOnlyImage}
-use Rattle.node_store.specs.Snapshot.{IsTaken, HasSnapshot}
-
-none-some : IsSome {T = Image} None → ⊥
-none-some some = cc
-
-with-twice : (area : Area) (bytes other : List ℕ) (image : Image) → with_content area bytes (with_content area other image) ≡ with_content area bytes image
-with-twice Log bytes other image = refl
-with-twice SnapA bytes other image = refl
-with-twice SnapB bytes other image = refl
+use Rattle.node_store.specs.Snapshot.{HasSnapshot}
 
 content-with : (area : Area) (bytes : List ℕ) (image : Image) → content area (with_content area bytes image) ≡ bytes
 content-with Log bytes image = refl
 content-with SnapA bytes image = refl
 content-with SnapB bytes image = refl
-
--- ---- One area after the other call
-
-any-then : (area : Area) (images mid : Image → Type 0) → ((image : Image) → mid image → HasAnyArea area images image)
-    → (image : Image) → HasAnyArea area mid image → HasAnyArea area images image
-any-then area images mid first image (before, left, (bytes, any, is)) = from (first before left)
-  where
-    from : HasAnyArea area images before → HasAnyArea area images image
-    from (earlier, there, (other, some, was)) = (earlier, there, (bytes, tt, is ∙ ap (with_content area bytes) was ∙ with-twice area bytes other earlier))
-
-taken-first : (area : Area) (New : List ℕ → Type 0) (images : Image → Type 0) (image : Image) → ComesBy (InArea area IsAsItWasOrClosed) images image
-    → ComesBy (InArea area (IsTaken New)) images image
-taken-first area New images image (before, left, (bytes, step, is)) = (before, left, (bytes, inl step, is))
-
-taken-then : (area : Area) (New : List ℕ → Type 0) (images mid : Image → Type 0) → ((image : Image) → mid image → ComesBy (InArea area IsAsItWasOrClosed) images image)
-    → (image : Image) → HasArea area (IsClosedOr New) mid image → ComesBy (InArea area (IsTaken New)) images image
-taken-then area New images mid first image (before, left, (bytes, has, is)) = from (first before left)
-  where
-    by : (old : List ℕ) → IsClosedOr New bytes → IsTaken New old bytes
-    by old (inl closed) = inl (inr closed)
-    by old (inr new) = inr new
-
-    from : ComesBy (InArea area IsAsItWasOrClosed) images before → ComesBy (InArea area (IsTaken New)) images image
-    from (earlier, there, (other, step, was)) =
-        (earlier, there, (bytes, by (content area earlier) has, is ∙ ap (with_content area bytes) was ∙ with-twice area bytes other earlier))
-
-module _ {D : Type 0} (reads_as : D → Option Image) (images : D → Image → Type 0) (moment : D → ℕ) (left_since : D → ℕ → Image → Type 0)
-    (counts_now : (disk : D) (t : ℕ) (image : Image) → t ≤ moment disk → images disk image → left_since disk t image)
-    (told : (disk : D) (image : Image) → images disk image → IsSome (reads_as disk)) where
-  pub beside-then : (old mid new : D) (area : Area) → LeavesOnly moment left_since old mid (HasAnyArea area (images old))
-      → LeavesOnly moment left_since mid new (HasAnyArea area (images mid)) → LeavesOnly moment left_since old new (HasAnyArea area (images old))
-  beside-then old mid new area first second =
-      leaves_then moment left_since old mid new (HasAnyArea area (images old)) first
-      (leaves_also moment left_since mid new (HasAnyArea area (images mid)) (HasAnyArea area (images old)) second
-      (any-then area (images old) (images mid) (now_too moment left_since images counts_now old mid (HasAnyArea area (images old)) first)))
-
-  -- where the gate alone was closed
-  pub moments-first : (old mid : D) (area : Area) (New : List ℕ → Type 0)
-      → LeavesOnly moment left_since old mid (ComesBy (InArea area IsAsItWasOrClosed) (images old))
-      → LeavesOnly moment left_since old mid (ComesBy (InArea area (IsTaken New)) (images old))
-  moments-first old mid area New first = leaves_also moment left_since old mid _ _ first (taken-first area New (images old))
-
-  -- and where the snapshot was written after it
-  pub moments-then : (old mid new : D) (area : Area) (New : List ℕ → Type 0)
-      → LeavesOnly moment left_since old mid (ComesBy (InArea area IsAsItWasOrClosed) (images old))
-      → (IsSome (reads_as old) → LeavesOnly moment left_since mid new (HasArea area (IsClosedOr New) (images mid)))
-      → LeavesOnly moment left_since mid new (HasAnyArea area (images mid))
-      → LeavesOnly moment left_since old new (ComesBy (InArea area (IsTaken New)) (images old))
-  moments-then old mid new area New first second beside = leaves_then moment left_since old mid new _ (moments-first old mid area New first) (by (reads_as old) refl)
-    where
-      at-mid : (image : Image) → images mid image → ComesBy (InArea area IsAsItWasOrClosed) (images old) image
-      at-mid = now_too moment left_since images counts_now old mid (ComesBy (InArea area IsAsItWasOrClosed) (images old)) first
-
-      untold : reads_as old ≡ None → (image : Image) → HasAnyArea area (images mid) image → ComesBy (InArea area (IsTaken New)) (images old) image
-      untold none image (before, left, (bytes, any, is)) =
-          let earlier = at-mid before left in absurd (none-some (subst IsSome none (told old earlier.0 earlier.1)))
-
-      by : (reads : Option Image) → reads_as old ≡ reads → LeavesOnly moment left_since mid new (ComesBy (InArea area (IsTaken New)) (images old))
-      by None none = leaves_also moment left_since mid new _ _ beside (untold none)
-      by (Some now) some = leaves_also moment left_since mid new _ _ (second (subst IsSome (sym some) refl)) (taken-then area New (images old) (images mid) at-mid)
 
 -- ---- The area of a number is none of the log
 

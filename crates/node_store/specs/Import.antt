@@ -1,6 +1,6 @@
 -- What an import of an item leaves, in four records: the verdict with the node after it, the moments, the log with the other areas, and the steps;
 -- and what each of its two parts leaves, the decision on an item and the joining of a block.
-use Rattle.std.specs.Prelude.{◌≡◌, ◌≢◌, ◌⊎◌, ℕ, ◌+◌, ◌-◌, ◌^◌, ◌<◌, ◌≤◌, true, false, List, [], ◌∷◌, ◌++◌, length, Option, Some, IfSome, IsSome, IsTrue, Result, IfOk, IfErr}
+use Rattle.std.specs.Prelude.{◌≡◌, ◌≢◌, ◌⊎◌, ℕ, ◌+◌, ◌-◌, ◌^◌, ◌<◌, ◌≤◌, true, false, List, [], ◌∷◌, ◌++◌, length, Option, Some, None, IfSome, IsSome, IsTrue, Result, Ok, Err, IfOk, IfErr}
 use Rattle.outside.specs.Disk.{OthersRead, LeavesOnly}
 use Rattle.outside.specs.Image.{Image}
 use Rattle.outside.specs.declared.disk.ReadStop.{ReadStop}
@@ -27,7 +27,7 @@ use Rattle.node_store.specs.Judging.{IsReadyItem, IsDecided, place_for}
 use Rattle.node_store.specs.Kept.{AreOfFound, AreOfTip}
 use Rattle.node_store.specs.Node.{NodeValue, IsItsOwn, IsSoundNode, IsSoundOn, IsOnlyImage, IsOn, IsLeftByImport, IsSettledAfter}
 use Rattle.node_store.specs.Snapshot.{snapshot_at, OthersReadBut, HasSnapshot, LacksSnapshot}
-use Rattle.node_store.specs.Steps.{moves_for}
+use Rattle.node_store.specs.Steps.{moves_for, moves_with}
 
 -- ---- An import
 
@@ -67,8 +67,16 @@ pub record IsLogged {C : Type 0} (node : NodeValue) (item : List ℕ) (result : 
   pub untouched : IfErr result (λ stop. stop ≢ DiskFault → (content_new ≡ content_old)
       ⊎ LacksSnapshot (length node.chain.blocks) node.place item stop reads_old reads_new old new)
 
--- How many steps the live cells took: one for a block on the tip, and one less where it stays out.
+-- No snapshot was begun: none is due, or the item stays out, or memory was out, or something is damaged.
+abbrev pub BeginsNone : Option ℕ → Result (NodeValue × Verdict) ReadStop → Type 0
+BeginsNone None result = Unit {0}
+BeginsNone (Some number) (Ok answer) = joins answer.1 ≡ false
+BeginsNone (Some number) (Err stop) = stop ≢ DiskFault
+
+-- How many steps the live cells took: those that its verdict says, where there is one; one at most for a block on the tip, and one less where it stays
+-- out.
 pub record TakesSteps (node : NodeValue) (item : List ℕ) (result : Result (NodeValue × Verdict) ReadStop) (before after : ℕ) : Type 0 where
+  pub exactly : IfOk result (λ answer. after ≡ before + moves_with node.chain item answer.1)
   pub steps : (b : Block) → decoded block item ≡ Some b → place_of node.chain.blocks b.header.parent_hash ≡ tip_place node.chain.blocks → after ≤ before + 1
   pub most : after ≤ before + moves_for node.chain item
   pub stays : IfOk result (λ answer. joins answer.1 ≡ false → after ≤ before + (moves_for node.chain item - 1))

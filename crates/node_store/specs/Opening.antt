@@ -1,5 +1,5 @@
 -- What opening a store leaves of its disk, and what it reads there.
-use Rattle.std.specs.Prelude.{◌≡◌, ◌≢◌, ◌⊎◌, ℕ, List, drop, slice_index, Option, Some, IfSome}
+use Rattle.std.specs.Prelude.{◌≡◌, ◌≢◌, ◌⊎◌, ◌≤◌, ℕ, true, List, length, drop, slice_index, Option, Some, IfSome}
 use Rattle.outside.specs.declared.disk.Area.{Area}
 use Rattle.outside.specs.declared.disk.Area.TheVariants.{Log, SnapA, SnapB}
 use Rattle.outside.specs.declared.disk.Damage.{Damage}
@@ -11,7 +11,7 @@ use Rattle.chain_tree.specs.Told.{Stored}
 use Rattle.disk_defs.specs.Log.{LogContent, log_of, records_of, end_of_log, IsNoLogFrom}
 use Rattle.disk_defs.specs.Rest.{IsSettled}
 use Rattle.log_file.specs.Opening.{IsOpened}
-use Rattle.disk_defs.specs.Snapshot.{Snapshot, Holds}
+use Rattle.disk_defs.specs.Snapshot.{Snapshot, has_open_gate, Holds}
 use Rattle.snapshots.specs.Reading.{IsDamaged, IsOfTree, damage_in}
 use Rattle.chain_tree.specs.Damages.{IsOfBlock}
 use Rattle.chain_tree.specs.Reading.{nothing_found}
@@ -66,6 +66,13 @@ HoldsOneOf entries bytes = (s : Snapshot) × Holds bytes s × IsOfTree entries s
 abbrev pub HasNewestOf : List Entry → Image → Type 0
 HasNewestOf entries now = (area : Area) → newest now ≡ Some area → HoldsOneOf entries (content area now)
 
+-- The number of a snapshot stands after each open gate.
+abbrev pub HasNumber : List ℕ → Type 0
+HasNumber bytes = has_open_gate bytes ≡ true → 5 ≤ length bytes
+
+abbrev pub HaveNumbers : Image → Type 0
+HaveNumbers now = HasNumber now.snap_a × HasNumber now.snap_b
+
 -- ---- What is left
 
 -- Whatever is answered: a disk that keeps no chain is only read, and so is one whose log has no open gate; a crash leaves what it might have left
@@ -88,11 +95,12 @@ pub record IsReadFrom (node : NodeValue) (reads : Option Image) (images : Image 
   pub of : IsOf node reads images
   pub joined : IsSound image → AreJoined node.chain node.exts
 
--- A node is opened on a disk: it has the chain that the store keeps, a damaged snapshot was not passed over, the disk is its own and settled with the
+-- A node is opened on a disk: it has the chain that the store keeps, a damaged snapshot was not passed over, nor a gate with no number after it, the disk is its own and settled with the
 -- records that it had; it is sound where the store was, and on the disk where each image was sound. No damage was found, and it holds so many blocks.
 pub record IsOpenedNode (node : NodeValue) (held : ℕ) (reads_old reads_new : Option Image) (old new : Image → Type 0) : Type 0 where
   pub kept : IfSome reads_old (λ now. store_of now ≡ Keeps node.chain)
   pub whole : IfSome reads_old (HasNewestOf node.entries)
+  pub numbered : IfSome reads_old HaveNumbers
   pub own : IsItsOwn node reads_new new
   pub settled : IfSome reads_old (λ now. IsSettled node.place (records_of (drop 8 now.log)) reads_new new)
   pub on : ((image : Image) → old image → IsSound image) → IfSome reads_old (λ _. IsOn node reads_new new)

@@ -1,12 +1,12 @@
 -- When a snapshot is due, what an import leaves beside LOG then, and which snapshot an opening loads (docs/STORE.md, "A snapshot").
-use Rattle.std.specs.Prelude.{◌≡◌, ◌⊎◌, ℕ, ◌/◌, ◌%◌, ◌==◌, nat_lt, List, [], ◌∷◌, ◌++◌, Option, Some, None, IsSome, if◌then◌else◌}
+use Rattle.std.specs.Prelude.{◌≡◌, ℕ, ◌/◌, ◌%◌, ◌==◌, nat_lt, List, [], ◌∷◌, ◌++◌, Option, Some, None, IsSome, if◌then◌else◌}
 use Rattle.std.specs.Option.{option_map}
 use Rattle.outside.specs.declared.disk.Area.{Area}
 use Rattle.outside.specs.declared.disk.Area.TheVariants.{Log, SnapA, SnapB}
 use Rattle.outside.specs.declared.disk.ReadStop.{ReadStop}
 use Rattle.outside.specs.declared.disk.ReadStop.TheVariants.{NoMemory}
 use Rattle.outside.specs.Image.{Image, content, with_content}
-use Rattle.outside.specs.Disk.{OthersRead}
+use Rattle.outside.specs.Disk.{OthersRead, LeavesOnly}
 use Rattle.chain_defs.specs.Schema.{Block}
 use Rattle.chain_defs.specs.Tip.{tip_place}
 use Rattle.cell_defs.specs.Ext.{count_at}
@@ -14,7 +14,7 @@ use Rattle.disk_defs.specs.Log.{Record}
 use Rattle.disk_defs.specs.Rest.{IsSettled}
 use Rattle.log_file.specs.Pieces.{block_record}
 use Rattle.disk_defs.specs.Snapshot.{Snapshot, has_open_gate, Holds, area_of, IsOfBlocks}
-use Rattle.snapshots.specs.Writing.{IsAsItWasOrClosed}
+use Rattle.snapshots.specs.Writing.{HasAnyArea}
 
 -- ---- When one is due
 
@@ -38,9 +38,11 @@ OthersReadBut None old new = OthersRead Log old new
 OthersReadBut (Some number) old new =
     (log : List ℕ) × (bytes : List ℕ) × (new ≡ option_map (with_log_and (area_of number) log bytes) old)
 
--- While a snapshot is taken, its area is as it was, has no open gate, or has the new one.
-abbrev pub IsTaken : (List ℕ → Type 0) → List ℕ → List ℕ → Type 0
-IsTaken New old new = IsAsItWasOrClosed old new ⊎ New new
+-- The areas of snapshots are left as they were: as the disk reads, where it tells, and in each image that a crash leaves, at each moment.
+pub record LeavesSnapshots {S : Type 0} (reads_as : S → Option Image) (images : S → Image → Type 0) (moment : S → ℕ) (left_since : S → ℕ → Image → Type 0)
+    (old new : S) : Type 0 where
+  pub reads : OthersRead Log (reads_as old) (reads_as new)
+  pub moments : IsSome (reads_as old) → LeavesOnly moment left_since old new (HasAnyArea Log (images old))
 
 -- only the area of the snapshot that is due reads otherwise
 abbrev pub OnlySnapshotReads : Option ℕ → Option Image → Option Image → Type 0

@@ -1,7 +1,7 @@
 // How an item that joins is kept, and its record put on the disk.
-ghost use Rattle.std.specs.Prelude.{◌≡◌, ◌≢◌, ◌<◌, ◌≤◌, ◌+◌, ◌^◌, Ok, Err, Some, length, map, IfOk, IfErr, IsTrue};
+ghost use Rattle.std.specs.Prelude.{◌≡◌, ◌≢◌, ◌<◌, ◌≤◌, ◌+◌, ◌^◌, Ok, Err, Some, length, map, IfOk, IfErr, IsSome, IsTrue, OnOk};
 ghost use Rattle.outside.specs.Causes.{CountsFault};
-ghost use Rattle.outside.specs.Disk.{OthersRead};
+ghost use Rattle.outside.specs.Disk.{OthersRead, LeavesOnly};
 ghost use Rattle.outside.specs.declared.disk.Area.TheVariants.{Log as log_area};
 ghost use Rattle.outside.specs.declared.disk.Damage.{Damage};
 ghost use Rattle.outside.specs.declared.disk.ReadStop.TheVariants.{DiskFault, Damaged};
@@ -11,10 +11,12 @@ ghost use Rattle.chain_defs.specs.Schema.{Block};
 ghost use Rattle.chain_defs.specs.Shape.{decoded};
 ghost use Rattle.cell_defs.specs.Ext.{ext_bytes, is_ext, count_at};
 ghost use Rattle.cell_state.specs.State.{rows};
+ghost use Rattle.snapshots.specs.Writing.{HasAnyArea};
 ghost use Rattle.store_defs.specs.Store.{AreJoined};
 ghost use Rattle.node_store.specs.Held.{held_at, OnlyAdds};
 ghost use Rattle.node_store.specs.Import.{IsFilled, HasJoined, LeavesEither};
 ghost use Rattle.node_store.specs.Node.{IsItsOwn};
+ghost use Rattle.node_store.specs.Steps.{moves_to_join};
 ghost use Rattle.node_store.specs.Kept.{AreOfFound};
 ghost use Rattle.node_store.specs.Judging.{IsReadyItem, IsDecided, place_for};
 ghost use Rattle.node_store.specs.declared.decision.Decision.TheVariants.{Joins};
@@ -98,12 +100,14 @@ pub(crate) fn join<D: Disk, L: Ledger>(
     ensures joined { IfOk result (λ next. HasJoined node next item.now joining (D.reads_as disk.old) (D.reads_as disk.new) (D.images disk.old) (D.images disk.new)) }
     ensures left { LeavesEither D.reads_as D.images D.moment D.left_since disk.old disk.new (IsDecided node.chain item.now (Joins joining)) node item.now }
     ensures others { OthersRead log_area (D.reads_as disk.old) (D.reads_as disk.new) }
+    ensures beside { IsSome (D.reads_as disk.old) → LeavesOnly D.moment D.left_since disk.old disk.new (HasAnyArea log_area (D.images disk.old)) }
     ensures untouched { IfErr result (λ stop. stop ≢ DiskFault → disk.new ≡ disk.old) }
     ensures undamaged { IsDecided node.chain item.now (Joins joining) → AreJoined node.chain node.exts
         → AreOfFound node.chain.blocks (place_for node.chain.blocks (Joins joining)) (rows node.cells)
         → (damage : Damage) → result ≡ Err (Damaged damage) → ⊥ }
     ensures damage { (damage : Damage) → result ≡ Err (Damaged damage) → damage.area ≡ log_area }
     ensures cause { CountsFault (D.faults disk.old) (D.faults disk.new) (result ≡ Err DiskFault) }
+    ensures exactly { OnOk result (steps.new ≡ steps.old + moves_to_join node.chain.blocks joining) }
     ensures most { steps.new ≤ steps.old + 1 }
 {
     let Node {

@@ -2,7 +2,7 @@
 ghost use Rattle.std.specs.Prelude.{◌≡◌, ◌≤◌, ◌+◌, ◌-◌, ◌<◌, length, Err, IfOk};
 ghost use Rattle.outside.specs.declared.disk.Damage.{Damage};
 ghost use Rattle.outside.specs.declared.disk.ReadStop.TheVariants.{Damaged, NoMemory};
-ghost use Rattle.node_store.specs.Steps.{moves_for};
+ghost use Rattle.node_store.specs.Steps.{moves_for, moves_until};
 ghost use Rattle.cell_state.specs.State.{rows};
 ghost use Rattle.chain_tree.specs.Reading.{HasRead, stop_of};
 ghost use Rattle.node_store.specs.Kept.{HoldsJoined, AreOfFound, AreOfTip, AreOfKept};
@@ -40,6 +40,7 @@ pub trait Judging {
         ensures undamaged { HoldsJoined kept.now (B.told blocks.old) → AreOfTip kept.now.chain.blocks (rows state)
             → (damage : Damage) → result ≡ Err (Damaged damage) → ⊥ }
         ensures asked { result ≡ Err NoMemory → MayWantMemory kept.now.chain item.now }
+        ensures exactly { IfOk result (λ it. steps.new ≡ steps.old + moves_until kept.now.chain.blocks (moves_for kept.now.chain item.now) it.1) }
         ensures most { steps.new ≤ steps.old + (moves_for kept.now.chain item.now - 1) }
         ensures sight { moves_for kept.now.chain item.now ≡ 0 → blocks.new ≡ blocks.old };
 }

@@ -14,7 +14,7 @@ ghost use Rattle.cell_defs.specs.Fit.{are_live, AllFit};
 ghost use Rattle.cell_state.specs.State.{rows, Grows};
 ghost use Rattle.cell_state.specs.Moves.{AreBelow};
 ghost use Rattle.cell_model.specs.ListBlocks.{IsExtFor};
-ghost use Rattle.chain_tree.specs.Blocks.{Describes, IndexesBlocks};
+ghost use Rattle.chain_tree.specs.Blocks.{Describes, IndexesBlocks, AreRated};
 ghost use Rattle.outside.specs.declared.disk.Area.TheVariants.{Log};
 ghost use Rattle.outside.specs.declared.disk.Damage.{Damage as a_damage};
 ghost use Rattle.outside.specs.declared.disk.ReadStop.TheVariants.{DiskFault, Damaged};
@@ -23,6 +23,7 @@ ghost use Rattle.cell_defs.specs.FitLaws.{AreCanonical};
 ghost use Rattle.store_defs.specs.Store.{IsJoined};
 ghost use Rattle.node_store.specs.Kept.{kept_with, AreOfFound, AreOfTip, AreOfKept};
 ghost use Rattle.node_store.specs.Migration.{kept_edited};
+ghost use Rattle.node_store.specs.Steps.{moves_to_join};
 ghost use Rattle.node_store.specs.Judging.{IsReady, is_above, place_for};
 ghost use Rattle.node_store.specs.declared.decision.Decision.TheVariants.{Joins};
 
@@ -86,6 +87,7 @@ fn grown<L: Ledger>(
         → (damage : a_damage) → result ≡ Err (Damaged damage) → ⊥ }
     ensures damage { (damage : a_damage) → result ≡ Err (Damaged damage) → damage.area ≡ Log }
     ensures reads { result ≢ Err DiskFault }
+    ensures exactly { OnOk result (steps.new ≡ steps.old + 1) }
     ensures most { steps.new ≤ steps.old + 1 }
 {
     let mut state = cells;
@@ -129,6 +131,7 @@ impl Kept {
             → (damage : a_damage) → result ≡ Err (Damaged damage) → ⊥ }
         ensures damage { (damage : a_damage) → result ≡ Err (Damaged damage) → damage.area ≡ Log }
         ensures reads { result ≢ Err DiskFault }
+        ensures exactly { (kept : List Block) → IndexesBlocks kept tree.now.entries → OnOk result (steps.new ≡ steps.old + moves_to_join kept joining) }
         ensures most { steps.new ≤ steps.old + 1 }
     {
         if !is_above_tip(tree, &joining.entry) {
@@ -162,6 +165,7 @@ impl Kept {
             → (damage : a_damage) → result ≡ Err (Damaged damage) → ⊥ }
         ensures damage { (damage : a_damage) → result ≡ Err (Damaged damage) → damage.area ≡ Log }
         ensures reads { result ≢ Err DiskFault }
+        ensures exactly { OnOk result (steps.new ≡ steps.old + moves_to_join self.chain.blocks joining) }
         ensures most { steps.new ≤ steps.old + 1 }
     {
         let block = BlockView::from_encoding(item);
@@ -237,6 +241,7 @@ impl Kept {
     pub fn tree(&self) -> &Tree
         ensures entries { result.now.entries ≡ self.now.entries }
         ensures indexed { IndexesBlocks self.now.chain.blocks result.now.entries }
+        ensures rated { AreRated result.now.entries }
         ensures canonical { AreCanonical self.now.chain.blocks }
     {
         &self.tree

@@ -17,7 +17,7 @@ ghost use Rattle.chain_defs.specs.Tip as tips;
 ghost use Rattle.chain_defs.specs.Tip.{tip_place, best_branch};
 ghost use Rattle.cell_state.specs.State.{rows};
 ghost use Rattle.cell_state.specs.Moves.{AreOf};
-ghost use Rattle.chain_tree.specs.Blocks.{Describes, IndexesBlocks};
+ghost use Rattle.chain_tree.specs.Blocks.{Describes, IndexesBlocks, AreRated};
 ghost use Rattle.chain_tree.specs.Damages.{IsOfBlock};
 ghost use Rattle.chain_tree.specs.Reading.{nothing_found, stop_of};
 ghost use Rattle.verdict_defs.specs.Chain.{Chain, verdict_over, chain_after};
@@ -28,15 +28,15 @@ ghost use Rattle.store_defs.specs.Store.{Keeps, store_of, StandsFor, IsSound};
 ghost use Rattle.node_store.specs.Held.{held_at};
 ghost use Rattle.log_file.specs.declared.stop.LogStop.TheVariants as log_stops;
 ghost use Rattle.log_file.specs.Stops.{OfDamage, IsInLog};
-ghost use Rattle.node_store.specs.Import.{IsImported, LeavesEither, IsLogged, TakesSteps, IsDecidedOn};
+ghost use Rattle.node_store.specs.Import.{IsImported, LeavesEither, IsLogged, BeginsNone, TakesSteps, IsDecidedOn};
 ghost use Rattle.store_defs.specs.Migration.{migration, is_done};
 ghost use Rattle.node_store.specs.Migration.{IsMigrated, LeavesMigration};
 ghost use Rattle.node_store.specs.Node.{node_of, IsItsOwn, IsSoundNode, IsSoundOn, IsOnlyImage, IsOn, LeavesAll};
 ghost use Rattle.node_store.specs.Kept.{AreOfTip, AreOfKept};
 ghost use Rattle.node_store.specs.Opening.{LeavesStore, IsReadFrom, IsOpenedNode, NameItsBodies, IsNoneFrom, IsNoStoreAt};
 ghost use Rattle.outside.specs.declared.disk.WriteStop.TheVariants as write_stops;
-ghost use Rattle.node_store.specs.Snapshot.{snapshot_at, OthersReadBut, HasSnapshot, LacksSnapshot};
-ghost use Rattle.node_store.specs.Steps.{moves_for};
+ghost use Rattle.node_store.specs.Snapshot.{snapshot_at, LeavesSnapshots};
+ghost use Rattle.node_store.specs.Steps.{moves_for, moves_until};
 ghost use Rattle.node_store.specs.OpeningSteps.{moves_to_open};
 ghost use Rattle.node_store.specs.Judging.{MayWantMemory};
 ghost use Rattle.node_store.specs.Queries.{IsHeaderAt, IsBlockAt, IsLiveCell, IsFetched};
@@ -183,6 +183,7 @@ impl Node {
         ensures moments { (now : Image) (chain : Chain) → D.reads_as disk.old ≡ Some now → store_of now ≡ Keeps chain → ((image : Image) → D.images disk.old image → IsSound image)
             → LeavesOnly D.moment D.left_since disk.old disk.new (λ image. D.images disk.old image ⊎ StandsFor chain image) }
         ensures cause { CountsFault (D.faults disk.old) (D.faults disk.new) (result ≡ Err LogStop.DiskFault) }
+        ensures exactly { (now : Image) → D.reads_as disk.old ≡ Some now → OnOk result (steps.new ≡ steps.old + moves_to_open now) }
         ensures most { (now : Image) → D.reads_as disk.old ≡ Some now → steps.new ≤ steps.old + moves_to_open now }
     {
         let node = match read_store(alloc, disk, held) {
@@ -218,7 +219,8 @@ impl Node {
     /// one. An item that is answered at sight, as one that is known, takes no step and does not call the disk. Memory is
     /// wanted only for a block that is new, on a kept parent, and keeps the rules on a header and the limits on its length
     /// and its proposals. A block that joins is held in memory. Where as many blocks have joined as a multiple of 1,000,
-    /// siblings counted, the snapshot of the tip is taken before the answer; without memory for it the block's record stays.
+    /// siblings counted, the snapshot of the tip is taken before the answer; without memory for it the block's record stays, and
+    /// the older snapshots. Where none is begun, no area but LOG is written.
     pub fn import<D: Disk, J: Judging, L: Ledger>(
         self,
         alloc: Global,
@@ -232,6 +234,7 @@ impl Node {
         ensures imported { IfOk result (λ answer. IsImported self answer.0 item.now answer.1 (D.reads_as disk.old) (D.reads_as disk.new) (D.images disk.old) (D.images disk.new)) }
         ensures left { LeavesEither D.reads_as D.images D.moment D.left_since disk.old disk.new (IsSoundOn self (D.reads_as disk.old)) self item.now }
         ensures logged { IsLogged self item.now result (D.content_of disk.old) (D.content_of disk.new) (D.reads_as disk.old) (D.reads_as disk.new) (D.images disk.old) (D.images disk.new) }
+        ensures snapshots { BeginsNone (snapshot_at (length self.chain.blocks)) result → LeavesSnapshots D.reads_as D.images D.moment D.left_since disk.old disk.new }
         ensures stepped { TakesSteps self item.now result steps.old steps.new }
         ensures undamaged { IsSoundOn self (D.reads_as disk.old) → (damage : Damage) → result ≡ Err (Damaged damage) → ⊥ }
         ensures damage { (damage : Damage) → result ≡ Err (Damaged damage) → damage.area ≡ log_area }
@@ -280,6 +283,7 @@ impl Node {
         ensures cause { CountsFault (D.faults disk.old) (D.faults disk.new) (result ≡ Err DiskFault) }
         ensures asked { result ≡ Err ReadStop.NoMemory → MayWantMemory self.chain item.now }
         ensures sight { moves_for self.chain item.now ≡ 0 → disk.new ≡ disk.old }
+        ensures exactly { IfOk result (λ it. steps.new ≡ steps.old + moves_until self.chain.blocks (moves_for self.chain item.now) it.1) }
         ensures most { steps.new ≤ steps.old + (moves_for self.chain item.now - 1) }
     {
         let Node {
@@ -430,10 +434,11 @@ impl Node {
         self.kept.tip()
     }
 
-    /// The tree of the kept blocks.
+    /// The tree of the kept blocks. The C and the AR of each entry's DAO field are above 0.
     pub fn tree(&self) -> &Tree
         ensures entries { result.now.entries ≡ self.now.entries }
         ensures indexed { IndexesBlocks self.now.chain.blocks result.now.entries }
+        ensures rated { AreRated result.now.entries }
     {
         self.kept.tree()
     }

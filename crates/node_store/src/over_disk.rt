@@ -13,7 +13,7 @@ ghost use Rattle.cell_state.specs.Moves.{AreOf};
 ghost use Rattle.store_defs.specs.Store.{AreJoined};
 ghost use Rattle.node_store.specs.Node.{IsReadBy, HasOnlyRead};
 ghost use Rattle.node_store.specs.Kept.{AreOfFound, AreOfTip, AreOfKept};
-ghost use Rattle.node_store.specs.Steps.{moves_for};
+ghost use Rattle.node_store.specs.Steps.{moves_for, moves_until};
 ghost use Rattle.node_store.specs.Judging.{IsReadyItem, IsDecided, MayWantMemory, place_for};
 ghost use Rattle.node_store.specs.Queries.{IsHeaderAt, IsBlockAt, IsLiveCell, IsFetched};
 
@@ -75,6 +75,7 @@ pub(crate) fn decide<D: Disk, J: Judging, L: Ledger>(
     ensures undamaged { IsSome (D.reads_as disk.old) → AreJoined kept.now.chain kept.now.exts → AreOfTip kept.now.chain.blocks (rows state)
         → (damage : a_damage) → result ≡ Err (Damaged damage) → ⊥ }
     ensures asked { result ≡ Err NoMemory → MayWantMemory kept.now.chain item.now }
+    ensures exactly { IfOk result (λ it. steps.new ≡ steps.old + moves_until kept.now.chain.blocks (moves_for kept.now.chain item.now) it.1) }
     ensures most { steps.new ≤ steps.old + (moves_for kept.now.chain item.now - 1) }
     ensures sight { moves_for kept.now.chain item.now ≡ 0 → disk.new ≡ disk.old }
 {

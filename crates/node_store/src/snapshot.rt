@@ -1,8 +1,8 @@
 // When a snapshot is taken, and which one is loaded where a store is opened.
 ghost use Rattle.std.specs.Prelude.{◌≡◌, ◌<◌, ◌≤◌, ◌+◌, ℕ, List, Err, Some, None, length, IfOk, IsOk, OnOk, IfSome};
 ghost use Rattle.outside.specs.Causes.{CountsFault};
-ghost use Rattle.outside.specs.Image.{Image, InArea, content};
-ghost use Rattle.outside.specs.Disk.{ComesBy, IsDurable, OthersRead, LeavesOnly, AreaKept};
+ghost use Rattle.outside.specs.Image.{Image, content};
+ghost use Rattle.outside.specs.Disk.{ComesBy, LeavesOnly, AreaKept};
 ghost use Rattle.outside.specs.declared.disk.Area.TheVariants.{Log};
 ghost use Rattle.outside.specs.declared.disk.Damage.{Damage as a_damage};
 ghost use Rattle.outside.specs.declared.disk.ReadStop.TheVariants as read_stops;
@@ -12,21 +12,19 @@ ghost use Rattle.chain_defs.specs.Tip.{tip_place};
 ghost use Rattle.cell_state.specs.State.{rows};
 ghost use Rattle.chain_tree.specs.Reading.{AnswersFound, stop_of};
 ghost use Rattle.cell_state.specs.Moves.{AreOf};
-ghost use Rattle.disk_defs.specs.Snapshot as snapshots;
-ghost use Rattle.snapshots.specs.Writing.{HasAnyArea, HoldsNew};
 ghost use Rattle.store_defs.specs.Store.{StandsFor, AreJoined};
 ghost use Rattle.store_defs.specs.SnapshotLaws.{HasSoundAreas};
 ghost use Rattle.node_store.specs.Node.{IsReadBy, IsOnlyImage};
 ghost use Rattle.node_store.specs.Kept.{AreOfTip, AreOfKept};
 ghost use Rattle.chain_tree.specs.declared.entry.Entry.{Entry};
-ghost use Rattle.node_store.specs.Opening.{IsOfSnapshot, IsOfCells, HoldsOneOf, HasNewestOf};
-ghost use Rattle.node_store.specs.Snapshot.{snapshot_at, IsTaken, OnlySnapshotReads, HasSnapshot, area_with, newest};
+ghost use Rattle.node_store.specs.Opening.{IsOfSnapshot, IsOfCells, HoldsOneOf, HasNewestOf, HaveNumbers};
+ghost use Rattle.node_store.specs.Snapshot.{snapshot_at, OnlySnapshotReads, HasSnapshot, area_with, newest};
 ghost use Rattle.node_store.specs.OpeningSteps.{distance_to, moves_by};
 
 use crate::{Cache, Kept, over_disk};
 use cell_state::State;
 use outside::{Area, Damage, Disk, ReadStop, Steps, WriteStop};
-use snapshots::{area_of, close, number, read, write};
+use snapshots::{number, read, write};
 use std::alloc::Global;
 use std::sync::ledger::Ledger;
 
@@ -45,37 +43,8 @@ fn due(joined: u32) -> Option<u32>
     }
 }
 
-/// Closes the gate of the area of a snapshot, and writes the snapshot after it.
-fn put<D: Disk>(
-    alloc: Global,
-    disk: &mut D,
-    number: u32,
-    tip: u32,
-    hash: &[u8; 32],
-    state: &State,
-) -> Result<(), WriteStop>
-    ensures written { OnOk result (IfSome (D.reads_as disk.new) (λ now. HoldsNew number tip hash.now (rows state.now) (content (snapshots.area_of number) now))) }
-    ensures durable { OnOk result (IfSome (D.reads_as disk.new) (IsDurable (snapshots.area_of number) (D.images disk.new))) }
-    ensures moments { IfSome (D.reads_as disk.old) (IsDurable (snapshots.area_of number) (D.images disk.old))
-        → LeavesOnly D.moment D.left_since disk.old disk.new
-        (ComesBy (InArea (snapshots.area_of number) (IsTaken (HoldsNew number tip hash.now (rows state.now)))) (D.images disk.old)) }
-    ensures beside { LeavesOnly D.moment D.left_since disk.old disk.new (HasAnyArea (snapshots.area_of number) (D.images disk.old)) }
-    ensures others { OthersRead (snapshots.area_of number) (D.reads_as disk.old) (D.reads_as disk.new) }
-    ensures cause { CountsFault (D.faults disk.old) (D.faults disk.new) (result ≡ Err write_stops.DiskFault) }
-{
-    let area = area_of(number);
-    match close(disk, area) {
-        Ok(()) => {}
-        Err(_) => return Err(WriteStop::DiskFault),
-    }
-    match write(alloc, disk, area, number, tip, hash, state) {
-        Ok(()) => Ok(()),
-        Err(stop) => Err(stop),
-    }
-}
-
 /// Takes the snapshot that is due when so many blocks have joined: that of the tip of what is kept, by its live cells. Where
-/// none is due, the disk is not called.
+/// none is due, or memory is out, the disk is not called.
 pub(crate) fn take_snapshot<D: Disk>(
     alloc: Global,
     disk: &mut D,
@@ -86,6 +55,7 @@ pub(crate) fn take_snapshot<D: Disk>(
     ensures taken { (number : ℕ) → snapshot_at joined ≡ Some number → AreOfTip kept.now.chain.blocks (rows state.now)
         → OnOk result (IfSome (D.reads_as disk.new) (HasSnapshot kept.now.chain.blocks number)) }
     ensures none { snapshot_at joined ≡ None → IsOk result × (disk.new ≡ disk.old) }
+    ensures uncalled { result ≡ Err write_stops.NoMemory → disk.new ≡ disk.old }
     // Over the one image of what is kept: an image stands for it at each moment, and after `Ok` one does.
     ensures moments { AreOfTip kept.now.chain.blocks (rows state.now) → IsOnlyImage kept.now.chain (D.reads_as disk.old) (D.images disk.old)
         → LeavesOnly D.moment D.left_since disk.old disk.new (StandsFor kept.now.chain) }
@@ -99,7 +69,7 @@ pub(crate) fn take_snapshot<D: Disk>(
         return Ok(());
     };
     let tip = kept.tree().tip();
-    put(
+    write(
         alloc,
         disk,
         number,
@@ -132,6 +102,7 @@ fn newer(a: Option<u32>, b: Option<u32>) -> Option<Area>
 /// The area of the open snapshot with the greater number.
 fn newest_in<D: Disk>(disk: &mut D) -> Result<Option<Area>, ReadStop>
     ensures newest { IfSome (D.reads_as disk.old) (λ now. IfOk result (λ found. found ≡ newest now)) }
+    ensures numbered { IfSome (D.reads_as disk.old) (λ now. OnOk result (HaveNumbers now)) }
     ensures undamaged { (kept : List Block) (now : Image) → D.reads_as disk.old ≡ Some now → HasSoundAreas kept now
         → (damage : a_damage) → result ≡ Err (read_stops.Damaged damage) → ⊥ }
     ensures damage { (entries : List Entry) (now : Image) → D.reads_as disk.old ≡ Some now
@@ -171,7 +142,7 @@ fn load_from<D: Disk, L: Ledger>(
     ensures content { D.content_of disk.new ≡ D.content_of disk.old }
     ensures cause { CountsFault (D.faults disk.old) (D.faults disk.new) (result ≡ Err read_stops.DiskFault) }
     ensures led { (now : Image) → D.reads_as disk.old ≡ Some now
-        → IfOk result (λ it. steps.new + distance_to kept.now.chain.blocks it.0 (tip_place kept.now.chain.blocks) ≤ steps.old + moves_by kept.now.chain.blocks now (Some area)) }
+        → IfOk result (λ it. steps.new + distance_to kept.now.chain.blocks it.0 (tip_place kept.now.chain.blocks) ≡ steps.old + moves_by kept.now.chain.blocks now (Some area)) }
     ensures most { (now : Image) → D.reads_as disk.old ≡ Some now → steps.new ≤ steps.old + moves_by kept.now.chain.blocks now (Some area) }
 {
     match read(alloc, disk, area, kept.tree(), steps) {
@@ -202,11 +173,11 @@ fn load<D: Disk, L: Ledger>(
         → (damage : a_damage) → result ≡ Err (read_stops.Damaged damage) → ⊥ }
     ensures damage { (now : Image) → D.reads_as disk.old ≡ Some now
         → (damage : a_damage) → result ≡ Err (read_stops.Damaged damage) → IsOfSnapshot kept.now.entries now damage }
-    ensures whole { (now : Image) → D.reads_as disk.old ≡ Some now → OnOk result (HasNewestOf kept.now.entries now) }
+    ensures whole { (now : Image) → D.reads_as disk.old ≡ Some now → OnOk result (HasNewestOf kept.now.entries now × HaveNumbers now) }
     ensures content { D.content_of disk.new ≡ D.content_of disk.old }
     ensures cause { CountsFault (D.faults disk.old) (D.faults disk.new) (result ≡ Err read_stops.DiskFault) }
     ensures led { (now : Image) → D.reads_as disk.old ≡ Some now
-        → IfOk result (λ it. steps.new + distance_to kept.now.chain.blocks it.0 (tip_place kept.now.chain.blocks) ≤ steps.old + moves_by kept.now.chain.blocks now (newest now)) }
+        → IfOk result (λ it. steps.new + distance_to kept.now.chain.blocks it.0 (tip_place kept.now.chain.blocks) ≡ steps.old + moves_by kept.now.chain.blocks now (newest now)) }
     ensures most { (now : Image) → D.reads_as disk.old ≡ Some now → steps.new ≤ steps.old + moves_by kept.now.chain.blocks now (newest now) }
 {
     let found = match newest_in(disk) {
@@ -242,12 +213,13 @@ pub(crate) fn to_tip<D: Disk, L: Ledger>(
         → AreOf kept.now.chain.blocks 0 (rows genesis) → (damage : a_damage) → result ≡ Err (read_stops.Damaged damage) → ⊥ }
     ensures damage { (now : Image) → D.reads_as disk.old ≡ Some now
         → (damage : a_damage) → result ≡ Err (read_stops.Damaged damage) → IsOfCells kept.now.entries now damage }
-    ensures whole { (now : Image) → D.reads_as disk.old ≡ Some now → OnOk result (HasNewestOf kept.now.entries now) }
+    ensures whole { (now : Image) → D.reads_as disk.old ≡ Some now → OnOk result (HasNewestOf kept.now.entries now × HaveNumbers now) }
     ensures agrees { IfSome (D.reads_as disk.new) (IsReadBy kept.now cache.new.held) }
     ensures content { D.content_of disk.new ≡ D.content_of disk.old }
     ensures found { AnswersFound cache.old.damages cache.new.damages (stop_of result) }
     ensures room { cache.new.most ≡ cache.old.most }
     ensures cause { CountsFault (D.faults disk.old) (D.faults disk.new) (result ≡ Err read_stops.DiskFault) }
+    ensures exactly { (now : Image) → D.reads_as disk.old ≡ Some now → OnOk result (steps.new ≡ steps.old + moves_by kept.now.chain.blocks now (newest now)) }
     ensures most { (now : Image) → D.reads_as disk.old ≡ Some now → steps.new ≤ steps.old + moves_by kept.now.chain.blocks now (newest now) }
 {
     let tip = kept.tree().tip();

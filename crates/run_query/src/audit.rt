@@ -6,6 +6,7 @@ ghost use Rattle.node_store.specs.Node.{IsItsOwn, IsSoundOn, LeavesAll};
 ghost use Rattle.report_defs.specs.Report as reports;
 ghost use Rattle.report_defs.specs.declared.command.Query.TheVariants as queries;
 ghost use Rattle.report_defs.specs.Status.{IsOneOf};
+ghost use Rattle.run_store.specs.Damage.{AnswersDamage};
 ghost use Rattle.run_text.specs.Store.{OnlyReads, opening_stops};
 ghost use Rattle.run_query.specs.Queries.{balances_of};
 
@@ -34,6 +35,7 @@ pub fn audit<D: Disk>(alloc: Global, disk: &mut D, node: &mut Node) -> Result<Ve
     ensures text { IsSoundOn node.old (D.reads_as disk.old) → IfOk result (λ text. text.items ≡ reports.answer_to_query queries.Audit node.old.chain) }
     ensures stop { (status : Status) → result ≡ Err status → IsOneOf opening_stops status }
     ensures sound { IsSoundOn node.old (D.reads_as disk.old) → result ≡ Err Status.NotAStore → ⊥ }
+    ensures damage { AnswersDamage node.old node.new (result ≡ Err Status.NotAStore) }
 {
     let left = match balances(alloc, disk, node) {
         Ok(left) => left,

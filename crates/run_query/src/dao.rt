@@ -16,6 +16,7 @@ ghost use Rattle.report_defs.specs.Text as text;
 ghost use Rattle.report_defs.specs.declared.command.Query.TheVariants as queries;
 ghost use Rattle.report_defs.specs.declared.dao.DaoState.TheVariants as states;
 ghost use Rattle.report_defs.specs.Status.{IsOneOf};
+ghost use Rattle.run_store.specs.Damage.{AnswersDamage};
 ghost use Rattle.run_text.specs.Store.{OnlyReads, finding_stops, opening_stops};
 ghost use Rattle.run_query.specs.Queries.{IsCopied, IsCopyFound, IsLiveIn};
 
@@ -46,6 +47,7 @@ pub fn dao<D: Disk>(
     ensures text { IsSoundOn node.old (D.reads_as disk.old) → IfOk result (λ text. text.items ≡ reports.answer_to_query (queries.Dao tx_hash index) node.old.chain) }
     ensures stop { (status : Status) → result ≡ Err status → IsOneOf opening_stops status }
     ensures sound { IsSoundOn node.old (D.reads_as disk.old) → result ≡ Err Status.NotAStore → ⊥ }
+    ensures damage { AnswersDamage node.old node.new (result ≡ Err Status.NotAStore) }
 {
     let found = match fetch_cell(alloc, disk, node, tx_hash, index) {
         Ok(found) => found,
@@ -71,6 +73,7 @@ fn fetch_cell<D: Disk>(
     ensures found { IsSoundOn node.old (D.reads_as disk.old) → IfOk result (IsCopyFound (cell_at_tip node.old.chain tx_hash index)) }
     ensures stop { (status : Status) → result ≡ Err status → IsOneOf opening_stops status }
     ensures sound { IsSoundOn node.old (D.reads_as disk.old) → result ≡ Err Status.NotAStore → ⊥ }
+    ensures damage { AnswersDamage node.old node.new (result ≡ Err Status.NotAStore) }
 {
     let Some(o) = out_point(tx_hash, index) else {
         return Ok(None);

@@ -24,6 +24,7 @@ ghost use Rattle.node_store.specs.Kept.{AreOfTip};
 ghost use Rattle.node_store.specs.Queries.{IsHeaderAt};
 ghost use Rattle.run_text.specs.Output.{Took};
 ghost use Rattle.run_query.specs.Queries.{IsCellFound};
+ghost use Rattle.run_store.specs.Damage.{AnswersDamage};
 ghost use Rattle.run_text.specs.Store.{Delivers, IsQueryPrinted, OnlyReads, opening_stops};
 
 use crate::audit::audit;
@@ -54,6 +55,7 @@ fn answer_to<D: Disk>(
     ensures text { IsSoundOn node.old (D.reads_as disk.old) → IfOk result (λ text. text.items ≡ reports.answer_to_query query node.old.chain) }
     ensures stop { (status : Status) → result ≡ Err status → IsOneOf opening_stops status }
     ensures sound { IsSoundOn node.old (D.reads_as disk.old) → result ≡ Err Status.NotAStore → ⊥ }
+    ensures damage { AnswersDamage node.old node.new (result ≡ Err Status.NotAStore) }
 {
     match query {
         Query::Tip => tip(alloc, node),
@@ -99,6 +101,7 @@ fn header<D: Disk>(
     ensures text { IsSome (D.reads_as disk.old) → IfOk result (λ text. text.items ≡ reports.answer_to_query (queries.Header height) node.old.chain) }
     ensures stop { (status : Status) → result ≡ Err status → IsOneOf opening_stops status }
     ensures sound { IsSome (D.reads_as disk.old) → result ≡ Err Status.NotAStore → ⊥ }
+    ensures damage { AnswersDamage node.old node.new (result ≡ Err Status.NotAStore) }
 {
     let found = match node.header(alloc, disk, height) {
         Ok(found) => found,
@@ -134,6 +137,7 @@ fn json<D: Disk>(
     ensures text { IsSome (D.reads_as disk.old) → IfOk result (λ text. text.items ≡ reports.answer_to_query (queries.Json height) node.old.chain) }
     ensures stop { (status : Status) → result ≡ Err status → IsOneOf opening_stops status }
     ensures sound { IsSome (D.reads_as disk.old) → result ≡ Err Status.NotAStore → ⊥ }
+    ensures damage { AnswersDamage node.old node.new (result ≡ Err Status.NotAStore) }
 {
     let found = match node.block(alloc, disk, height) {
         Ok(found) => found,
@@ -225,6 +229,7 @@ fn find_and_answer<K: Sink, D: Disk>(
     ensures status { IsOneOf query_statuses result }
     ensures disk { OnlyReads D.content_of D.faults disk.old disk.new (result ≡ Status.DiskFault) }
     ensures faults { CountsFault (K.faults out.old) (K.faults out.new) (result ≡ Status.SinkFault) }
+    ensures damage { AnswersDamage node.old node.new (result ≡ Status.NotAStore) }
 {
     let text = match answer_to(alloc, disk, node, query) {
         Ok(text) => text,

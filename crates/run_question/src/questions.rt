@@ -19,6 +19,7 @@ ghost use Rattle.run_text.specs.Whole.{IsReadWhole};
 ghost use Rattle.node_store.specs.OpeningSteps.{moves_to_open};
 ghost use Rattle.run_text.specs.Output.{Transfers};
 ghost use Rattle.node_store.specs.Node.{IsItsOwn, IsSoundOn};
+ghost use Rattle.run_store.specs.Damage.{AnswersDamage};
 ghost use Rattle.run_text.specs.Store.{OnlyReads, opening_stops};
 ghost use Rattle.run_question.specs.Question.{IsAnswerTo, AnswersQuestion, DeliversAnswer};
 
@@ -68,6 +69,7 @@ fn answer_to<D: Disk>(
     ensures one_of { IfOk result (λ answer. IsOneOf (Status.Done ∷ Status.SomeRefused ∷ []) answer.status) }
     ensures stop { (status : Status) → result ≡ Err status → IsOneOf opening_stops status }
     ensures sound { IsSoundOn node.old (D.reads_as disk.old) → result ≡ Err Status.NotAStore → ⊥ }
+    ensures damage { AnswersDamage node.old node.new (result ≡ Err Status.NotAStore) }
 {
     match question {
         Question::Check => check(alloc, disk, node, &items[0]),
@@ -88,6 +90,7 @@ fn check<D: Disk>(
     ensures one_of { IfOk result (λ answer. IsOneOf (Status.Done ∷ Status.SomeRefused ∷ []) answer.status) }
     ensures stop { (status : Status) → result ≡ Err status → IsOneOf opening_stops status }
     ensures sound { IsSoundOn node.old (D.reads_as disk.old) → result ≡ Err Status.NotAStore → ⊥ }
+    ensures damage { AnswersDamage node.old node.new (result ≡ Err Status.NotAStore) }
 {
     let tried = match judge_item(alloc, disk, node, item) {
         Ok(tried) => tried,
@@ -111,6 +114,7 @@ fn judge_item<D: Disk>(
     ensures trial { IsSoundOn node.old (D.reads_as disk.old) → IfOk result (λ tried. tried ≡ trials.trial node.old.chain item.now) }
     ensures stop { (status : Status) → result ≡ Err status → IsOneOf opening_stops status }
     ensures sound { IsSoundOn node.old (D.reads_as disk.old) → result ≡ Err Status.NotAStore → ⊥ }
+    ensures damage { AnswersDamage node.old node.new (result ≡ Err Status.NotAStore) }
 {
     let Some(tx) = TxView::read(item) else {
         return Ok(Trial::Refused(1));
@@ -152,6 +156,7 @@ fn read_and_answer<S: Source, K: Sink, D: Disk>(
     ensures disk { OnlyReads D.content_of D.faults disk.old disk.new (result ≡ Status.DiskFault) }
     ensures input_faults { CountsFault (S.faults input.old) (S.faults input.new) (result ≡ Status.InputFault) }
     ensures out_faults { CountsFault (K.faults out.old) (K.faults out.new) (result ≡ Status.SinkFault) }
+    ensures damage { AnswersDamage node.old node.new (result ≡ Status.NotAStore) }
 {
     let items = match read_items(alloc, input, question) {
         Ok(Whole::Items(items)) => items,

@@ -1,3 +1,4 @@
 pub mod DiskLemmas
 pub mod LookLemmas
 pub mod RecordLemmas
+pub mod DamageLemmas

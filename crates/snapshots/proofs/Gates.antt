@@ -13,7 +13,7 @@ use Rattle.outside.proofs.Images.{own_content}
 use Rattle.disk_defs.specs.Snapshot.{has_open_gate}
 use Rattle.snapshots.specs.Writing.{IsClosed, IsShut, IsAsItWasOrClosed, IsClosedOr, HasArea, HasAnyArea, HoldsBody}
 
-no-some : IsSome {T = Image} None → ⊥
+pub no-some : IsSome {T = Image} None → ⊥
 no-some some = cc
 
 -- ---- Areas
@@ -23,7 +23,7 @@ content-with Log bytes image = refl
 content-with SnapA bytes image = refl
 content-with SnapB bytes image = refl
 
-with-twice : (area : Area) (bytes other : List ℕ) (image : Image) → with_content area bytes (with_content area other image) ≡ with_content area bytes image
+pub with-twice : (area : Area) (bytes other : List ℕ) (image : Image) → with_content area bytes (with_content area other image) ≡ with_content area bytes image
 with-twice Log bytes other image = refl
 with-twice SnapA bytes other image = refl
 with-twice SnapB bytes other image = refl

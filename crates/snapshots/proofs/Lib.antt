@@ -3,4 +3,6 @@ mod LoadLemmas
 mod Heads
 mod Whole
 mod Gates
+mod Taken
 mod BodyLemmas
+mod ReadBack

@@ -205,6 +205,7 @@ told-all area entries (Some image) mid head found state before after same h tip 
         number_is = refl;
         tip_is = refl;
         rows = loaded.lists;
+        counted = sym h.counted ∙ sym loaded.are.as_many;
         steps = steps ∙ ap (λ (n : ℕ). before + n) (sym loaded.are.as_many);
       },
     )

@@ -92,6 +92,7 @@ pub record IsRead (entries : List Entry) (bytes : List ℕ) (before after number
   pub number_is : number ≡ s.number
   pub tip_is : tip ≡ s.tip
   pub rows : ListsRows (rows state) s.rows
+  pub counted : row_count bytes ≡ length s.rows
   pub steps : after ≡ before + length s.rows
 
 -- The gate is open, but the bytes hold no snapshot of the tree.

@@ -44,6 +44,10 @@ pub record IsSnapshotOf (number tip : ℕ) (hash : List ℕ) (rows : OutPoint �
 abbrev pub HoldsNew : ℕ → ℕ → List ℕ → (OutPoint → Option Row) → List ℕ → Type 0
 HoldsNew number tip hash rows bytes = (s : Snapshot) × IsSnapshotOf number tip hash rows s × Holds bytes s
 
+-- While a snapshot is taken, its area is as it was, has no open gate, or has the new one.
+abbrev pub IsTaken : (List ℕ → Type 0) → List ℕ → List ℕ → Type 0
+IsTaken New old new = IsAsItWasOrClosed old new ⊎ New new
+
 -- no open gate, or such bytes
 abbrev pub IsClosedOr : (List ℕ → Type 0) → List ℕ → Type 0
 IsClosedOr New bytes = (has_open_gate bytes ≡ false) ⊎ New bytes

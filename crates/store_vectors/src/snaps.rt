@@ -165,9 +165,12 @@ fn filled<L: Ledger>(blank: Blank, state: &mut State, rows: &[u8]) -> Option<()>
     fill(state, rows, &mut steps)
 }
 
-/// A number, the place and the hash of the tip, and rows in any order: the area is closed, and their snapshot is written.
+/// A number, whose area it is, the place and the hash of the tip, and rows in any order: their snapshot is written.
 fn agrees_on_write(alloc: Global, disk: &mut MemDisk, area: Area, row: &mut Row) -> Option<bool> {
     let (number, tip) = (row.short()?, row.short()?);
+    if area_of(number) != area {
+        return None;
+    }
     let mut hash = [0; 32];
     let given = row.bytes(alloc)?;
     if given.len() != 32 {
@@ -177,27 +180,12 @@ fn agrees_on_write(alloc: Global, disk: &mut MemDisk, area: Area, row: &mut Row)
     let rows = row.bytes(alloc)?;
     let mut state = State::new(alloc);
     let there = filled::<Brand>(Blank::new(1), &mut state, &rows);
-    let written = stored(alloc, disk, area, number, tip, &hash, &state);
+    let written = write(alloc, disk, number, tip, &hash, &state);
     drop(state);
     there?;
     match written {
         Ok(()) => Some(row.word() == "ok"),
         Err(WriteStop::DiskFault) => Some(row.word() == "disk_fault"),
         Err(WriteStop::NoMemory) => None,
-    }
-}
-
-fn stored(
-    alloc: Global,
-    disk: &mut MemDisk,
-    area: Area,
-    number: u32,
-    tip: u32,
-    hash: &[u8; 32],
-    state: &State,
-) -> Result<(), WriteStop> {
-    match close(disk, area) {
-        Ok(()) => write(alloc, disk, area, number, tip, hash, state),
-        Err(Failed) => Err(WriteStop::DiskFault),
     }
 }

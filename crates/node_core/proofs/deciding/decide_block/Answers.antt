@@ -1,12 +1,15 @@
-use Rattle.std.proofs.Common.{ℕ, ◌+◌, ◌-◌, ◌≤◌, Some, refl, sym, ap, ◌∙◌, subst}
+use Rattle.std.proofs.Common.{◌≡◌, ℕ, ◌+◌, ◌-◌, ◌≤◌, true, Some, None, rules, refl, sym, ap, ◌∙◌, subst}
 use Rattle.outside.proofs.Endings.{no_answer}
-use Rattle.chain_defs.specs.Kept.{place_of}
+use Rattle.std.specs.Prelude.{is_some, IfOk}
+use Rattle.chain_defs.specs.Kept.{place_of, block_hash}
 use Rattle.chain_tree.specs.Told.{blocks_of}
 use Rattle.chain_tree.proofs.ReadLemmas.{unread}
 use Rattle.node_store.specs.Kept.{KeptValue}
 use Rattle.node_store.specs.Judging.{IsEntryOn}
+use Rattle.node_store.specs.Steps.{moves_of_block, moves_until}
+use Rattle.verdict_defs.specs.declared.verdict.Verdict.TheVariants.{Full}
 use Rattle.node_core.proofs.DecidingLemmas.{none-there}
-use Rattle.node_store.proofs.StepLemmas.{no-step, moves-on-parent}
+use Rattle.node_store.proofs.StepLemmas.{no-step, moves-on-parent, none-until, moves-known, moves-unfound}
 use Rattle.node_core.proofs.deciding.decide_block.Goals as goal
 
 pub entry_on-entry-requires : goal.entry_on-entry-requires
@@ -119,3 +122,32 @@ returns-clause-sight g c = λ none.
       describes = c.entry_on-entry.ensures.describes;
     }) in
     c.decide_on.ensures.sight (moves-on-parent c.args.kept.now.chain c.args.block.now c.entry_on-entry.result.parent on.new on.on_kept ∙ none)
+
+-- ---- How many steps
+
+pub returns-then-is_some-clause-exactly : goal.returns-then-is_some-clause-exactly
+returns-then-is_some-clause-exactly g c =
+    let kept = blocks_of c.kept.inside.blocks.stored in
+    none-until c.args.kept.now.chain.blocks (moves_of_block c.args.kept.now.chain c.args.block.now) c.args.steps.now Full
+    (moves-known c.args.kept.now.chain c.args.block.now
+    (subst (λ (v : KeptValue). is_some (place_of v.chain.blocks (block_hash c.args.block.now)) ≡ true) c.kept.view_is
+    (sym (ap is_some (c.find.ensures.of_blocks kept c.kept.invariant.indexed ∙ ap (place_of kept) c.hash_of-hash.ensures)) ∙ sym c.is_some.ensures ∙ c.if-is_some.true)))
+
+pub returns-in_default-clause-exactly : goal.returns-in_default-clause-exactly
+returns-in_default-clause-exactly g c =
+    let kept = blocks_of c.kept.inside.blocks.stored in
+    none-until c.args.kept.now.chain.blocks (moves_of_block c.args.kept.now.chain c.args.block.now) c.args.steps.now Full
+    (moves-unfound c.args.kept.now.chain c.args.block.now
+    (subst (λ (v : KeptValue). place_of v.chain.blocks c.args.block.now.header.parent_hash ≡ None) c.kept.view_is
+    (search rules)))
+
+pub returns-clause-exactly : goal.returns-clause-exactly
+returns-clause-exactly g c =
+    let kept = blocks_of c.kept.inside.blocks.stored in
+    let on = subst (λ (v : KeptValue). IsEntryOn v.chain.blocks c.args.block.now c.entry_on-entry.result) c.kept.view_is (record {
+      new = sym (c.find.ensures.of_blocks kept c.kept.invariant.indexed ∙ ap (place_of kept) c.hash_of-hash.ensures) ∙ none-there c.find.result (sym c.is_some.ensures ∙ c.if-is_some.false);
+      on_kept = sym (c.in-Some.ensures.of_blocks kept c.kept.invariant.indexed ∙ ap (place_of kept) c.parent_hash.ensures) ∙ ap Some (sym c.entry_on-entry.ensures.parent);
+      describes = c.entry_on-entry.ensures.describes;
+    }) in
+    subst (λ (n : ℕ). IfOk c.decide_on.result (λ it. c.decide_on.new.steps ≡ c.args.steps.now + moves_until c.args.kept.now.chain.blocks n it.1))
+    (moves-on-parent c.args.kept.now.chain c.args.block.now c.entry_on-entry.result.parent on.new on.on_kept) c.decide_on.ensures.exactly

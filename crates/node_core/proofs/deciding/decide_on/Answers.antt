@@ -7,13 +7,14 @@ use Rattle.chain_tree.specs.Told.{blocks_of}
 use Rattle.chain_tree.proofs.ReadLemmas.{unread, read_on, read_so, read_short}
 use Rattle.cell_state.specs.State.{rows}
 use Rattle.rule_defs.specs.RuleNumber.{rule_number}
-use Rattle.verdict_defs.specs.declared.verdict.Verdict.TheVariants.{Refused}
+use Rattle.verdict_defs.specs.declared.verdict.Verdict.TheVariants.{Refused, Full}
 use Rattle.node_store.specs.Kept.{KeptValue}
 use Rattle.node_store.proofs.EntryLemmas.{within-blocks}
 use Rattle.node_core.proofs.DecidingLemmas.{verdict-refused}
 use Rattle.block_judge.proofs.SightLemmas.{first-at-sight}
 use Rattle.node_core.proofs.SightLemmas.{wants-passed}
-use Rattle.node_store.proofs.StepLemmas.{takes-some}
+use Rattle.node_store.specs.Steps.{moves_on}
+use Rattle.node_store.proofs.StepLemmas.{takes-some, none-until, moves-broken, until_there, until_back}
 use Rattle.node_store.proofs.JoiningLemmas.{at-parent, at-tip}
 use Rattle.node_store.proofs.KeptSources.{tells-on, same_stop}
 use Rattle.node_core.proofs.deciding.decide_on.Goals as goal
@@ -196,3 +197,37 @@ returns-in-Ok-moved-2-clause-below g c = λ are. c.in-Ok-moved-2.ensures.below (
 
 pub returns-in-Err-moved-clause-below : goal.returns-in-Err-moved-clause-below
 returns-in-Err-moved-clause-below g c = λ _. tt
+
+-- ---- How many steps
+
+pub returns-in-Err-Broken-clause-exactly : goal.returns-in-Err-Broken-clause-exactly
+returns-in-Err-Broken-clause-exactly g c =
+    none-until c.args.kept.now.chain.blocks (moves_on c.args.kept.now.chain c.args.candidate.now.block.now (Some c.args.candidate.now.entry.parent)) c.args.steps.now Full
+    (moves-broken c.args.kept.now.chain c.args.candidate.now.block.now c.args.candidate.now.entry.parent (rule_number c.in-Err-Broken.rule)
+    (c.in-Err-Broken.ensures.broken c.in-Err-Broken.rule (ap Err c.in-Err-Broken.field-0-is)))
+
+pub returns-in-Err-Read-clause-exactly : goal.returns-in-Err-Read-clause-exactly
+returns-in-Err-Read-clause-exactly g c = tt
+
+pub returns-in-Err-clause-exactly : goal.returns-in-Err-clause-exactly
+returns-in-Err-clause-exactly g c = tt
+
+pub returns-in-Err-judge_on-clause-exactly : goal.returns-in-Err-judge_on-clause-exactly
+returns-in-Err-judge_on-clause-exactly g c = tt
+
+pub returns-in-Err-moved-clause-exactly : goal.returns-in-Err-moved-clause-exactly
+returns-in-Err-moved-clause-exactly g c = tt
+
+pub returns-then-is_tip_next-clause-exactly : goal.returns-then-is_tip_next-clause-exactly
+returns-then-is_tip_next-clause-exactly g c =
+    until_there c.args.kept.now.chain c.args.candidate.now.block.now c.args.candidate.now.entry.parent c.tip-from.result c.args.steps.now c.in-Ok.ensures.passed.sight
+    (sym (ap (λ (v : KeptValue). tip_place v.chain.blocks) c.kept.view_is)
+    ∙ c.tip-from.ensures.of_blocks (blocks_of c.kept.inside.blocks.stored) c.kept.invariant.indexed)
+    c.in-Ok-judge_on.decision _ (sym c.is_tip_next.ensures ∙ c.if-is_tip_next.true) c.in-Ok-moved.ensures.steps
+
+pub returns-in-Ok-moved-2-clause-exactly : goal.returns-in-Ok-moved-2-clause-exactly
+returns-in-Ok-moved-2-clause-exactly g c =
+    until_back c.args.kept.now.chain c.args.candidate.now.block.now c.args.candidate.now.entry.parent c.tip-from.result c.args.steps.now c.in-Ok.ensures.passed.sight
+    (sym (ap (λ (v : KeptValue). tip_place v.chain.blocks) c.kept.view_is)
+    ∙ c.tip-from.ensures.of_blocks (blocks_of c.kept.inside.blocks.stored) c.kept.invariant.indexed)
+    c.in-Ok-judge_on.decision _ _ (sym c.is_tip_next.ensures ∙ c.if-is_tip_next.false) c.in-Ok-moved.ensures.steps c.in-Ok-moved-2.ensures.steps

@@ -1,7 +1,7 @@
-use Rattle.std.proofs.Common.{◌≡◌, ℕ, List, ◌∷◌, length, refl, ap, sym, ◌∙◌, subst, arith}
+use Rattle.std.proofs.Common.{◌≡◌, ◌+◌, ℕ, List, ◌∷◌, length, refl, ap, sym, ◌∙◌, subst, arith}
 use Rattle.std.specs.Prelude.{IsTrue}
 use Rattle.outside.proofs.Endings.{handed, no_answer, no_memory, memory_undamaged, fault_undamaged}
-use Rattle.outside.proofs.Moments.{leaves_also, now_too}
+use Rattle.outside.proofs.Moments.{started, leaves_also, now_too}
 use Rattle.outside.specs.declared.disk.Area.TheVariants.{Log}
 use Rattle.chain_defs.proofs.KeptLaws.{place_of-below}
 use Rattle.cell_defs.specs.Ext.{ext_bytes, is_ext, count_at}
@@ -14,14 +14,15 @@ use Rattle.log_file.proofs.Exits.{fault_counts}
 use Rattle.node_store.specs.declared.decision.Decision.TheVariants.{Joins}
 use Rattle.node_store.specs.Import.{HasJoined, LeavesEither}
 use Rattle.node_store.specs.Judging.{IsReadyItem, IsDecided}
+use Rattle.node_store.specs.Steps.{moves_to_join}
 use Rattle.node_store.specs.Kept.{KeptValue, kept_with, stored_of}
 use Rattle.node_store.specs.Node.{NodeValue, node_of, IsItsOwn, IsOnlyImage}
 use Rattle.node_store.proofs.WritingLemmas.{piece_long}
 use Rattle.node_store.proofs.ImportLemmas.{can_join, record_is, form_is, is_ext_for, place_limit, is_after, own_after, few_after, within_after}
 use Rattle.node_store.proofs.ImportedLemmas.{left-still, inside-parts}
 use Rattle.node_store.proofs.DiskLemmas.{counts_none, stands_either, only_after}
-use Rattle.node_store.proofs.AppendLemmas.{as-many, place-next, named_by, of_told, own_there, own_next, adds-here, held_next}
-use Rattle.node_store.proofs.KeepingLemmas.{left_appended}
+use Rattle.node_store.proofs.AppendLemmas.{as-many, place-next, named_by, of_told, of_some, appended-beside, own_there, own_next, adds-here, held_next}
+use Rattle.node_store.proofs.KeepingLemmas.{any-here, left_appended}
 use Rattle.node_store.proofs.joining.join.Goals as goal
 
 pub prepare-requires : goal.prepare-requires
@@ -92,6 +93,10 @@ returns-in-Err-clause-left g c = left-still g.D.Disk.reads_as g.D.Disk.images g.
 pub returns-in-Err-clause-others : goal.returns-in-Err-clause-others
 returns-in-Err-clause-others g c = others_same Log (g.D.Disk.reads_as c.args.disk.now)
 
+pub returns-in-Err-clause-beside : goal.returns-in-Err-clause-beside
+returns-in-Err-clause-beside g c = λ _. started g.D.Disk.moment g.D.Disk.left_since _ _ (λ image left.
+    any-here Log (g.D.Disk.images c.args.disk.now) image (g.met.D.Disk.only_now c.args.disk.now image left))
+
 pub returns-in-Err-clause-untouched : goal.returns-in-Err-clause-untouched
 returns-in-Err-clause-untouched g c = λ _. refl
 
@@ -117,6 +122,10 @@ returns-in-Err-join-clause-left g c = left-still g.D.Disk.reads_as g.D.Disk.imag
 
 pub returns-in-Err-join-clause-others : goal.returns-in-Err-join-clause-others
 returns-in-Err-join-clause-others g c = others_same Log (g.D.Disk.reads_as c.args.disk.now)
+
+pub returns-in-Err-join-clause-beside : goal.returns-in-Err-join-clause-beside
+returns-in-Err-join-clause-beside g c = λ _. started g.D.Disk.moment g.D.Disk.left_since _ _ (λ image left.
+    any-here Log (g.D.Disk.images c.args.disk.now) image (g.met.D.Disk.only_now c.args.disk.now image left))
 
 pub returns-in-Err-join-clause-untouched : goal.returns-in-Err-join-clause-untouched
 returns-in-Err-join-clause-untouched g c = λ _. refl
@@ -166,6 +175,15 @@ returns-in-Err-append-clause-left g c =
 pub returns-in-Err-append-clause-others : goal.returns-in-Err-append-clause-others
 returns-in-Err-append-clause-others g c = c.append.ensures.others
 
+pub returns-in-Err-append-clause-beside : goal.returns-in-Err-append-clause-beside
+returns-in-Err-append-clause-beside g c = λ told.
+    let own : IsItsOwn (node_of c.node.inside.kept c.node.inside.log.place c.node.inside.state c.node.inside.cache) (g.D.Disk.reads_as c.args.disk.now) (g.D.Disk.images c.args.disk.now) =
+    subst (λ (v : NodeValue). IsItsOwn v (g.D.Disk.reads_as c.args.disk.now) (g.D.Disk.images c.args.disk.now)) (sym c.node.view_is) c.requires.own in
+    let of = of_some (node_of c.node.inside.kept c.node.inside.log.place c.node.inside.state c.node.inside.cache) (g.D.Disk.reads_as c.args.disk.now) (g.D.Disk.images c.args.disk.now) told own in
+    leaves_also g.D.Disk.moment g.D.Disk.left_since _ _ _ _
+    (c.append.ensures.moments (record_of 1 of.read.specification ∷ of.read.records) (block_record c.args.item.now (ext_bytes c.args.joining.ext)) c.in-Ok.ensures.filled.filled of.settled)
+    (appended-beside c.node.inside.log.place _ _ (g.D.Disk.images c.args.disk.now))
+
 pub returns-in-Err-append-clause-untouched : goal.returns-in-Err-append-clause-untouched
 returns-in-Err-append-clause-untouched g c = λ other. absurd (other refl)
 
@@ -207,6 +225,15 @@ returns-in-Ok-append-clause-left g c =
 
 pub returns-in-Ok-append-clause-others : goal.returns-in-Ok-append-clause-others
 returns-in-Ok-append-clause-others g c = c.append.ensures.others
+
+pub returns-in-Ok-append-clause-beside : goal.returns-in-Ok-append-clause-beside
+returns-in-Ok-append-clause-beside g c = λ told.
+    let own : IsItsOwn (node_of c.node.inside.kept c.node.inside.log.place c.node.inside.state c.node.inside.cache) (g.D.Disk.reads_as c.args.disk.now) (g.D.Disk.images c.args.disk.now) =
+    subst (λ (v : NodeValue). IsItsOwn v (g.D.Disk.reads_as c.args.disk.now) (g.D.Disk.images c.args.disk.now)) (sym c.node.view_is) c.requires.own in
+    let of = of_some (node_of c.node.inside.kept c.node.inside.log.place c.node.inside.state c.node.inside.cache) (g.D.Disk.reads_as c.args.disk.now) (g.D.Disk.images c.args.disk.now) told own in
+    leaves_also g.D.Disk.moment g.D.Disk.left_since _ _ _ _
+    (c.append.ensures.moments (record_of 1 of.read.specification ∷ of.read.records) (block_record c.args.item.now (ext_bytes c.args.joining.ext)) c.in-Ok.ensures.filled.filled of.settled)
+    (appended-beside c.node.inside.log.place _ _ (g.D.Disk.images c.args.disk.now))
 
 pub returns-in-Ok-append-clause-untouched : goal.returns-in-Ok-append-clause-untouched
 returns-in-Ok-append-clause-untouched g c = tt
@@ -272,3 +299,18 @@ returns-in-Ok-append-clause-joined g c =
       room = c.prepare.ensures.most;
       found = c.prepare.ensures.damages;
     })
+
+-- ---- How many steps
+
+pub returns-in-Err-clause-exactly : goal.returns-in-Err-clause-exactly
+returns-in-Err-clause-exactly g c = tt
+
+pub returns-in-Err-join-clause-exactly : goal.returns-in-Err-join-clause-exactly
+returns-in-Err-join-clause-exactly g c = tt
+
+pub returns-in-Err-append-clause-exactly : goal.returns-in-Err-append-clause-exactly
+returns-in-Err-append-clause-exactly g c = tt
+
+pub returns-in-Ok-append-clause-exactly : goal.returns-in-Ok-append-clause-exactly
+returns-in-Ok-append-clause-exactly g c =
+    subst (λ (v : NodeValue). c.join.new.steps ≡ c.args.steps.now + moves_to_join v.chain.blocks c.args.joining) c.node.view_is c.in-Ok-join.ensures.exactly

@@ -63,3 +63,6 @@ returns-clause-asked g c = c.decide.ensures.asked
 
 pub returns-clause-most : goal.returns-clause-most
 returns-clause-most g c = c.decide.ensures.most
+
+pub returns-clause-exactly : goal.returns-clause-exactly
+returns-clause-exactly g c = c.decide.ensures.exactly

@@ -1,7 +1,7 @@
 use Rattle.std.proofs.Common.{refl, inl, inr}
 use Rattle.outside.specs.declared.disk.Area.TheVariants.{SnapA, SnapB}
 use Rattle.log_file.proofs.Exits.{same_stop}
-use Rattle.node_store.proofs.LoadingLemmas.{number-undamaged, number-damaged}
+use Rattle.node_store.proofs.LoadingLemmas.{number-undamaged, number-damaged, have-numbers}
 use Rattle.node_store.proofs.snapshot.newest_in.Goals as goal
 
 pub returns-in-Err-clause-undamaged : goal.returns-in-Err-clause-undamaged
@@ -21,3 +21,8 @@ pub returns-in-Err-number-clause-damage : goal.returns-in-Err-number-clause-dama
 returns-in-Err-number-clause-damage g c = λ entries now told damage e.
     inr (number-damaged SnapB entries (g.D.Disk.reads_as c.args.disk.now) (g.D.Disk.reads_as c.number.new.disk) now c.in-Err-number.stop damage
     (g.met.D.Disk.content_rests c.args.disk.now c.number.new.disk c.number.ensures.content).reads told c.in-Err-number.ensures.number (same_stop _ _ e))
+
+pub returns-clause-numbered : goal.returns-clause-numbered
+returns-clause-numbered g c =
+    have-numbers (g.D.Disk.reads_as c.args.disk.now) (g.D.Disk.reads_as c.number.new.disk) c.in-Ok.a c.in-Ok-number.b
+    (g.met.D.Disk.content_rests c.args.disk.now c.number.new.disk c.number.ensures.content).reads c.in-Ok.ensures.number c.in-Ok-number.ensures.number

@@ -2,11 +2,15 @@ use Rattle.std.proofs.Common.{ℕ, Err, refl, sym, ap, ◌∙◌, subst, inl, in
 use Rattle.std.specs.Prelude.{IsSome}
 use Rattle.std.proofs.lemmas.Option.{same_Some}
 use Rattle.cell_state.specs.State.{rows}
+use Rattle.chain_defs.specs.Tip.{tip_place}
 use Rattle.chain_tree.proofs.BlockLemmas.{len-same}
 use Rattle.chain_tree.specs.Reading.{stop_of}
 use Rattle.chain_tree.proofs.ReadLemmas.{finds_answers}
 use Rattle.log_file.proofs.Exits.{same_stop}
 use Rattle.cell_state.specs.Moves.{AreOf}
+use Rattle.node_store.specs.OpeningSteps.{moves_by}
+use Rattle.node_store.specs.Snapshot.{newest}
+use Rattle.node_store.proofs.LoadingLemmas.{led-on}
 use Rattle.node_store.proofs.snapshot.to_tip.Goals as goal
 
 pub moved-requires-clause-to : goal.moved-requires-clause-to
@@ -50,3 +54,9 @@ returns-in-Err-moved-clause-found g c = finds_answers c.in-Err-moved.ensures.loo
 
 pub returns-in-Ok-moved-clause-whole : goal.returns-in-Ok-moved-clause-whole
 returns-in-Ok-moved-clause-whole g c = c.in-Ok.ensures.whole
+
+pub returns-in-Ok-moved-clause-exactly : goal.returns-in-Ok-moved-clause-exactly
+returns-in-Ok-moved-clause-exactly g c = λ now told.
+    led-on c.args.kept.now.chain.blocks c.in-Ok.loaded.0 c.tip-tip.result (tip_place c.args.kept.now.chain.blocks) c.args.steps.now c.load.new.steps c.moved.new.steps
+    (moves_by c.args.kept.now.chain.blocks now (newest now)) (c.tip-tip.ensures.of_blocks c.args.kept.now.chain.blocks c.tree.ensures.indexed)
+    (c.in-Ok.ensures.led now told) c.in-Ok-moved.ensures.steps

@@ -5,6 +5,7 @@ use Rattle.report_defs.specs.Text.{audit_line}
 use Rattle.run_text.proofs.Exits.{same_stop}
 use Rattle.run_store.proofs.LookLemmas.{looks_found, looks_stopped, memory_no_fault, memory_no_none, memory_opening}
 use Rattle.run_query.proofs.AuditLemmas.{undamaged-stop}
+use Rattle.run_store.proofs.DamageLemmas.{none_found, found_said}
 use Rattle.run_query.proofs.audit.audit.Goals as goal
 
 pub returns-in-Err-clause-disk : goal.returns-in-Err-clause-disk
@@ -27,3 +28,11 @@ returns-clause-stop g c = λ status is. memory_opening status (c.line_or_stop.en
 
 pub returns-clause-sound : goal.returns-clause-sound
 returns-clause-sound g c = λ sound is. memory_no_none c.line_or_stop.result c.line_or_stop.ensures.memory is
+
+-- ---- Damage that was found
+
+pub returns-in-Err-clause-damage : goal.returns-in-Err-clause-damage
+returns-in-Err-clause-damage g c = found_said c.in-Err.stop c.status_of_reading.result c.in-Err.ensures.left c.status_of_reading.ensures.damaged
+
+pub returns-clause-damage : goal.returns-clause-damage
+returns-clause-damage g c = none_found c.in-Ok.ensures.left

@@ -3,6 +3,7 @@ use Rattle.outside.proofs.Endings.{no_answer}
 use Rattle.node_store.specs.Node.{NodeValue}
 use Rattle.run_text.proofs.Exits.{same_stop}
 use Rattle.run_store.proofs.LookLemmas.{looks_not, looks_found, looks_stopped}
+use Rattle.run_store.proofs.DamageLemmas.{none_met, none_found, found_said}
 use Rattle.run_query.proofs.dao.fetch_cell.Goals as goal
 
 pub returns-in_default-clause-disk : goal.returns-in_default-clause-disk
@@ -24,3 +25,14 @@ pub returns-in-Err-clause-sound : goal.returns-in-Err-clause-sound
 returns-in-Err-clause-sound g c = λ sound is.
     let none = c.status_of_reading.ensures.none (same_stop _ _ is) in
     c.in-Err.ensures.undamaged sound.sound.live sound.told none.0 (ap Err none.1)
+
+-- ---- Damage that was found
+
+pub returns-in_default-clause-damage : goal.returns-in_default-clause-damage
+returns-in_default-clause-damage g c = none_met c.args.node.now
+
+pub returns-in-Ok-clause-damage : goal.returns-in-Ok-clause-damage
+returns-in-Ok-clause-damage g c = none_found c.in-Ok.ensures.left
+
+pub returns-in-Err-clause-damage : goal.returns-in-Err-clause-damage
+returns-in-Err-clause-damage g c = found_said c.in-Err.stop c.status_of_reading.result c.in-Err.ensures.left c.status_of_reading.ensures.damaged

@@ -1,4 +1,5 @@
 use Rattle.run_store.proofs.LookLemmas.{looks_not, memory_no_fault}
+use Rattle.run_store.proofs.DamageLemmas.{none_met}
 use Rattle.run_query.proofs.queries.answer_to.Goals as goal
 
 pub returns-in-Tip-clause-disk : goal.returns-in-Tip-clause-disk
@@ -9,3 +10,17 @@ returns-in-Epoch-clause-disk g c = looks_not c.args.disk.now (memory_no_fault c.
 
 pub returns-in-Cell-clause-disk : goal.returns-in-Cell-clause-disk
 returns-in-Cell-clause-disk g c = looks_not c.args.disk.now (memory_no_fault c.cell.result c.cell.ensures.memory)
+
+-- ---- Damage that was found
+
+pub returns-in-Tip-clause-damage : goal.returns-in-Tip-clause-damage
+returns-in-Tip-clause-damage g c = none_met c.args.node.now
+
+pub returns-in-Epoch-clause-damage : goal.returns-in-Epoch-clause-damage
+returns-in-Epoch-clause-damage g c = none_met c.args.node.now
+
+pub returns-in-Cell-clause-damage : goal.returns-in-Cell-clause-damage
+returns-in-Cell-clause-damage g c = none_met c.args.node.now
+
+pub returns-in-Cells-clause-damage : goal.returns-in-Cells-clause-damage
+returns-in-Cells-clause-damage g c = none_met c.args.node.now

@@ -10,6 +10,7 @@ use Rattle.run_query.proofs.QueryReport.{query_stopped, query_printed}
 use Rattle.run_query.proofs.Statuses as statuses
 use Rattle.run_text.proofs.Statuses.{opening_stop, opening_no_sink, told_one}
 use Rattle.run_query.proofs.Statuses.{query_opening}
+use Rattle.run_store.proofs.DamageLemmas.{none_then}
 use Rattle.run_query.proofs.queries.find_and_answer.Goals as goal
 
 pub returns-in-Err-clause-told : goal.returns-in-Err-clause-told
@@ -48,3 +49,11 @@ returns-clause-disk g c = looks_well c.in-Ok.ensures.disk (no_answer _ _) (λ e.
     let told = c.write_bytes.ensures.told in
     lacks (SinkFault ∷ Done ∷ []) DiskFault refl c.write_bytes.result
     (told_one (Done ∷ []) c.deref.result.now Done c.write_bytes.result told.0 (inl refl) told.2) e)
+
+-- ---- Damage that was found
+
+pub returns-in-Err-clause-damage : goal.returns-in-Err-clause-damage
+returns-in-Err-clause-damage g c = λ rose. same_stop _ _ (c.in-Err.ensures.damage rose)
+
+pub returns-clause-damage : goal.returns-clause-damage
+returns-clause-damage g c = none_then c.in-Ok.ensures.damage (no_answer _ _)

@@ -1,9 +1,10 @@
 use Rattle.std.proofs.Common.{sym, refl, ap, ◌∙◌}
 use Rattle.outside.proofs.Endings.{no_answer}
 use Rattle.chain_tree.proofs.ReadLemmas.{unread}
-use Rattle.node_store.specs.Steps.{moves_of}
+use Rattle.node_store.specs.Steps.{moves_of, moves_for}
+use Rattle.verdict_defs.specs.declared.verdict.Verdict.TheVariants.{Full}
 use Rattle.node_core.proofs.DecidingLemmas.{verdict-no-block, decided-else, ready-else}
-use Rattle.node_store.proofs.StepLemmas.{no-step, moves-of-item}
+use Rattle.node_store.proofs.StepLemmas.{no-step, moves-of-item, none-until, until-item}
 use Rattle.node_core.proofs.deciding.RulesJudging.decide.Goals as goal
 
 pub decide_block-requires : goal.decide_block-requires
@@ -69,3 +70,13 @@ returns-in-Some-clause-most g c =
 
 pub returns-in-Some-clause-sight : goal.returns-in-Some-clause-sight
 returns-in-Some-clause-sight g c = λ none. c.decide_block.ensures.sight (ap (moves_of c.args.kept.now.chain) c.in-Some.ensures.value ∙ none)
+
+-- ---- How many steps
+
+pub returns-in-None-clause-exactly : goal.returns-in-None-clause-exactly
+returns-in-None-clause-exactly g c =
+    none-until c.args.kept.now.chain.blocks (moves_for c.args.kept.now.chain c.args.item.now) c.args.steps.now Full (ap (moves_of c.args.kept.now.chain) (sym c.in-None.ensures.value))
+
+pub returns-in-Some-clause-exactly : goal.returns-in-Some-clause-exactly
+returns-in-Some-clause-exactly g c =
+    until-item c.args.kept.now.chain c.args.item.now c.in-Some.block _ _ c.decide_block.result (sym c.in-Some.ensures.value) c.decide_block.ensures.exactly

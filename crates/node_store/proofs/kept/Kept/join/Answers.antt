@@ -1,4 +1,4 @@
-use Rattle.std.proofs.Common.{◌≡◌, ◌++◌, ◌∷◌, [], List, length, refl, sym, ap, ◌∙◌, subst, arith}
+use Rattle.std.proofs.Common.{◌≡◌, ◌+◌, ◌++◌, ◌∷◌, [], List, length, refl, sym, ap, ◌∙◌, subst, arith}
 use Rattle.std.proofs.lemmas.Option.{same_Some}
 use Rattle.chain_defs.specs.Schema.{Block, block}
 use Rattle.chain_defs.proofs.ShapeLaws.{IsA-decoded}
@@ -7,6 +7,7 @@ use Rattle.cell_state.specs.State.{rows}
 use Rattle.node_store.specs.Kept.{KeptValue, AreOfFound, AreOfTip}
 use Rattle.node_store.specs.Judging.{IsReady, place_for}
 use Rattle.node_store.specs.declared.decision.Decision.TheVariants.{Joins}
+use Rattle.node_store.specs.Steps.{moves_to_join}
 use Rattle.node_store.proofs.KeptBelow.{below-joined}
 use Rattle.node_store.proofs.EntryLemmas.{few-entries}
 use Rattle.node_store.proofs.JoiningLemmas.{seen-block, follows-parent, hash-new, FitsOn, fits-on, ready-for, describes-named, kept-push, blocks-push, are-kept-push}
@@ -177,3 +178,14 @@ returns-in-Ok-put-clause-below g c =
     (rows c.args.state) (rows c.in-Ok.state) (ap (λ (v : KeptValue). v.chain.blocks) c.self.view_is)
     (blocks-push c.self.inside.blocks.stored c.put.new.blocks.stored c.from_encoding-block.result c.args.ext.now c.in-Ok-put.ensures.blocks)
     c.self.invariant.indexed c.in-Ok.ensures.below
+
+pub returns-in-Err-clause-exactly : goal.returns-in-Err-clause-exactly
+returns-in-Err-clause-exactly g c = tt
+
+pub returns-in-Err-put-clause-exactly : goal.returns-in-Err-put-clause-exactly
+returns-in-Err-put-clause-exactly g c = tt
+
+pub returns-in-Ok-put-clause-exactly : goal.returns-in-Ok-put-clause-exactly
+returns-in-Ok-put-clause-exactly g c =
+    subst (λ (bs : List Block). c.state_with.new.steps ≡ c.args.steps.now + moves_to_join bs c.args.joining)
+    (ap (λ (v : KeptValue). v.chain.blocks) c.self.view_is) (c.in-Ok.ensures.exactly (blocks_of c.self.inside.blocks.stored) c.self.invariant.indexed)

@@ -1,6 +1,8 @@
 use Rattle.std.proofs.Common.{sym, ◌∙◌, arith}
 use Rattle.node_store.proofs.JoiningLemmas.{joining-cells, staying-cells, fits-parent, rows-stay, move-else}
 use Rattle.outside.proofs.Endings.{no_answer}
+use Rattle.node_store.proofs.LoadingLemmas.{whole-also}
+use Rattle.node_store.proofs.StepLemmas.{none-to-join, one-to-join}
 use Rattle.node_store.proofs.kept.Kept.state_with.Goals as goal
 
 pub returns-then-not-is_above_tip-clause-undamaged : goal.returns-then-not-is_above_tip-clause-undamaged
@@ -37,3 +39,13 @@ returns-then-not-is_above_tip-clause-below g c = λ _ _ are. are
 
 pub returns-clause-below : goal.returns-clause-below
 returns-clause-below g c = λ end less. c.grown.ensures.below end (omega (arith, less, c.len.ensures.len))
+
+pub returns-then-not-is_above_tip-clause-exactly : goal.returns-then-not-is_above_tip-clause-exactly
+returns-then-not-is_above_tip-clause-exactly g c = λ kept indexed.
+    none-to-join kept c.args.joining c.args.steps.now (sym (c.is_above_tip.ensures kept indexed) ∙ c.if-not-is_above_tip.true)
+
+pub returns-clause-exactly : goal.returns-clause-exactly
+returns-clause-exactly g c = λ kept indexed.
+    whole-also c.grown.result
+    (one-to-join kept c.args.joining c.args.steps.now c.grown.new.steps (sym (c.is_above_tip.ensures kept indexed) ∙ c.if-not-is_above_tip.false))
+    c.grown.ensures.exactly

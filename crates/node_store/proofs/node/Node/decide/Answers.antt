@@ -6,7 +6,7 @@ use Rattle.node_store.specs.Judging.{MayWantMemory}
 use Rattle.node_store.specs.Node.{NodeValue, node_of, IsItsOwn, IsSoundOn}
 use Rattle.node_store.specs.Steps.{moves_for}
 use Rattle.node_store.proofs.RecordedLemmas.{read-here}
-use Rattle.node_store.proofs.StepLemmas.{moves-of-chain}
+use Rattle.node_store.proofs.StepLemmas.{moves-of-chain, until-chain}
 use Rattle.node_store.proofs.StayingLemmas.{not_stopped, stopped-counts, own-looked}
 use Rattle.node_store.proofs.node.Node.decide.Goals as goal
 
@@ -91,3 +91,10 @@ returns-in-Err-clause-sight g c = λ none. c.decide.ensures.sight (ap (λ (v : N
 pub returns-in-Err-clause-most : goal.returns-in-Err-clause-most
 returns-in-Err-clause-most g c =
     moves-of-chain c.self.inside.kept.chain c.args.self.chain c.args.item.now _ _ (ap (λ (v : NodeValue). v.chain) c.self.view_is) c.decide.ensures.most
+
+pub returns-in-Ok-clause-exactly : goal.returns-in-Ok-clause-exactly
+returns-in-Ok-clause-exactly g c =
+    until-chain c.self.inside.kept.chain c.args.self.chain c.args.item.now _ _ c.in-Ok.decision (ap (λ (v : NodeValue). v.chain) c.self.view_is) c.in-Ok.ensures.exactly
+
+pub returns-in-Err-clause-exactly : goal.returns-in-Err-clause-exactly
+returns-in-Err-clause-exactly g c = tt

@@ -1,4 +1,4 @@
-use Rattle.std.proofs.Common.{◌≡◌, ℕ, Option, Some, Err, length, refl, sym, ap, ◌∙◌, subst, arith}
+use Rattle.std.proofs.Common.{◌≡◌, ℕ, Option, Some, Err, length, refl, sym, ap, ◌∙◌, subst, ⊎_elim, arith}
 use Rattle.std.specs.Prelude.{IfSome}
 use Rattle.outside.specs.Disk.{LeavesOnly}
 use Rattle.cell_state.specs.State.{rows}
@@ -6,10 +6,10 @@ use Rattle.log_file.proofs.Exits.{no_error, same_stop, stop_counts, answer_count
 use Rattle.store_defs.specs.Store.{StandsFor}
 use Rattle.node_store.specs.Kept.{AreOfTip}
 use Rattle.node_store.specs.Node.{NodeValue, IsOnlyImage}
-use Rattle.node_store.specs.Snapshot.{snapshot_at, HasSnapshot}
+use Rattle.node_store.specs.Snapshot.{snapshot_at, HasSnapshot, LeavesSnapshots}
 use Rattle.node_store.proofs.BesideLemmas.{no-memory, due-some}
 use Rattle.node_store.proofs.ImportLemmas.{wants-joining}
-use Rattle.node_store.proofs.ImportedLemmas.{steps-stopped, steps-stayed, steps-joining, steps-joined, left-looked, logged-stopped, imported-stays, logged-stays, ready-here, ready-there, takes-one, sound-parts, left-joining, logged-joining, imported-beside, left-beside, logged-beside, logged-without}
+use Rattle.node_store.proofs.ImportedLemmas.{steps-stopped, steps-joining, steps-out, steps-in, left-looked, logged-stopped, imported-stays, logged-stays, ready-here, ready-there, takes-one, sound-parts, left-joining, logged-joining, imported-beside, left-beside, logged-beside, logged-without, snapshots-looked, snapshots-joining, due-none, none-begun}
 use Rattle.node_store.proofs.OpenLemmas.{led_counts}
 use Rattle.node_store.proofs.node.Node.import.Goals as goal
 
@@ -36,6 +36,11 @@ pub returns-in-Err-clause-logged : goal.returns-in-Err-clause-logged
 returns-in-Err-clause-logged g c =
     logged-stopped g.D.Disk.content_of g.D.Disk.reads_as g.D.Disk.images g.D.Disk.moment g.D.Disk.left_since g.met.D.Disk.content_rests
     c.args.disk.now c.decide.new.disk c.decide.ensures.content c.args.self c.args.item.now c.in-Err.stop
+
+pub returns-in-Err-clause-snapshots : goal.returns-in-Err-clause-snapshots
+returns-in-Err-clause-snapshots g c = λ _.
+    snapshots-looked g.D.Disk.content_of g.D.Disk.reads_as g.D.Disk.images g.D.Disk.moment g.D.Disk.left_since g.met.D.Disk.content_rests
+    c.args.disk.now c.decide.new.disk c.decide.ensures.content c.args.self c.args.item.now
 
 pub returns-in-Err-clause-stepped : goal.returns-in-Err-clause-stepped
 returns-in-Err-clause-stepped g c = steps-stopped c.args.self c.args.item.now _ _ c.decide.ensures.most c.in-Err.stop
@@ -74,8 +79,16 @@ returns-in-Stays-clause-logged g c =
     c.args.disk.now c.decide.new.disk c.decide.ensures.content c.args.self c.args.item.now
     c.in-Ok.decided.0 c.in-Ok.decided.1 c.in-Ok.ensures.decided c.in-Stays.verdict c.in-Stays.is
 
+pub returns-in-Stays-clause-snapshots : goal.returns-in-Stays-clause-snapshots
+returns-in-Stays-clause-snapshots g c = λ _.
+    snapshots-looked g.D.Disk.content_of g.D.Disk.reads_as g.D.Disk.images g.D.Disk.moment g.D.Disk.left_since g.met.D.Disk.content_rests
+    c.args.disk.now c.decide.new.disk c.decide.ensures.content c.args.self c.args.item.now
+
 pub returns-in-Stays-clause-stepped : goal.returns-in-Stays-clause-stepped
-returns-in-Stays-clause-stepped g c = steps-stayed c.args.self c.args.item.now _ _ c.decide.ensures.most c.in-Ok.decided.0 c.in-Stays.verdict
+returns-in-Stays-clause-stepped g c =
+    steps-out g.D.Disk.content_of g.D.Disk.reads_as g.D.Disk.images g.D.Disk.moment g.D.Disk.left_since g.met.D.Disk.content_rests
+    c.args.disk.now c.decide.new.disk c.decide.ensures.content c.args.self c.args.item.now
+    c.in-Ok.decided.0 c.in-Ok.decided.1 c.in-Ok.ensures.decided c.in-Stays.verdict c.in-Stays.is _ _ c.decide.ensures.most c.in-Ok.ensures.exactly
 
 pub returns-in-Stays-clause-undamaged : goal.returns-in-Stays-clause-undamaged
 returns-in-Stays-clause-undamaged g c = λ _ _ e. no_error _ _ e
@@ -108,6 +121,12 @@ returns-in-Err-join-clause-logged g c =
     logged-joining g.D.Disk.content_of g.D.Disk.reads_as g.D.Disk.images g.D.Disk.moment g.D.Disk.left_since g.met.D.Disk.content_rests
     c.args.disk.now c.decide.new.disk c.decide.ensures.content c.args.self c.args.item.now
     c.in-Ok.decided.0 c.in-Ok.decided.1 c.in-Ok.ensures.decided c.in-Joins.joining c.in-Joins.is c.join.new.disk c.join.ensures.others c.in-Err-join.stop c.in-Err-join.ensures.untouched
+
+pub returns-in-Err-join-clause-snapshots : goal.returns-in-Err-join-clause-snapshots
+returns-in-Err-join-clause-snapshots g c = λ _.
+    snapshots-joining g.D.Disk.content_of g.D.Disk.reads_as g.D.Disk.images g.D.Disk.moment g.D.Disk.left_since g.met.D.Disk.content_rests
+    c.args.disk.now c.decide.new.disk c.decide.ensures.content c.args.self c.args.item.now
+    c.join.new.disk c.join.ensures.others c.join.ensures.beside
 
 pub returns-in-Err-join-clause-stepped : goal.returns-in-Err-join-clause-stepped
 returns-in-Err-join-clause-stepped g c =
@@ -178,11 +197,20 @@ returns-in-Ok-take_snapshot-clause-logged g c =
     (subst (λ (v : NodeValue). (number : ℕ) → snapshot_at c.len-joined.result ≡ Some number → AreOfTip v.chain.blocks (rows v.cells)
     → IfSome (g.D.Disk.reads_as c.take_snapshot.new.disk) (HasSnapshot v.chain.blocks number)) c.next.view_is c.in-Ok-take_snapshot.ensures.taken)
 
+pub returns-in-Ok-take_snapshot-clause-snapshots : goal.returns-in-Ok-take_snapshot-clause-snapshots
+returns-in-Ok-take_snapshot-clause-snapshots g c = λ none.
+    subst (LeavesSnapshots g.D.Disk.reads_as g.D.Disk.images g.D.Disk.moment g.D.Disk.left_since c.args.disk.now)
+    (sym (c.take_snapshot.ensures.none (ap snapshot_at (c.len-joined.ensures.of_blocks c.args.self.chain.blocks c.tree.ensures.indexed)
+    ∙ due-none (snapshot_at (length c.args.self.chain.blocks)) c.in-Ok-join.next _ refl none)).1)
+    (snapshots-joining g.D.Disk.content_of g.D.Disk.reads_as g.D.Disk.images g.D.Disk.moment g.D.Disk.left_since g.met.D.Disk.content_rests
+    c.args.disk.now c.decide.new.disk c.decide.ensures.content c.args.self c.args.item.now
+    c.join.new.disk c.join.ensures.others c.join.ensures.beside)
+
 pub returns-in-Ok-take_snapshot-clause-stepped : goal.returns-in-Ok-take_snapshot-clause-stepped
 returns-in-Ok-take_snapshot-clause-stepped g c =
-    steps-joined c.args.self c.args.item.now _ _ c.decide.ensures.most _ c.join.ensures.most (takes-one g.D.Disk.content_of g.D.Disk.reads_as g.D.Disk.images g.D.Disk.moment g.D.Disk.left_since g.met.D.Disk.content_rests
+    steps-in g.D.Disk.content_of g.D.Disk.reads_as g.D.Disk.images g.D.Disk.moment g.D.Disk.left_since g.met.D.Disk.content_rests
     c.args.disk.now c.decide.new.disk c.decide.ensures.content c.args.self c.args.item.now
-    c.in-Ok.decided.0 c.in-Ok.decided.1 c.in-Ok.ensures.decided c.in-Joins.joining c.in-Joins.is) c.in-Ok-join.next _ refl
+    c.in-Ok.decided.0 c.in-Ok.decided.1 c.in-Ok.ensures.decided c.in-Joins.joining c.in-Joins.is c.in-Ok-join.next _ _ _ c.decide.ensures.most c.join.ensures.most c.in-Ok.ensures.exactly c.in-Ok-join.ensures.exactly
 
 pub returns-in-Ok-take_snapshot-clause-undamaged : goal.returns-in-Ok-take_snapshot-clause-undamaged
 returns-in-Ok-take_snapshot-clause-undamaged g c = λ _ _ e. no_error _ _ e
@@ -235,6 +263,18 @@ returns-in-Err-take_snapshot-clause-logged g c =
       no-memory c.stop_of_snapshot.result c.in-Err-take_snapshot.stop c.stop_of_snapshot.ensures.memory c.stop_of_snapshot.ensures.fault other,
       due-some (snapshot_at c.len-joined.result) c.take_snapshot.result c.in-Err-take_snapshot.stop (λ none. (c.take_snapshot.ensures.none none).0) c.in-Err-take_snapshot.is,
     ))
+
+pub returns-in-Err-take_snapshot-clause-snapshots : goal.returns-in-Err-take_snapshot-clause-snapshots
+returns-in-Err-take_snapshot-clause-snapshots g c = λ none.
+    subst (LeavesSnapshots g.D.Disk.reads_as g.D.Disk.images g.D.Disk.moment g.D.Disk.left_since c.args.disk.now)
+    (sym (⊎_elim
+    (λ is. (c.take_snapshot.ensures.none (ap snapshot_at (c.len-joined.ensures.of_blocks c.args.self.chain.blocks c.tree.ensures.indexed) ∙ is)).1)
+    (λ other. c.take_snapshot.ensures.uncalled (c.in-Err-take_snapshot.is ∙ ap Err (c.stop_of_snapshot.ensures.memory.0
+    (no-memory c.stop_of_snapshot.result c.in-Err-take_snapshot.stop c.stop_of_snapshot.ensures.memory c.stop_of_snapshot.ensures.fault other))))
+    (none-begun (snapshot_at (length c.args.self.chain.blocks)) c.stop_of_snapshot.result none)))
+    (snapshots-joining g.D.Disk.content_of g.D.Disk.reads_as g.D.Disk.images g.D.Disk.moment g.D.Disk.left_since g.met.D.Disk.content_rests
+    c.args.disk.now c.decide.new.disk c.decide.ensures.content c.args.self c.args.item.now
+    c.join.new.disk c.join.ensures.others c.join.ensures.beside)
 
 pub returns-in-Err-take_snapshot-clause-stepped : goal.returns-in-Err-take_snapshot-clause-stepped
 returns-in-Err-take_snapshot-clause-stepped g c =

@@ -3,7 +3,7 @@ use Rattle.outside.proofs.Moments.{leaves_also}
 use Rattle.log_file.proofs.Exits.{stop_counts, answer_still, damage_also}
 use Rattle.node_store.specs.Node.{NodeValue}
 use Rattle.node_store.proofs.StayingLemmas.{not_stopped}
-use Rattle.node_store.proofs.OpenLemmas.{leaves_on, stands_while_opened, own_read, keeps_led, settled_led, own_led, one_still, sound_led, on_led, whole_led, not_led, cells_stopped, no_store_at, moved_to_open, led_counts, no_step, ok_err, same_stop}
+use Rattle.node_store.proofs.OpenLemmas.{leaves_on, stands_while_opened, own_read, keeps_led, settled_led, own_led, one_still, sound_led, on_led, whole_led, numbers_led, not_led, cells_stopped, no_store_at, moved_to_open, moved_exactly, led_counts, no_step, ok_err, same_stop}
 use Rattle.node_store.proofs.node.Node.open.Goals as goal
 
 pub returns-in-Err-clause-not_a_store : goal.returns-in-Err-clause-not_a_store
@@ -67,6 +67,18 @@ returns-in-Ok-to_tip-clause-most g c =
     c.read_store.ensures.left.others c.in-Ok.ensures.read c.in-Ok.ensures.cells
     _ _ c.to_tip.ensures.most
 
+pub returns-in-Err-clause-exactly : goal.returns-in-Err-clause-exactly
+returns-in-Err-clause-exactly g c = λ _ _. tt
+
+pub returns-in-Err-to_tip-clause-exactly : goal.returns-in-Err-to_tip-clause-exactly
+returns-in-Err-to_tip-clause-exactly g c = λ _ _. tt
+
+pub returns-in-Ok-to_tip-clause-exactly : goal.returns-in-Ok-to_tip-clause-exactly
+returns-in-Ok-to_tip-clause-exactly g c =
+    moved_exactly g.D.Disk.reads_as g.D.Disk.images _ _ c.node.inside.kept c.node.inside.log.place c.node.inside.state c.node.inside.cache _ c.node.view_is
+    c.read_store.ensures.left.others c.in-Ok.ensures.read c.in-Ok.ensures.cells
+    _ _ c.in-Ok-to_tip.ensures.exactly
+
 pub returns-in-Err-to_tip-clause-not_a_store : goal.returns-in-Err-to_tip-clause-not_a_store
 returns-in-Err-to_tip-clause-not_a_store g c =
     damage_also _ _ c.stop_of_move.result (λ damage found.
@@ -125,7 +137,11 @@ returns-in-Ok-to_tip-clause-opened g c = record {
   whole =
       whole_led g.D.Disk.reads_as g.D.Disk.images _ _ c.node.inside.kept c.node.inside.log.place c.node.inside.state c.node.inside.cache _ c.node.view_is
       c.read_store.ensures.left.others c.in-Ok.ensures.read c.in-Ok.ensures.cells
-      c.in-Ok-to_tip.ensures.whole;
+      (λ there at. (c.in-Ok-to_tip.ensures.whole there at).0);
+  numbered =
+      numbers_led g.D.Disk.reads_as g.D.Disk.images _ _ c.node.inside.kept c.node.inside.log.place c.node.inside.state c.node.inside.cache _ c.node.view_is
+      c.read_store.ensures.left.others c.in-Ok.ensures.read c.in-Ok.ensures.cells
+      (λ there at. (c.in-Ok-to_tip.ensures.whole there at).1);
   own =
       own_led g.D.Disk.reads_as g.D.Disk.images _ _ c.node.inside.kept c.node.inside.log.place c.node.inside.state c.node.inside.cache _ c.node.view_is
       c.read_store.ensures.left.others c.in-Ok.ensures.read c.in-Ok.ensures.cells g.D.Disk.moment g.D.Disk.left_since _ (g.met.D.Disk.content_rests _ _ c.to_tip.ensures.content) c.in-Ok-to_tip.state c.to_tip.new.cache c.to_tip.ensures.agrees;
