@@ -154,6 +154,7 @@ BENCHES = {
     'json_text': Bench(['json_text.py'], 'rule_vectors', False, [], True),
     'start': Bench(['start.py'], 'machine_vectors', True, []),
     'hostile': Bench(['hostile.py'], 'ckbdev', True, []),
+    'ids': Bench(['ids.py'], 'ckbdev', True, []),
 }
 
 

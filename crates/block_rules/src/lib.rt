@@ -2,7 +2,7 @@
 //!
 //! `check` is the contract of use: it answers the least of these rules that a block breaks, exactly by `body_rules`
 //! of `rule_defs`, or the hashes of its transactions where it breaks none, or that there is no memory. It allocates
-//! lists of hashes and a set of ids, and copies nothing else of the block. That the block is canonical (J1), and what
+//! lists of hashes and of ids, and copies nothing else of the block. That the block is canonical (J1), and what
 //! its uncles and transactions are (J15 on), is left to others.
 #![tactic(auto)]
 

@@ -12,7 +12,6 @@ use mol_schema::BlockView;
 use outside::NoMemory;
 use rule_defs::Rule;
 use std::alloc::Global;
-use std::collections::HashSet;
 
 /// The length of a block that counts: without the proposal ids of its uncles.
 fn counted_length(block: &BlockView<'_>) -> usize
@@ -42,17 +41,23 @@ fn id_at(block: &BlockView<'_>, i: usize) -> [u8; 10]
     id
 }
 
-/// Whether no proposal id comes twice.
+/// The proposal ids, in their order.
+fn ids_of(alloc: Global, block: &BlockView<'_>) -> Result<Vec<[u8; 10]>, NoMemory>
+    ensures { IfOk result (λ ids. ids.items ≡ block.now.proposals) }
+{
+    let mut ids = Vec::with_capacity(alloc, block.proposals_count())?;
+    'ids: for i in 0..block.proposals_count() {
+        ids.push(id_at(block, i))?;
+    }
+    Ok(ids)
+}
+
+/// Whether no proposal id comes twice. Who proposes picks them, so they are sorted and not hashed.
 fn are_ids_distinct(alloc: Global, block: &BlockView<'_>) -> Result<bool, NoMemory>
     ensures { IfOk result (λ distinct. distinct ≡ are_distinct block.now.proposals) }
 {
-    let mut seen: HashSet<[u8; 10]> = HashSet::new(alloc);
-    'later: for i in (0..block.proposals_count()).rev() {
-        if !seen.insert(id_at(block, i))? {
-            return Ok(false);
-        }
-    }
-    Ok(true)
+    let mut ids = ids_of(alloc, block)?;
+    Ok(sorted_keys::are_distinct(&mut ids))
 }
 
 /// J10: it has at most so many proposal ids, all distinct.

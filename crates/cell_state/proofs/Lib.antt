@@ -5,6 +5,7 @@ pub mod PassLemmas
 pub mod HeightLemmas
 pub mod ApplyLemmas
 pub mod ListLemmas
+pub mod KeyLemmas
 pub mod GrowthLemmas
 pub mod UndoLemmas
 pub mod UndoPasses

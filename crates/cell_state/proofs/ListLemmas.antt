@@ -42,10 +42,10 @@ Contains-cons : {X : Type 0} (x : X) (xs : List X) (y : X) → Contains (x ∷ x
 Contains-cons x xs y (zero, lt, is) = inl is
 Contains-cons x xs y (suc k, lt, is) = inr (k, omega (arith, lt), is)
 
-Contains-here : {X : Type 0} (x : X) (xs : List X) → Contains (x ∷ xs) x
+pub Contains-here : {X : Type 0} (x : X) (xs : List X) → Contains (x ∷ xs) x
 Contains-here x xs = (0, omega arith, refl)
 
-Contains-there : {X : Type 0} (x : X) (xs : List X) (y : X) → Contains xs y → Contains (x ∷ xs) y
+pub Contains-there : {X : Type 0} (x : X) (xs : List X) (y : X) → Contains xs y → Contains (x ∷ xs) y
 Contains-there x xs y (k, lt, is) = (suc k, omega (arith, lt), is)
 
 Contains-from_place : {X : Type 0} (xs : List X) (i : ℕ) (x : X) → slice_get xs i ≡ Some x → Contains xs x
@@ -83,7 +83,7 @@ listed-of_slot (entry ∷ later) o row has =
 
 -- ---- Rows that a list has
 
-row-found : (state : StateValue) → IsDistinct same_key (keys_of state.entries) → (o : OutPoint) (row : Row) → Contains (listed state.entries) (o, row) → rows state o ≡ Some row
+pub row-found : (state : StateValue) → IsDistinct same_key (keys_of state.entries) → (o : OutPoint) (row : Row) → Contains (listed state.entries) (o, row) → rows state o ≡ Some row
 row-found state distinct o row has =
     let place = place-from_Contains state.entries (key_of o, Live row) (slot-of_listed state.entries o row has) in
     ap row_before (lookup_from_place same_key-equiv state.entries place.0 (key_of o) (Live row) distinct place.1)

@@ -5,4 +5,5 @@ pub mod Walk
 pub mod Passes
 pub mod Undo
 pub mod Listing
+pub mod Keys
 pub mod Moves

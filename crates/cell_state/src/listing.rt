@@ -1,9 +1,10 @@
-// The rows as a list, in order.
+// The rows as a list, in order, and their out-points alone.
 ghost use Rattle.std.specs.Prelude.{◌≡◌, IfOk};
 ghost use Rattle.cell_defs.specs.Row.{ListsRows};
 ghost use Rattle.std.specs.List.{IsDistinct};
 ghost use Rattle.std.specs.Map.{keys_of};
 ghost use Rattle.cell_state.specs.Listing.{listed};
+ghost use Rattle.cell_state.specs.Keys.{ListsKeys, keys_in};
 ghost use Rattle.cell_state.specs.Slots.{rows, same_key, AreSettled};
 
 use crate::slots::{Slot, Slots};
@@ -41,5 +42,32 @@ impl Slots {
         let mut rows = self.listed(alloc)?;
         rows.sort_unstable_by_key(|row| (row.0.tx_hash, row.0.index));
         Ok(rows)
+    }
+
+    /// The keys of the rows, in the order in which they lie.
+    fn keys_listed(&self, alloc: Global) -> Result<Vec<([u8; 32], u32)>, NoMemory>
+        ensures listed { IfOk result (λ list. list.items ≡ keys_in (listed self.now.entries)) }
+        ensures distinct { IsDistinct same_key (keys_of self.now.entries) }
+    {
+        let mut keys = Vec::with_capacity(alloc, self.map.len())?;
+        for (key, slot) in &self.map {
+            match slot {
+                Slot::Live(_) => keys.push(*key)?,
+                Slot::Spent(_) => {}
+                Slot::Added => {}
+                Slot::Gone => {}
+            }
+        }
+        Ok(keys)
+    }
+
+    /// The keys of the rows in rising order.
+    pub(crate) fn sorted_keys(&self, alloc: Global) -> Result<Vec<([u8; 32], u32)>, NoMemory>
+        requires { AreSettled self.now }
+        ensures { IfOk result (λ list. ListsKeys (rows self.now) list.items) }
+    {
+        let mut keys = self.keys_listed(alloc)?;
+        keys.sort_unstable();
+        Ok(keys)
     }
 }

@@ -10,6 +10,7 @@ ghost use Rattle.cell_defs.specs.Fit.{are_live, AllFit};
 ghost use Rattle.cell_defs.specs.Undo.{undone, first_clash};
 ghost use Rattle.cell_defs.specs.UndoLaws.{ComesBefore};
 ghost use Rattle.cell_state.specs.declared.odd.Odd.TheVariants.{Live};
+ghost use Rattle.cell_state.specs.Keys.{ListsKeys};
 ghost use Rattle.cell_state.specs.State.{Grows, rows, count, outputs_of};
 
 use crate::events::Events;
@@ -195,6 +196,13 @@ impl State {
         ensures { IfOk result (λ list. ListsRows (rows self.now) list.items) }
     {
         self.slots.sorted(alloc)
+    }
+
+    /// The out-points of the rows alone, in the same order: of each the hash and the index.
+    pub fn sorted_keys(&self, alloc: Global) -> Result<Vec<([u8; 32], u32)>, NoMemory>
+        ensures { IfOk result (λ list. ListsKeys (rows self.now) list.items) }
+    {
+        self.slots.sorted_keys(alloc)
     }
 }
 

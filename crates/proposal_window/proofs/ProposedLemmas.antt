@@ -1,62 +1,38 @@
--- Ids that are added to a set, one after the other.
-use Rattle.std.proofs.Common.{◌≡◌, ℕ, suc, zero, ◌+◌, ◌-◌, ◌<◌, ◌≤◌, Bool, true, false, cond, ◌||◌, List, [], ◌∷◌, take, Option, Some, None, refl, sym, ap, ◌∙◌, inl, inr, ◌⊎◌, arith}
+-- The ids of a window, block after block.
+use Rattle.std.proofs.Common.{◌≡◌, ℕ, suc, zero, ◌+◌, ◌-◌, ◌<◌, ◌≤◌, Bool, true, false, cond, ◌||◌, List, [], ◌∷◌, ◌++◌, Option, Some, None, refl, sym, ap, ◌∙◌, inl, inr, ◌⊎◌, arith}
 use Rattle.std.specs.Prelude.{slice_get, is_some, length}
 use Rattle.std.specs.Option.{option_map}
 use Rattle.std.specs.List.{list_any, find, range_with_len}
 use Rattle.std.specs.Str.{bytes_eq}
+use Rattle.std.specs.Cmp.Lexicographic.{nat_list_eq_equiv}
 use Rattle.std.proofs.lemmas.Bool.{cases_lt}
 use Rattle.std.proofs.lemmas.List.{take_all}
-use Rattle.std.proofs.lemmas.List.Folds.{list_any_more}
+use Rattle.std.proofs.lemmas.List.Folds.{list_any-append}
 use Rattle.std.proofs.lemmas.Option.{slice_get_within, get_or_from_slice_get, same_Some}
 use Rattle.chain_defs.specs.Schema.{Block}
 use Rattle.chain_defs.specs.Specification.{Specification}
 use Rattle.rule_defs.specs.Window.{proposed_ids, proposes, proposes_at, earliest}
 use Rattle.rule_defs.proofs.WindowLaws.{earliest-range}
 
-abbrev pub among : List (List ℕ) → List ℕ → Bool
-among ids id = list_any (λ other. bytes_eq other id) ids
+-- ---- The ids of a block
 
-or-none : (b : Bool) → b ≡ (b || false)
-or-none true = refl
-or-none false = refl
+flipped : (id : List ℕ) (ids : List (List ℕ)) → list_any (bytes_eq id) ids ≡ list_any (λ other. bytes_eq other id) ids
+flipped id [] = refl
+flipped id (first ∷ ids) =
+    ap (λ (b : Bool). b || list_any (bytes_eq id) ids) (nat_list_eq_equiv.symm id first) ∙ ap (λ (b : Bool). bytes_eq first id || b) (flipped id ids)
 
-pub or-nothing : (b c : Bool) → c ≡ false → b ≡ (b || c)
-or-nothing b c fails = or-none b ∙ ap (λ (d : Bool). b || d) (sym fails)
+-- those of one more block after others
+pub put-id : (id : List ℕ) (b : Block) (kept : Option Block) (old new : List (List ℕ)) → kept ≡ Some b → new ≡ old ++ proposed_ids b
+    → list_any (bytes_eq id) new ≡ (list_any (bytes_eq id) old || proposes id kept)
+put-id id b kept old new there is =
+    ap (list_any (bytes_eq id)) is ∙ list_any-append (bytes_eq id) old (proposed_ids b)
+    ∙ ap (λ (more : Bool). list_any (bytes_eq id) old || more) (flipped id (proposed_ids b) ∙ ap (proposes id) (sym there))
 
-or-swap : (b c : Bool) → cond b true c ≡ (c || b)
-or-swap true true = refl
-or-swap true false = refl
-or-swap false true = refl
-or-swap false false = refl
+-- ---- The window
 
 or-moved : (a b c : Bool) → ((a || b) || c) ≡ (a || (b || c))
 or-moved true b c = refl
 or-moved false b c = refl
-
--- one element more of a list that is gone through
-pub any-more : {X : Type 0} (test : X → Bool) (xs : List X) (i : ℕ) (x : X) (old before : Bool) → slice_get xs i ≡ Some x
-    → before ≡ (old || list_any test (take i xs)) → (before || test x) ≡ (old || list_any test (take (i + 1) xs))
-any-more {X = X} test xs i x old before there so_far =
-    ap (λ (b : Bool). b || test x) so_far ∙ or-moved old (list_any test (take i xs)) (test x)
-    ∙ ap (λ (y : X). old || (list_any test (take i xs) || test y)) (sym (get_or_from_slice_get xs i x x there))
-    ∙ ap (λ (b : Bool). old || b) (sym (list_any_more test xs i x (slice_get_within xs i x there)))
-
-pub one-more-id : (ids : List (List ℕ)) (i : ℕ) (id other : List ℕ) (old before : Bool) → slice_get ids i ≡ Some other
-    → before ≡ (old || among (take i ids) id) → cond (bytes_eq other id) true before ≡ (old || among (take (i + 1) ids) id)
-one-more-id ids i id other old before there so_far =
-    or-swap (bytes_eq other id) before ∙ any-more (λ it. bytes_eq it id) ids i other old before there so_far
-
-pub all-of : {X : Type 0} (test : X → Bool) (xs : List X) (i : ℕ) (old before : Bool) → length xs ≤ i
-    → before ≡ (old || list_any test (take i xs)) → before ≡ (old || list_any test xs)
-all-of {X = X} test xs i old before all so_far = so_far ∙ ap (λ (l : List X). old || list_any test l) (take_all i xs all)
-
--- all ids of a kept block
-pub added-at : (id : List ℕ) (kept : Option Block) (ids : List (List ℕ)) (old : Bool) → option_map proposed_ids kept ≡ Some ids
-    → (old || among ids id) ≡ (old || proposes id kept)
-added-at id None ids old is = absurd (cc)
-added-at id (Some b) ids old is = ap (λ (l : List (List ℕ)). old || among l id) (sym (same_Some (proposed_ids b) ids is))
-
--- ---- The window
 
 pub range-more : (test : ℕ → Bool) (low count : ℕ) → list_any test (range_with_len low (suc count)) ≡ (list_any test (range_with_len low count) || test (low + count))
 range-more test low zero = let here : low ≡ low + 0 = omega arith in or-last (test low) ∙ ap (λ (n : ℕ). false || test n) here

@@ -64,13 +64,20 @@ fn put_of_uncles(ids: &mut Vec<[u8; 10]>, block: &BlockView<'_>) -> Result<(), N
     Ok(())
 }
 
+/// Puts the ids that the block and its uncles propose after those that are there.
+pub(crate) fn put_ids(ids: &mut Vec<[u8; 10]>, block: &BlockView<'_>) -> Result<(), NoMemory>
+    ensures { OnOk result (ids.new.items ≡ ids.old.items ++ window.proposed_ids block.now) }
+{
+    put_own(ids, block)?;
+    put_of_uncles(ids, block)
+}
+
 /// The ids that the block and its uncles propose.
 fn ids_of(alloc: Global, block: &BlockView<'_>) -> Result<Vec<[u8; 10]>, NoMemory>
     ensures { IfOk result (λ ids. ids.items ≡ window.proposed_ids block.now) }
 {
     let mut ids = Vec::new(alloc);
-    put_own(&mut ids, block)?;
-    put_of_uncles(&mut ids, block)?;
+    put_ids(&mut ids, block)?;
     Ok(ids)
 }
 

@@ -248,6 +248,24 @@ paid-in_hand spec told now entries stored top height place hand ext ids tells sa
     (paid-there spec told entries stored top height place it.0 tells (there-within entries top (λ entry. height ≤ entry.number) far) high later
     (at (blocks_of stored) tells.indexes) it.1))
 
+-- the same of its ids alone
+pub ids-in_hand : (spec : Specification) (told now : Option (List Stored)) (entries : List Entry) (stored : List Stored) (top height place : ℕ) (hand : Option ℕ)
+    (ids : List (List ℕ)) → AreKnownBlocks spec told entries stored → now ≡ told → hand ≡ Some place
+    → IsSomeAnd (entry_at entries top) (λ entry. height ≤ entry.number) → 0 < height → place < length entries → 0 < place
+    → ((kept : List Block) → IndexesBlocks kept entries → slice_get (branch_places kept top) height ≡ Some place)
+    → IfSome now (λ all. IfSome hand (λ e. IfSome (slice_get all e) (λ it. ids ≡ map proposal_id (drop 1 it.block.transactions))))
+    → (ext : List ℕ) × ArePaid ext ids (paid_at spec (branch (blocks_of stored) top) height)
+ids-in_hand spec told now entries stored top height place hand ids tells same in_hand far high within later at of_ids =
+    let long : length entries ≡ length stored = len-same (blocks_of stored) entries tells.indexes ∙ length-map stored (λ (it : Stored). it.block) in
+    let it = slice_get-below stored place (omega (arith, within, long)) in
+    let ids_is : ids ≡ map proposal_id (drop 1 it.0.block.transactions) =
+    held (λ (s : Stored). ids ≡ map proposal_id (drop 1 s.block.transactions)) stored place it.0 now hand (same ∙ tells.is) in_hand it.1 of_ids in (
+      it.0.ext,
+      subst (λ (l : List (List ℕ)). ArePaid it.0.ext l (paid_at spec (branch (blocks_of stored) top) height)) (sym ids_is)
+          (paid-there spec told entries stored top height place it.0 tells (there-within entries top (λ entry. height ≤ entry.number) far) high later
+          (at (blocks_of stored) tells.indexes) it.1),
+    )
+
 -- it has no more ids than fees
 pub no_fee : (ext : List ℕ) (ids : List (List ℕ)) (paids : List Paid) (count : ℕ) → count ≡ count_at ext 0 → count < length ids → ArePaid ext ids paids → ⊥
 no_fee ext ids paids count is more are =

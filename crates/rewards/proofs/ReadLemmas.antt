@@ -1,5 +1,5 @@
 -- What reading comes to.
-use Rattle.std.proofs.Common.{◌≡◌, List, Option, Result, Err, ◌∙◌}
+use Rattle.std.proofs.Common.{◌≡◌, List, Option, Result, Err, refl, ◌∙◌}
 use Rattle.outside.specs.declared.disk.Damage.{Damage}
 use Rattle.outside.specs.declared.disk.ReadStop.{ReadStop}
 use Rattle.outside.specs.declared.disk.ReadStop.TheVariants.{DiskFault, NoMemory, Damaged}
@@ -18,3 +18,9 @@ pub not_damaged : {T : Type 0} (stop : ReadStop) (damage : Damage) → IsUndamag
 not_damaged DiskFault damage undamaged same = fault_undamaged damage same
 not_damaged NoMemory damage undamaged same = memory_undamaged damage same
 not_damaged (Damaged other) damage undamaged same = undamaged
+
+-- a stop that is no damage
+pub undamaged_is : {T : Type 0} (stop : ReadStop) → ((damage : Damage) → ◌≡◌ {A = Result T ReadStop} (Err stop) (Err (Damaged damage)) → ⊥) → IsUndamaged stop
+undamaged_is DiskFault none = tt
+undamaged_is NoMemory none = tt
+undamaged_is (Damaged damage) none = none damage refl

@@ -1,10 +1,10 @@
 -- Starts that are made and moved.
-use Rattle.std.proofs.Common.{◌≡◌, ℕ, ◌+◌, ◌-◌, ◌<◌, ◌≤◌, Bool, true, false, cond, ◌||◌, List, take, Option, Some, None, refl, sym, ap, ◌∙◌, inl, inr, ◌⊎◌, arith}
+use Rattle.std.proofs.Common.{◌≡◌, ℕ, ◌+◌, ◌-◌, ◌<◌, ◌≤◌, Bool, true, false, true≢false, cond, ◌||◌, List, take, Option, Some, None, refl, sym, ap, ◌∙◌, inl, inr, ◌⊎◌, arith}
 use Rattle.std.specs.Prelude.{slice_get, nat_le, ◌&&◌, IsTrue}
 use Rattle.std.specs.Option.{option_map}
 use Rattle.std.specs.List.{list_any}
 use Rattle.std.specs.Str.{bytes_eq}
-use Rattle.std.proofs.lemmas.Bool.{cases_lt, eq-eqb, ne_eqb, leb-true, and_parts}
+use Rattle.std.proofs.lemmas.Bool.{cases_lt, eq-eqb, ne_eqb, leb-true, and_parts, and_from}
 use Rattle.std.proofs.lemmas.Bool.Decides.{nat_tests}
 use Rattle.std.proofs.lemmas.List.Folds.{list_any_more}
 use Rattle.std.proofs.lemmas.Option.{slice_get_within, get_or_from_slice_get, same_Some}
@@ -73,10 +73,10 @@ proposes-among branch id height ids are = by_block (block_at branch height) are
 
 -- ---- Starts that are moved over some heights
 
--- The ids that a block proposes have starts, and no others; each is the least height from which on no window reaches one of the heights, from `low`
+-- Of the ids that are asked for those that a block proposes have starts, and no others; each is the least height from which on no window reaches one of the heights, from `low`
 -- up to `end`, that propose the id too.
-pub record AreMoved (w_far : ℕ) (branch : List Block) (proposer low end : ℕ) (start_of : List ℕ → Option ℕ) : Type 0 where
-  pub none : (id : List ℕ) → start_of id ≡ None → proposes_at branch id proposer ≡ false
+pub record AreMoved (w_far : ℕ) (branch : List Block) (asked : List ℕ → Bool) (proposer low end : ℕ) (start_of : List ℕ → Option ℕ) : Type 0 where
+  pub none : (id : List ℕ) → asked id ≡ true → start_of id ≡ None → proposes_at branch id proposer ≡ false
   pub some : (id : List ℕ) (start : ℕ) → start_of id ≡ Some start → proposes_at branch id proposer ≡ true
   pub passed : (id : List ℕ) (start height : ℕ) → start_of id ≡ Some start → low ≤ height → height < end → proposes_at branch id height ≡ true
       → height + w_far < start
@@ -84,22 +84,23 @@ pub record AreMoved (w_far : ℕ) (branch : List Block) (proposer low end : ℕ)
       → ((height : ℕ) → low ≤ height → height < end → proposes_at branch id height ≡ true → height + w_far < commit) → start ≤ commit
 
 -- over none
-pub moved-first : (w_far : ℕ) (branch : List Block) (proposer low : ℕ) (start_of : List ℕ → Option ℕ)
-    → ((id : List ℕ) → start_of id ≡ cond (proposes_at branch id proposer) (Some 0) None) → AreMoved w_far branch proposer low low start_of
-moved-first w_far branch proposer low start_of starts = record {
-  none = λ id is. by_none (proposes_at branch id proposer) refl (sym (starts id) ∙ is);
-  some = λ id start is. by_some (proposes_at branch id proposer) refl (sym (starts id) ∙ is);
+pub moved-first : (w_far : ℕ) (branch : List Block) (asked : List ℕ → Bool) (proposer low : ℕ) (start_of : List ℕ → Option ℕ)
+    → ((id : List ℕ) → start_of id ≡ cond (proposes_at branch id proposer && asked id) (Some 0) None) → AreMoved w_far branch asked proposer low low start_of
+moved-first w_far branch asked proposer low start_of starts = record {
+  none = λ id wanted is. by_none (proposes_at branch id proposer) (asked id) refl wanted (sym (starts id) ∙ is);
+  some = λ id start is. by_some (proposes_at branch id proposer) (asked id) refl (sym (starts id) ∙ is);
   passed = λ id start height is from below proposed. absurd (omega (arith, from, below));
-  least = λ id start commit is above. let zero : start ≡ 0 = at_zero (proposes_at branch id proposer) start (sym (starts id) ∙ is) in omega (arith, zero);
+  least = λ id start commit is above. let zero : start ≡ 0 = at_zero (proposes_at branch id proposer && asked id) start (sym (starts id) ∙ is) in omega (arith, zero);
 }
   where
-    by_none : {P : Bool} (b : Bool) → P ≡ b → cond {A = Option ℕ} b (Some 0) None ≡ None → P ≡ false
-    by_none true is none = absurd (cc)
-    by_none false is none = is
+    by_none : {P : Bool} (b c : Bool) → P ≡ b → c ≡ true → cond {A = Option ℕ} (b && c) (Some 0) None ≡ None → P ≡ false
+    by_none true true is wanted none = absurd (cc)
+    by_none true false is wanted none = absurd (cc)
+    by_none false c is wanted none = is
 
-    by_some : {P : Bool} {start : ℕ} (b : Bool) → P ≡ b → cond {A = Option ℕ} b (Some 0) None ≡ Some start → P ≡ true
-    by_some true is some = is
-    by_some false is some = absurd (cc)
+    by_some : {P : Bool} {start : ℕ} (b c : Bool) → P ≡ b → cond {A = Option ℕ} (b && c) (Some 0) None ≡ Some start → P ≡ true
+    by_some true c is some = is
+    by_some false c is some = absurd (cc)
 
     at_zero : (b : Bool) (start : ℕ) → cond {A = Option ℕ} b (Some 0) None ≡ Some start → start ≡ 0
     at_zero true start is = sym (same_Some 0 start is)
@@ -111,11 +112,11 @@ pub moved-by : (at w_far start : ℕ) (b other : Bool) (was new : Option ℕ) �
 moved-by at w_far start b other was new is same start_is = is ∙ (λ i. cond (sym same i) (option_map (λ _. start_is i) was) was)
 
 -- over one more
-pub moved-next : (w_far : ℕ) (branch : List Block) (proposer low at : ℕ) (old new : List ℕ → Option ℕ) → AreMoved w_far branch proposer low at old → low ≤ at
+pub moved-next : (w_far : ℕ) (branch : List Block) (asked : List ℕ → Bool) (proposer low at : ℕ) (old new : List ℕ → Option ℕ) → AreMoved w_far branch asked proposer low at old → low ≤ at
     → ((id : List ℕ) → new id ≡ cond (proposes_at branch id at) (option_map (λ _. at + w_far + 1) (old id)) (old id))
-    → AreMoved w_far branch proposer low (at + 1) new
-moved-next w_far branch proposer low at old new before from moves = record {
-  none = λ id is. by_none id (proposes_at branch id at) (old id) refl (sym (moves id) ∙ is);
+    → AreMoved w_far branch asked proposer low (at + 1) new
+moved-next w_far branch asked proposer low at old new before from moves = record {
+  none = λ id wanted is. by_none id wanted (proposes_at branch id at) (old id) refl (sym (moves id) ∙ is);
   some = λ id start is. by_some id (proposes_at branch id at) (old id) refl (sym (moves id) ∙ is);
   passed = λ id start height is first below proposed. by_passed id start height (proposes_at branch id at) (old id) refl refl (sym (moves id) ∙ is) first below proposed;
   least = λ id start commit is above. by_least id start commit (proposes_at branch id at) (old id) refl refl (sym (moves id) ∙ is) above;
@@ -124,10 +125,10 @@ moved-next w_far branch proposer low at old new before from moves = record {
     after : Bool → Option ℕ → Option ℕ
     after b was = cond b (option_map (λ _. at + w_far + 1) was) was
 
-    by_none : (id : List ℕ) (b : Bool) (was : Option ℕ) → old id ≡ was → after b was ≡ None → proposes_at branch id proposer ≡ false
-    by_none id b None is none = before.none id is
-    by_none id true (Some start) is none = absurd (cc)
-    by_none id false (Some start) is none = absurd (cc)
+    by_none : (id : List ℕ) → asked id ≡ true → (b : Bool) (was : Option ℕ) → old id ≡ was → after b was ≡ None → proposes_at branch id proposer ≡ false
+    by_none id wanted b None is none = before.none id wanted is
+    by_none id wanted true (Some start) is none = absurd (cc)
+    by_none id wanted false (Some start) is none = absurd (cc)
 
     by_some : {start : ℕ} (id : List ℕ) (b : Bool) (was : Option ℕ) → old id ≡ was → after b was ≡ Some start → proposes_at branch id proposer ≡ true
     by_some id true None is some = absurd (cc)
@@ -168,9 +169,9 @@ not-at proposer None differ = refl
 not-at proposer (Some other) differ = sym (ne_eqb other proposer (λ same. differ (ap (λ (n : ℕ). Some n) same)))
 
 -- over all heights below the proposer from which a commit that may be given to it can be proposed
-pub starts-all : (spec : Specification) (branch : List Block) (proposer low : ℕ) (start_of : List ℕ → Option ℕ) → low ≡ proposer + spec.w_close - spec.w_far
-    → AreMoved spec.w_far branch proposer low proposer start_of → AreStarts spec branch proposer start_of
-starts-all spec branch proposer low start_of from moved id commit close far = by_start (start_of id) refl
+pub starts-all : (spec : Specification) (branch : List Block) (asked : List ℕ → Bool) (proposer low : ℕ) (start_of : List ℕ → Option ℕ) → low ≡ proposer + spec.w_close - spec.w_far
+    → AreMoved spec.w_far branch asked proposer low proposer start_of → AreStarts spec branch proposer asked start_of
+starts-all spec branch asked proposer low start_of from moved id commit wanted close far = by_start (start_of id) refl
   where
     no_later : (earliest spec branch id commit ≡ Some proposer → ⊥) → false ≡ is_at proposer (earliest spec branch id commit)
     no_later = not-at proposer (earliest spec branch id commit)
@@ -180,7 +181,7 @@ starts-all spec branch proposer low start_of from moved id commit close far = by
     is = earliest-is-earliest spec branch id commit proposer
 
     by_start : (start : Option ℕ) → start_of id ≡ start → is_started start commit ≡ is_at proposer (earliest spec branch id commit)
-    by_start None none = no_later (λ found. let proposed = (is.0 found).proposed in let fails = moved.none id none in absurd (cc))
+    by_start None none = no_later (λ found. let proposed = (is.0 found).proposed in let fails = moved.none id wanted none in absurd (cc))
     by_start (Some start) some = by_order (cases_lt commit start)
       where
         by_order : (commit < start) ⊎ (start ≤ commit) → nat_le start commit ≡ is_at proposer (earliest spec branch id commit)
@@ -209,3 +210,13 @@ starts-all spec branch proposer low start_of from moved id commit close far = by
             lower other below more true proposed =
                 let passed : other + spec.w_far < start = moved.passed id start other some (omega (arith, from, close, more)) below proposed in
                 absurd (omega (arith, passed, reached, more))
+
+-- where none of the ids that are asked for is proposed there are none
+pub starts-none : (spec : Specification) (branch : List Block) (asked : List ℕ → Bool) (proposer : ℕ) (start_of : List ℕ → Option ℕ)
+    → ((id : List ℕ) → start_of id ≡ None) → ((id : List ℕ) → false ≡ (proposes_at branch id proposer && asked id)) → AreStarts spec branch proposer asked start_of
+starts-none spec branch asked proposer start_of empty none id commit wanted close far =
+    ap (λ (start : Option ℕ). is_started start commit) (empty id)
+    ∙ not-at proposer (earliest spec branch id commit) (λ found.
+    let proposed = ((earliest-is-earliest spec branch id commit proposer).0 found).proposed in
+    let both : (proposes_at branch id proposer && asked id) ≡ true = and_from (proposes_at branch id proposer) (asked id) proposed wanted in
+    true≢false (sym both ∙ sym (none id)))

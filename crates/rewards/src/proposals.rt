@@ -1,5 +1,5 @@
 // What the fees that later blocks commit give to the block that proposed their transactions.
-ghost use Rattle.std.specs.Prelude.{◌≡◌, ◌+◌, ◌^◌, ◌<◌, ◌≤◌, List, length, Some, Err, IsSomeAnd, pos};
+ghost use Rattle.std.specs.Prelude.{◌≡◌, ◌+◌, ◌^◌, ◌<◌, ◌≤◌, Bool, List, ℕ, length, Some, Err, IsSomeAnd, pos};
 ghost use Rattle.std.specs.List.{sum_by};
 ghost use Rattle.std.specs.Str.{bytes_eq};
 ghost use Rattle.std.specs.HashMap as hashed;
@@ -12,10 +12,11 @@ ghost use Rattle.chain_tree.specs.Entries.{entry_at};
 ghost use Rattle.chain_tree.specs.Told.{Stored, blocks_of};
 ghost use Rattle.chain_tree.specs.Reading.{HasRead, stop_of};
 ghost use Rattle.rule_defs.specs.Reward.{commit_heights, proposer_part};
-ghost use Rattle.rewards.specs.Starts.{AreStarts};
+ghost use Rattle.rewards.specs.Starts.{AreStarts, AsksForCommits};
 ghost use Rattle.rewards.specs.Reading.{AreKnownBlocks, ComesTo};
 
 use crate::amounts::plus;
+use crate::committed::{committed_after, wanted_of};
 use crate::fees::proposed_at;
 use crate::places::place_at;
 use crate::starts::{Starts, starts_at};
@@ -40,8 +41,9 @@ fn proposed_after<B: Blocks>(
     requires counts { B.count blocks.old ≡ length tree.now.entries }
     ensures read { HasRead B.told B.count B.loans_of B.faults B.damages blocks.old blocks.new (stop_of result) }
     ensures of_block { (stored : List Stored) → B.told blocks.old ≡ Some stored → (damage : Damage) → result ≡ Err (Damaged damage) → IsOfBlock tree.now.entries damage }
-    ensures sum { (stored : List Stored) → AreKnownBlocks spec.now (B.told blocks.old) tree.now.entries stored
-        → AreStarts spec.now (branch (blocks_of stored) parent) proposer (hashed.get bytes_eq starts.now)
+    ensures sum { (stored : List Stored) (asked : List ℕ → Bool) → AreKnownBlocks spec.now (B.told blocks.old) tree.now.entries stored
+        → AsksForCommits spec.now (branch (blocks_of stored) parent) proposer asked
+        → AreStarts spec.now (branch (blocks_of stored) parent) proposer asked (hashed.get bytes_eq starts.now)
         → ComesTo (λ found. found ≡ as_u64 (pos (sum_by (proposer_part spec.now (branch (blocks_of stored) parent) proposer) (commit_heights spec.now proposer)))) result }
 {
     let low = proposer + u64::from(spec.w_close);
@@ -82,7 +84,15 @@ pub(crate) fn proposed_by<B: Blocks>(
     if ids.is_empty() {
         return Ok(Some(0));
     }
-    match starts_at(alloc, &ids, spec, tree, blocks, parent, height) {
+    let committed = match committed_after(alloc, spec, tree, blocks, parent, height) {
+        Ok(committed) => committed,
+        Err(stop) => return Err(stop),
+    };
+    let wanted = match wanted_of(alloc, &ids, &committed) {
+        Ok(wanted) => wanted,
+        Err(_) => return Err(ReadStop::NoMemory),
+    };
+    match starts_at(alloc, &wanted, spec, tree, blocks, parent, height) {
         Ok(starts) => proposed_after(&starts, spec, tree, blocks, parent, height),
         Err(stop) => Err(stop),
     }

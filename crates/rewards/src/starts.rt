@@ -1,5 +1,5 @@
 // From which height on a block is the earliest proposer of what it proposes.
-ghost use Rattle.std.specs.Prelude.{◌≡◌, ◌^◌, ◌<◌, ◌≤◌, cond, List, ℕ, length, Some, None, IfOk, IsSomeAnd, Err};
+ghost use Rattle.std.specs.Prelude.{◌≡◌, ◌^◌, ◌<◌, ◌≤◌, ◌&&◌, Bool, cond, List, ℕ, length, Some, None, IfOk, IsSomeAnd, Err};
 ghost use Rattle.std.specs.List.{list_any};
 ghost use Rattle.std.specs.Option.{option_map};
 ghost use Rattle.std.specs.Str.{bytes_eq};
@@ -12,21 +12,21 @@ ghost use Rattle.chain_tree.specs.Entries.{entry_at};
 ghost use Rattle.chain_tree.specs.Blocks.{IndexesBlocks};
 ghost use Rattle.chain_tree.specs.Told.{Stored, blocks_of};
 ghost use Rattle.chain_tree.specs.Reading.{HasRead, stop_of};
-ghost use Rattle.rule_defs.specs.Window.{proposed_ids, proposes, proposes_at};
+ghost use Rattle.rule_defs.specs.Window.{proposes, proposes_at};
 ghost use Rattle.rewards.specs.Starts as rules;
 ghost use Rattle.rewards.specs.Starts.{AreStarts};
 ghost use Rattle.rewards.specs.Reading.{ComesTo};
 
-use chain_tree::{Blocks, Tree};
+use chain_tree::{Blocks, ByDigest, Tree};
 use epochs::Spec;
 use outside::{NoMemory, ReadStop};
 use proposal_window::ids_at;
 use std::alloc::Global;
 use std::collections::HashMap;
 
-/// Of each id that a block proposes its start: a commit of it at a lower height has an earlier proposer in its window, and
-/// one at this height or above has not.
-pub(crate) type Starts = HashMap<[u8; 10], u64>;
+/// Of each id that a block proposes and later ones commit its start: a commit of it at a lower height has an earlier proposer in
+/// its window, and one at this height or above has not. What is committed is found and not picked, so it may be hashed.
+pub(crate) type Starts = HashMap<[u8; 10], u64, ByDigest>;
 
 /// Whether a commit of an id at a height is at or after its start.
 pub(crate) fn is_started(starts: &Starts, id: &[u8; 10], height: u64) -> bool
@@ -42,7 +42,7 @@ pub(crate) fn is_started(starts: &Starts, id: &[u8; 10], height: u64) -> bool
 fn starts_of(alloc: Global, ids: &[[u8; 10]]) -> Result<Starts, NoMemory>
     ensures { IfOk result (λ starts. (id : List ℕ) → hashed.get bytes_eq starts id ≡ cond (list_any (λ other. bytes_eq other id) ids.now) (Some 0) None) }
 {
-    let mut starts = HashMap::new(alloc);
+    let mut starts = HashMap::with_hasher(alloc, ByDigest);
     'ids: for i in 0..ids.len() {
         starts.insert(ids[i], 0)?;
     }
@@ -102,9 +102,9 @@ fn move_over<B: Blocks>(
     requires counts { B.count blocks.old ≡ length tree.now.entries }
     ensures read { HasRead B.told B.count B.loans_of B.faults B.damages blocks.old blocks.new (stop_of result) }
     ensures undamaged { (stored : List Stored) → B.told blocks.old ≡ Some stored → (damage : Damage) → result ≡ Err (Damaged damage) → ⊥ }
-    ensures starts { (stored : List Stored) → B.told blocks.old ≡ Some stored → IndexesBlocks (blocks_of stored) tree.now.entries
-        → ((id : List ℕ) → hashed.get bytes_eq starts.old id ≡ cond (proposes_at (branch (blocks_of stored) parent) id proposer) (Some 0) None)
-        → ComesTo (λ _. AreStarts spec.now (branch (blocks_of stored) parent) proposer (hashed.get bytes_eq starts.new)) result }
+    ensures starts { (stored : List Stored) (asked : List ℕ → Bool) → B.told blocks.old ≡ Some stored → IndexesBlocks (blocks_of stored) tree.now.entries
+        → ((id : List ℕ) → hashed.get bytes_eq starts.old id ≡ cond (proposes_at (branch (blocks_of stored) parent) id proposer && asked id) (Some 0) None)
+        → ComesTo (λ _. AreStarts spec.now (branch (blocks_of stored) parent) proposer asked (hashed.get bytes_eq starts.new)) result }
 {
     let far = u64::from(spec.w_far);
     let low = (proposer + u64::from(spec.w_close)).saturating_sub(far);
@@ -118,8 +118,8 @@ fn move_over<B: Blocks>(
     Ok(())
 }
 
-/// The starts of the ids that the block at a height and its uncles propose. Damaged where the source finds a block
-/// damaged.
+/// The starts of those ids that the block at a height and its uncles propose and that are asked for; where there is none, no
+/// block is looked at. Damaged where the source finds a block damaged.
 pub(crate) fn starts_at<B: Blocks>(
     alloc: Global,
     ids: &[[u8; 10]],
@@ -134,14 +134,17 @@ pub(crate) fn starts_at<B: Blocks>(
     requires counts { B.count blocks.old ≡ length tree.now.entries }
     ensures read { HasRead B.told B.count B.loans_of B.faults B.damages blocks.old blocks.new (stop_of result) }
     ensures undamaged { (stored : List Stored) → B.told blocks.old ≡ Some stored → (damage : Damage) → result ≡ Err (Damaged damage) → ⊥ }
-    ensures starts { (stored : List Stored) → B.told blocks.old ≡ Some stored → IndexesBlocks (blocks_of stored) tree.now.entries
-        → option_map proposed_ids (block_at (branch (blocks_of stored) parent) proposer) ≡ Some ids.now
-        → ComesTo (λ starts. AreStarts spec.now (branch (blocks_of stored) parent) proposer (hashed.get bytes_eq starts)) result }
+    ensures starts { (stored : List Stored) (asked : List ℕ → Bool) → B.told blocks.old ≡ Some stored → IndexesBlocks (blocks_of stored) tree.now.entries
+        → ((id : List ℕ) → list_any (λ other. bytes_eq other id) ids.now ≡ (proposes_at (branch (blocks_of stored) parent) id proposer && asked id))
+        → ComesTo (λ starts. AreStarts spec.now (branch (blocks_of stored) parent) proposer asked (hashed.get bytes_eq starts)) result }
 {
     let mut starts = match starts_of(alloc, ids) {
         Ok(starts) => starts,
         Err(_) => return Err(ReadStop::NoMemory),
     };
+    if ids.is_empty() {
+        return Ok(starts);
+    }
     match move_over(alloc, &mut starts, spec, tree, blocks, parent, proposer) {
         Ok(()) => Ok(starts),
         Err(stop) => Err(stop),

@@ -8,6 +8,7 @@ ghost use Rattle.script_run.specs.Locating.{first_with_data, typed_with};
 ghost use Rattle.script_run.specs.Shown.{AreCodesIn, code_meaning};
 
 use cell_model::Resolved;
+use chain_tree::ByDigest;
 use mol_schema::ScriptView;
 use outside::NoMemory;
 use std::alloc::Global;
@@ -46,8 +47,8 @@ pub(crate) struct Codes<'a> {
     deps: &'a [Resolved],
     second: bool,
     /// The place of the first dep with a hash of its data.
-    by_data: HashMap<[u8; 32], usize>,
-    by_type: HashMap<[u8; 32], Typed>,
+    by_data: HashMap<[u8; 32], usize, ByDigest>,
+    by_type: HashMap<[u8; 32], Typed, ByDigest>,
 }
 
 impl<'a> Model for Codes<'a> {
@@ -66,10 +67,10 @@ impl<'a> Model for Codes<'a> {
 }
 
 /// The place of the first of the deps with each hash of their data.
-fn places_by_data(alloc: Global, deps: &[Resolved]) -> Result<HashMap<[u8; 32], usize>, NoMemory>
+fn places_by_data(alloc: Global, deps: &[Resolved]) -> Result<HashMap<[u8; 32], usize, ByDigest>, NoMemory>
     ensures { (hash : List ℕ) → IfOk result (λ places. get bytes_eq places hash ≡ first_with_data hash 0 deps.now) }
 {
-    let mut places = HashMap::new(alloc);
+    let mut places = HashMap::with_hasher(alloc, ByDigest);
     'deps: for done in 0..deps.len() {
         let place = deps.len() - 1 - done;
         let dep = &deps[place];
@@ -93,10 +94,10 @@ fn places_by_type(
     alloc: Global,
     deps: &[Resolved],
     second: bool,
-) -> Result<HashMap<[u8; 32], Typed>, NoMemory>
+) -> Result<HashMap<[u8; 32], Typed, ByDigest>, NoMemory>
     ensures { (hash : List ℕ) → IfOk result (λ places. get bytes_eq places hash ≡ typed_with second hash 0 deps.now) }
 {
-    let mut places: HashMap<[u8; 32], Typed> = HashMap::new(alloc);
+    let mut places: HashMap<[u8; 32], Typed, ByDigest> = HashMap::with_hasher(alloc, ByDigest);
     'deps: for done in 0..deps.len() {
         let first = deps.len() - 1 - done;
         let dep = &deps[first];

@@ -13,6 +13,7 @@ ghost use Rattle.script_run.specs.Shown.{HasItsHash, IsShownAs, Shows, output_ro
 use crate::fitting::output_of;
 use crate::shown::{ShownTx, output_at};
 use cell_model::{CellMeta, Resolved};
+use chain_tree::ByDigest;
 use mol_schema::{OutputView, ScriptView, TxView};
 use outside::NoMemory;
 use std::alloc::Global;
@@ -48,7 +49,7 @@ fn typed<'a>(output: &OutputView<'a>, hash: Option<[u8; 32]>) -> Option<(ScriptV
 #[derive(Drop)]
 struct Grouping<'a> {
     groups: Vec<Group<'a>>,
-    places: HashMap<[u8; 32], usize>,
+    places: HashMap<[u8; 32], usize, ByDigest>,
 }
 
 impl<'a> Grouping<'a> {
@@ -58,7 +59,7 @@ impl<'a> Grouping<'a> {
     {
         Grouping {
             groups: Vec::new(alloc),
-            places: HashMap::new(alloc),
+            places: HashMap::with_hasher(alloc, ByDigest),
         }
     }
 

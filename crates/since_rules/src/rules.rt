@@ -4,7 +4,7 @@ ghost use Rattle.std.specs.Prelude.{◌≡◌, ◌*◌, ◌^◌, ◌<◌, ◌≤
 ghost use Rattle.chain_defs.specs.Since as rules;
 ghost use Rattle.chain_defs.specs.Since.{Spending, IsLater};
 ghost use Rattle.chain_defs.specs.Specification.{keeps_s2};
-ghost use Rattle.since_rules.specs.Fields.{meaning};
+ghost use Rattle.since_rules.specs.Fields.{meaning, is_timestamp};
 ghost use Rattle.since_rules.specs.Rules.{IsMature, HasFault};
 
 use crate::fields::{Metric, is_relative, metric_of, reserved_of, since_value};
@@ -57,6 +57,18 @@ impl fmt::Display for SinceFault {
 }
 
 impl Error for SinceFault {}
+
+/// Whether the value of a since counts seconds. Where it does not, what `meets` answers hangs on no median time.
+pub fn counts_seconds(since: u64) -> bool
+    ensures { result ≡ is_timestamp (rules.metric_of since) }
+{
+    match metric_of(since) {
+        Some(Metric::Timestamp) => true,
+        Some(Metric::BlockNumber) => false,
+        Some(Metric::Epoch) => false,
+        None => false,
+    }
+}
 
 /// Whether a since is met.
 pub fn meets(since: u64, at: &SinceAt) -> Result<(), SinceFault>

@@ -2,6 +2,8 @@
 use Rattle.std.specs.Prelude.{◌≡◌, ◌≢◌, ◌⊎◌, ℕ, ◌<◌, ◌==◌, ◌||◌, false, List, [], ◌∷◌, ◌++◌, length, slice_index, Option, Some, if◌then◌else◌}
 use Rattle.chain_defs.specs.Schema.{OutPoint}
 use Rattle.cell_defs.specs.Row.{Row, ListsRows}
+use Rattle.cell_state.specs.Keys.{keys_in}
+use Rattle.std.specs.List.{All}
 use Rattle.outside.specs.declared.disk.Area.{Area}
 use Rattle.outside.specs.Image.{Image, content, with_content, InArea}
 use Rattle.outside.specs.Disk.{written, ComesBy, IsDurable}
@@ -68,3 +70,8 @@ pub record IsBodyOf (number tip : ℕ) (hash : List ℕ) (rows : OutPoint → Op
   pub is : IsSnapshotOf number tip hash rows s
   pub form : HasForm s
   pub bytes : body ≡ body_bytes s
+
+-- These rows there are, and the keys are theirs, in their order.
+pub record AreRowsOf (rows : OutPoint → Option Row) (keys : List (List ℕ × ℕ)) (list : List (OutPoint × Row)) : Type 0 where
+  pub each : All (λ it. rows it.0 ≡ Some it.1) list
+  pub keys_are : keys ≡ keys_in list

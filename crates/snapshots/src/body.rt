@@ -1,15 +1,17 @@
 // The bytes of a snapshot that stand after its gate.
-ghost use Rattle.std.specs.Prelude.{◌≡◌, ◌+◌, ◌*◌, ◌^◌, ◌<◌, ◌≤◌, ◌++◌, length, map, IfOk, OnOk};
+ghost use Rattle.std.specs.Prelude.{◌≡◌, ◌+◌, ◌*◌, ◌^◌, ◌<◌, ◌≤◌, ◌++◌, List, length, map, IfOk, OnOk};
 ghost use Rattle.std.specs.List.{All, concat};
 ghost use Rattle.std.specs.Int.{w32, w64, to_le_bytes};
+ghost use Rattle.chain_defs.specs.Schema.{OutPoint};
 ghost use Rattle.cell_defs.specs.Ext.{row_bytes};
+ghost use Rattle.cell_defs.specs.Row.{Row};
 ghost use Rattle.cell_state.specs.State.{rows};
 ghost use Rattle.cell_defs.specs.Fits.{FitsRow};
 ghost use Rattle.disk_defs.specs.Snapshot.{body_bytes};
-ghost use Rattle.snapshots.specs.Writing.{IsBodyOf};
+ghost use Rattle.snapshots.specs.Writing.{IsBodyOf, AreRowsOf};
 
 use crate::head::HEAD_SIZE;
-use cell_model::{CellMeta, OutPoint, ROW_SIZE, put_row};
+use cell_model::{CellMeta, Cells, OutPoint, ROW_SIZE, put_row};
 use cell_state::State;
 use outside::NoMemory;
 use std::alloc::Global;
@@ -36,20 +38,27 @@ fn put_head(
     Ok(())
 }
 
-/// Puts rows after what is there.
-fn put_rows(bytes: &mut Vec<u8>, rows: &[(OutPoint, CellMeta)]) -> Result<(), NoMemory>
-    ensures written { OnOk result (bytes.new.items ≡ bytes.old.items ++ concat (map row_bytes rows.now)) }
-    ensures fits { OnOk result (All FitsRow rows.now) }
+/// Puts the rows of a state that have these keys after what is there.
+fn put_rows(bytes: &mut Vec<u8>, state: &State, keys: &[([u8; 32], u32)]) -> Result<(), NoMemory>
+    ensures written { (list : List (OutPoint × Row)) → AreRowsOf (rows state.now) keys.now list
+        → OnOk result (bytes.new.items ≡ bytes.old.items ++ concat (map row_bytes list)) }
+    ensures fits { (list : List (OutPoint × Row)) → AreRowsOf (rows state.now) keys.now list → OnOk result (All FitsRow list) }
 {
-    'rows: for (o, meta) in rows {
-        fits(*o, *meta);
-        put_row(bytes, o, meta)?;
+    'rows: for (tx_hash, index) in keys {
+        let o = OutPoint {
+            tx_hash: *tx_hash,
+            index: *index,
+        };
+        if let Some(meta) = state.get(&o) {
+            fits(o, meta);
+            put_row(bytes, &o, &meta)?;
+        }
     }
     Ok(())
 }
 
 /// What stands after the gate of the snapshot of a state, with this number, place and hash of the tip. Each row becomes bytes
-/// once, in one buffer of just this size beside the sorted rows.
+/// once, in one buffer of just this size beside the sorted keys.
 pub(crate) fn body_of(
     alloc: Global,
     number: u32,
@@ -61,32 +70,34 @@ pub(crate) fn body_of(
     ensures few { IfOk result (λ body. length body.items ≤ 2 ^ 58) }
 {
     let count = state.rows();
-    let rows = match state.sorted(alloc) {
-        Ok(rows) => rows,
+    let keys = match state.sorted_keys(alloc) {
+        Ok(keys) => keys,
         Err(NoMemory) => return Err(NoMemory),
     };
     let mut bytes = match Vec::with_capacity(alloc, HEAD_SIZE - 1 + ROW_SIZE * count as usize) {
         Ok(bytes) => bytes,
         Err(_) => return Err(NoMemory),
     };
-    match put_body(&mut bytes, number, tip, hash, &rows) {
+    match put_body(&mut bytes, number, tip, hash, state, &keys) {
         Ok(()) => Ok(bytes),
         Err(NoMemory) => Err(NoMemory),
     }
 }
 
-/// Puts what stands after the gate of a snapshot after what is there.
+/// Puts what stands after the gate of a snapshot of the rows of a state that have these keys after what is there.
 fn put_body(
     bytes: &mut Vec<u8>,
     number: u32,
     tip: u32,
     hash: &[u8; 32],
-    rows: &[(OutPoint, CellMeta)],
+    state: &State,
+    keys: &[([u8; 32], u32)],
 ) -> Result<(), NoMemory>
-    ensures written { OnOk result (bytes.new.items ≡ bytes.old.items ++ body_bytes (record { number = number; tip = tip; hash = hash.now; rows = rows.now })) }
-    ensures fits { OnOk result (All FitsRow rows.now) }
+    ensures written { (list : List (OutPoint × Row)) → AreRowsOf (rows state.now) keys.now list
+        → OnOk result (bytes.new.items ≡ bytes.old.items ++ body_bytes (record { number = number; tip = tip; hash = hash.now; rows = list })) }
+    ensures fits { (list : List (OutPoint × Row)) → AreRowsOf (rows state.now) keys.now list → OnOk result (All FitsRow list) }
 {
-    put_head(bytes, number, tip, hash, rows.len() as u64)?;
-    put_rows(bytes, rows)?;
+    put_head(bytes, number, tip, hash, keys.len() as u64)?;
+    put_rows(bytes, state, keys)?;
     Ok(())
 }

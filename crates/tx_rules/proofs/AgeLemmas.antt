@@ -1,5 +1,5 @@
 -- The block that made a cell which a transaction sees: its height, and the time from which the cell counts.
-use Rattle.std.proofs.Common.{◌≡◌, ℕ, zero, suc, ◌+◌, ◌-◌, ◌<◌, Bool, true, false, ◌&&◌, ◌||◌, ◌==◌, not, nat_lt, get_or, map, List, [], ◌∷◌, length, take, Option, Some, Result, Ok, Err, refl, sym, ap, ◌∙◌, subst, inl, inr, ◌⊎◌, arith, add-one}
+use Rattle.std.proofs.Common.{◌≡◌, ℕ, zero, suc, ◌+◌, ◌-◌, ◌<◌, Bool, true, false, true≢false, ◌&&◌, ◌||◌, ◌==◌, not, nat_lt, nat_le, get_or, map, List, [], ◌∷◌, length, take, Option, Some, Result, Ok, Err, refl, sym, ap, ◌∙◌, subst, inl, inr, ◌⊎◌, arith, add-one}
 use Rattle.std.specs.Prelude.{slice_get, if◌then◌else◌, IfSome, IfOk, OnOk, IfErr, is_ok}
 use Rattle.std.specs.Option.{option_map, option_and_then}
 use Rattle.std.proofs.lemmas.List.{take_all, length-take-le, length-map}
@@ -20,7 +20,9 @@ use Rattle.chain_tree.proofs.BlockLemmas.{DescribedAt, described, len-same}
 use Rattle.cell_defs.specs.Row.{Row}
 use Rattle.rule_defs.specs.Site.{Site, Found, height_at}
 use Rattle.rule_defs.specs.Age.{timestamp_of, median_start, block_start, start_at, spending}
-use Rattle.chain_defs.specs.Since.{Spending, is_valid, is_met}
+use Rattle.chain_defs.specs.Since.{Spending, Metric, block_number, epoch, timestamp, no_metric, metric_of, is_relative, since_value, is_passed, is_reached, is_valid, is_met}
+use Rattle.chain_defs.specs.Epochs.{is_span_over}
+use Rattle.since_rules.specs.Fields.{is_timestamp}
 use Rattle.since_rules.specs.declared.rules.SinceFault.{SinceFault}
 use Rattle.since_rules.specs.declared.rules.SinceFault.TheVariants.{Invalid, Immature}
 use Rattle.since_rules.specs.Rules.{IsMature, HasFault}
@@ -326,10 +328,40 @@ start-by site height (Err damage) second is same = tt
 
 -- ---- Since
 
-pub spending-same : (site : Site) (found : Found) (number median made start blocks : ℕ) → number ≡ height_at site → median ≡ median_time site.branch
+-- a value that counts no seconds looks at no times
+timeless : (metric : Metric) (relative : Bool) (value : ℕ) (at other : Spending) → is_timestamp metric ≡ false → at.number ≡ other.number → at.made ≡ other.made
+    → at.length ≡ other.length
+    → (if relative then is_passed metric value at else is_reached metric value at) ≡ (if relative then is_passed metric value other else is_reached metric value other)
+timeless block_number true value at other none number made long =
+    ap (λ (n : ℕ). nat_le (at.made + value) n) number ∙ ap (λ (n : ℕ). nat_le (n + value) other.number) made
+timeless block_number false value at other none number made long = ap (λ (n : ℕ). nat_le value n) number
+timeless epoch true value at other none number made long =
+    ap (λ (n : ℕ). is_span_over value at.length at.made n) number ∙ ap (λ (n : ℕ). is_span_over value at.length n other.number) made
+    ∙ ap (λ (n : ℕ). is_span_over value n other.made other.number) long
+timeless epoch false value at other none number made long =
+    ap (λ (n : ℕ). is_span_over value at.length 0 n) number ∙ ap (λ (n : ℕ). is_span_over value n 0 other.number) long
+timeless timestamp relative value at other none number made long = absurd (true≢false none)
+timeless no_metric true value at other none number made long = refl
+timeless no_metric false value at other none number made long = refl
+
+spending-same : (site : Site) (found : Found) (number median made start blocks : ℕ) → number ≡ height_at site → median ≡ median_time site.branch
     → made ≡ found.cell.height → start ≡ start_at site found.cell.height → blocks ≡ site.spec.epoch_length
     → ◌≡◌ {A = Spending} (record { number = number; median = median; made = made; start = start; length = blocks }) (spending site found)
 spending-same site found number median made start blocks one two three four five = cc
+
+-- so it is met with any as with those of the site
+pub met-here : (since : ℕ) (site : Site) (found : Found) (number median made start blocks : ℕ) → number ≡ height_at site → made ≡ found.cell.height
+    → blocks ≡ site.spec.epoch_length
+    → (is_timestamp (metric_of since) ≡ true → (median ≡ median_time site.branch) × (start ≡ start_at site found.cell.height))
+    → is_met since (record { number = number; median = median; made = made; start = start; length = blocks }) ≡ is_met since (spending site found)
+met-here since site found number median made start blocks one two three times = by_metric (is_timestamp (metric_of since)) refl
+  where
+    here : Spending
+    here = record { number = number; median = median; made = made; start = start; length = blocks }
+
+    by_metric : (b : Bool) → is_timestamp (metric_of since) ≡ b → is_met since here ≡ is_met since (spending site found)
+    by_metric false none = timeless (metric_of since) (is_relative since) (since_value since) here (spending site found) none one two three
+    by_metric true some = ap (is_met since) (spending-same site found number median made start blocks one (times some).0 two (times some).1 three)
 
 pub met-same : {V : Type 0} (since : ℕ) (at : Spending) (answer : Result V SinceFault) → OnOk answer (IsMature since at) → IfErr answer (HasFault since at)
     → is_ok answer ≡ (is_valid since && is_met since at)

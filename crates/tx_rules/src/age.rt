@@ -1,15 +1,16 @@
 // J23 and J24: how old the cells of a transaction are.
-ghost use Rattle.std.specs.Prelude.{◌≡◌, ◌^◌, ◌<◌, ◌≤◌, ◌&&◌, List, length, map, Err, IfOk, Option};
+ghost use Rattle.std.specs.Prelude.{◌≡◌, ◌^◌, ◌<◌, ◌≤◌, ◌&&◌, true, List, length, map, Err, IfOk, Option};
 ghost use Rattle.std.specs.List.{list_all, zip};
 ghost use Rattle.chain_defs.specs.Schema.{OutPoint};
 ghost use Rattle.cell_defs.specs.Row.{Row};
-ghost use Rattle.chain_defs.specs.Since.{is_valid, is_met};
+ghost use Rattle.chain_defs.specs.Since.{is_valid, is_met, metric_of};
 ghost use Rattle.chain_defs.specs.Median.{median_time};
 ghost use Rattle.outside.specs.declared.disk.Area.TheVariants.{Log};
 ghost use Rattle.outside.specs.declared.disk.Damage.{Damage};
 ghost use Rattle.chain_tree.specs.Told.{Stored, blocks_of};
 ghost use Rattle.rule_defs.specs.Site.{Site, Found, height_at};
 ghost use Rattle.rule_defs.specs.Age as rules;
+ghost use Rattle.since_rules.specs.Fields.{is_timestamp};
 ghost use Rattle.tx_rules.specs.At.{IsPlaced, IsSiteOf, AreSeen, found_row};
 ghost use Rattle.tx_rules.specs.Seen.{IsRowOf};
 
@@ -18,7 +19,7 @@ use cell_model::{CellMeta, OutPoint};
 use epochs::span_over;
 use mol_schema::TxView;
 use outside::Damage;
-use since_rules::{SinceAt, meets};
+use since_rules::{SinceAt, counts_seconds, meets};
 
 /// The height of the block that made a cell, which is at most that of the block that the transaction stands in.
 /// Damaged where a row's block is not kept, or not below that height.
@@ -155,22 +156,43 @@ fn start_at(at: &TxAt<'_, '_, '_>, median: u64, meta: &CellMeta) -> Result<u64, 
     }
 }
 
-/// Whether a since is valid and met by the cell of a row, spent at this height with this median time at the parent.
-/// Damaged where a row's block is not kept, or not below that height.
+/// The times that a since compares: the median time at the parent of the block that the transaction stands in, and the time
+/// from which the cell of a row counts. Of a since that counts no seconds they are 0, and none is looked for. Damaged where a
+/// row's block is not kept.
+fn times_of(at: &TxAt<'_, '_, '_>, since: u64, meta: &CellMeta) -> Result<(u64, u64), Damage>
+    requires placed { IsPlaced at.now }
+    ensures times { (stored : List Stored) (rows : OutPoint → Option Row) (site : Site) (found : Found) → IsSiteOf stored at.now rows site
+        → IsRowOf (blocks_of stored) at.now.parent site found meta.now → is_timestamp (metric_of since) ≡ true
+        → IfOk result (λ times. (times.0 ≡ median_time site.branch) × (times.1 ≡ rules.start_at site found.cell.height)) }
+    ensures undamaged { (stored : List Stored) (rows : OutPoint → Option Row) (site : Site) (found : Found) → IsSiteOf stored at.now rows site
+        → IsRowOf (blocks_of stored) at.now.parent site found meta.now → (damage : Damage) → result ≡ Err damage → ⊥ }
+    ensures damage { (damage : Damage) → result ≡ Err damage → damage.area ≡ Log }
+{
+    if !counts_seconds(since) {
+        return Ok((0, 0));
+    }
+    let median = at.tree.median(at.parent);
+    match start_at(at, median, meta) {
+        Ok(start) => Ok((median, start)),
+        Err(damage) => Err(damage),
+    }
+}
+
+/// Whether a since is valid and met by the cell of a row, spent at this height. Damaged where a row's block is not kept, or
+/// not below that height.
 fn meets_since(
     at: &TxAt<'_, '_, '_>,
     height: u64,
-    median: u64,
     since: u64,
     meta: &CellMeta,
 ) -> Result<bool, Damage>
     requires placed { IsPlaced at.now }
     requires fits { height < 2 ^ 24 }
     ensures met { (stored : List Stored) (rows : OutPoint → Option Row) (site : Site) (found : Found) → IsSiteOf stored at.now rows site
-        → height ≡ height_at site → median ≡ median_time site.branch → IsRowOf (blocks_of stored) at.now.parent site found meta.now
+        → height ≡ height_at site → IsRowOf (blocks_of stored) at.now.parent site found meta.now
         → IfOk result (λ met. met ≡ (is_valid since && is_met since (rules.spending site found))) }
     ensures undamaged { (stored : List Stored) (rows : OutPoint → Option Row) (site : Site) (found : Found) → IsSiteOf stored at.now rows site
-        → height ≡ height_at site → median ≡ median_time site.branch → IsRowOf (blocks_of stored) at.now.parent site found meta.now
+        → height ≡ height_at site → IsRowOf (blocks_of stored) at.now.parent site found meta.now
         → (damage : Damage) → result ≡ Err damage → ⊥ }
     ensures damage { (damage : Damage) → result ≡ Err damage → damage.area ≡ Log }
 {
@@ -178,8 +200,8 @@ fn meets_since(
         Ok(made) => made,
         Err(damage) => return Err(damage),
     };
-    let start = match start_at(at, median, meta) {
-        Ok(start) => start,
+    let (median, start) = match times_of(at, since, meta) {
+        Ok(times) => times,
         Err(damage) => return Err(damage),
     };
     let spec = at.spec;
@@ -210,10 +232,9 @@ pub(crate) fn meets_each_since(
 {
     let raw = tx.raw();
     let height = at.height();
-    let median = at.tree.median(at.parent);
     'inputs: for i in 0..found.len() {
         let since = raw.inputs_item(i).since();
-        match meets_since(at, height, median, since, &found[i].1) {
+        match meets_since(at, height, since, &found[i].1) {
             Ok(true) => {}
             Ok(false) => return Ok(false),
             Err(damage) => return Err(damage),

@@ -1,4 +1,4 @@
-// J18: what a transaction is by itself.
+// J18: what a transaction is by itself. Who makes it picks what it names, so that is sorted and not hashed.
 ghost use Rattle.std.specs.Prelude.{◌≡◌, ◌<◌, ◌&&◌, ◌==◌, nat_lt, IfOk, Some, length, map, slice_get};
 ghost use Rattle.chain_defs.specs.Shape.{encoded};
 ghost use Rattle.chain_defs.specs.Schema.{cell_dep};
@@ -9,7 +9,6 @@ use crate::arrays::array_of;
 use mol_schema::TxView;
 use outside::NoMemory;
 use std::alloc::Global;
-use std::collections::HashSet;
 
 /// The bytes of a cell dep.
 fn dep_at(tx: &TxView<'_>, i: usize) -> [u8; 37]
@@ -19,19 +18,23 @@ fn dep_at(tx: &TxView<'_>, i: usize) -> [u8; 37]
     array_of(tx.raw().cell_deps_item(i).bytes())
 }
 
+/// The bytes of the cell deps, in their order.
+fn deps_of(alloc: Global, tx: &TxView<'_>) -> Result<Vec<[u8; 37]>, NoMemory>
+    ensures { IfOk result (λ deps. deps.items ≡ map (encoded cell_dep) tx.now.raw.cell_deps) }
+{
+    let mut deps = Vec::with_capacity(alloc, tx.raw().cell_deps_count())?;
+    'deps: for i in 0..tx.raw().cell_deps_count() {
+        deps.push(dep_at(tx, i))?;
+    }
+    Ok(deps)
+}
+
 /// Whether no two cell deps are equal, by all their bytes.
 fn are_deps_distinct(alloc: Global, tx: &TxView<'_>) -> Result<bool, NoMemory>
     ensures { IfOk result (λ distinct. distinct ≡ are_distinct (map (encoded cell_dep) tx.now.raw.cell_deps)) }
 {
-    let mut seen: HashSet<[u8; 37]> = HashSet::new(alloc);
-    'later: for i in (0..tx.raw().cell_deps_count()).rev() {
-        match seen.insert(dep_at(tx, i)) {
-            Ok(true) => {}
-            Ok(false) => return Ok(false),
-            Err(_) => return Err(NoMemory),
-        }
-    }
-    Ok(true)
+    let mut deps = deps_of(alloc, tx)?;
+    Ok(sorted_keys::are_distinct(&mut deps))
 }
 
 /// The header dep at a place.
@@ -42,19 +45,23 @@ pub(crate) fn header_dep_at(tx: &TxView<'_>, i: usize) -> [u8; 32]
     array_of(tx.raw().header_deps_item(i))
 }
 
+/// The header deps, in their order.
+fn header_deps_of(alloc: Global, tx: &TxView<'_>) -> Result<Vec<[u8; 32]>, NoMemory>
+    ensures { IfOk result (λ deps. deps.items ≡ tx.now.raw.header_deps) }
+{
+    let mut deps = Vec::with_capacity(alloc, tx.raw().header_deps_count())?;
+    'deps: for i in 0..tx.raw().header_deps_count() {
+        deps.push(header_dep_at(tx, i))?;
+    }
+    Ok(deps)
+}
+
 /// Whether no two header deps are equal.
 fn are_header_deps_distinct(alloc: Global, tx: &TxView<'_>) -> Result<bool, NoMemory>
     ensures { IfOk result (λ distinct. distinct ≡ are_distinct tx.now.raw.header_deps) }
 {
-    let mut seen: HashSet<[u8; 32]> = HashSet::new(alloc);
-    'later: for i in (0..tx.raw().header_deps_count()).rev() {
-        match seen.insert(header_dep_at(tx, i)) {
-            Ok(true) => {}
-            Ok(false) => return Ok(false),
-            Err(_) => return Err(NoMemory),
-        }
-    }
-    Ok(true)
+    let mut deps = header_deps_of(alloc, tx)?;
+    Ok(sorted_keys::are_distinct(&mut deps))
 }
 
 /// Whether it has version 0, an input, an output, and as many data as outputs.

@@ -11,7 +11,6 @@ use cell_model::{CellMeta, Cells, OutPoint};
 use mol_schema::{OutPointView, TxView};
 use outside::NoMemory;
 use std::alloc::Global;
-use std::collections::HashSet;
 
 /// The out-point that stands in a transaction's bytes.
 pub(crate) fn out_point_of(o: &OutPointView<'_>) -> OutPoint
@@ -61,17 +60,22 @@ fn spent_at(tx: &TxView<'_>, i: usize) -> [u8; 36]
     array_of(tx.raw().inputs_item(i).previous_output().bytes())
 }
 
-/// Whether no two of its inputs spend one cell.
+/// The out-points that its inputs spend, in their order.
+fn spent_by(alloc: Global, tx: &TxView<'_>) -> Result<Vec<[u8; 36]>, NoMemory>
+    ensures { IfOk result (λ spent. spent.items ≡ map (λ input. encoded out_point input.previous_output) tx.now.raw.inputs) }
+{
+    let mut spent = Vec::with_capacity(alloc, tx.raw().inputs_count())?;
+    'inputs: for i in 0..tx.raw().inputs_count() {
+        spent.push(spent_at(tx, i))?;
+    }
+    Ok(spent)
+}
+
+/// Whether no two of its inputs spend one cell. Who makes the transaction picks what it names, so that is sorted and not
+/// hashed.
 pub(crate) fn are_inputs_distinct(alloc: Global, tx: &TxView<'_>) -> Result<bool, NoMemory>
     ensures { IfOk result (λ distinct. distinct ≡ spends_each_once tx.now) }
 {
-    let mut seen: HashSet<[u8; 36]> = HashSet::new(alloc);
-    'later: for i in (0..tx.raw().inputs_count()).rev() {
-        match seen.insert(spent_at(tx, i)) {
-            Ok(true) => {}
-            Ok(false) => return Ok(false),
-            Err(_) => return Err(NoMemory),
-        }
-    }
-    Ok(true)
+    let mut spent = spent_by(alloc, tx)?;
+    Ok(sorted_keys::are_distinct(&mut spent))
 }

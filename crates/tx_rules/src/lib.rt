@@ -8,10 +8,11 @@
 //! proposed (J19) is told beside it; what its scripts say (J28 to J30) is left to others.
 //!
 //! Its work is linear in the transaction and the cells that it names, the members of a dep group with them, but for
-//! three things. A kept block is read whole: once for all cells of inputs that it made, once for all those of deps, and
-//! once for each dep group that it made; both times the cells are sorted by their blocks, n log n. A header dep takes a
-//! walk of the logarithm of its height; J26 sorts the places of all of them, and searches them once for each withdrawing
-//! input, n log n. Out-points, hashes and deps are looked up in hash tables.
+//! four things. What it names is sorted to see that nothing is named twice, n log n. A kept block is read whole: once for
+//! all cells of inputs that it made, once for all those of deps, and once for each dep group that it made; both times the
+//! cells are sorted by their blocks, n log n. A header dep takes a walk of the logarithm of its height; J26 sorts the places
+//! of all of them, and searches them once for each withdrawing input, n log n. Live cells and headers are looked up in hash
+//! tables.
 #![tactic(auto)]
 
 mod age;

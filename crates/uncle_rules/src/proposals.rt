@@ -8,7 +8,6 @@ use epochs::Spec;
 use mol_schema::UncleView;
 use outside::NoMemory;
 use std::alloc::Global;
-use std::collections::HashSet;
 
 /// The hash that a header has of the proposal ids.
 fn proposals_hash(uncle: &UncleView<'_>) -> [u8; 32]
@@ -34,17 +33,23 @@ fn id_at(uncle: &UncleView<'_>, i: usize) -> [u8; 10]
     id
 }
 
-/// Whether no proposal id comes twice.
+/// The proposal ids, in their order.
+fn ids_of(alloc: Global, uncle: &UncleView<'_>) -> Result<Vec<[u8; 10]>, NoMemory>
+    ensures { IfOk result (λ ids. ids.items ≡ uncle.now.proposals) }
+{
+    let mut ids = Vec::with_capacity(alloc, uncle.proposals_count())?;
+    'ids: for i in 0..uncle.proposals_count() {
+        ids.push(id_at(uncle, i))?;
+    }
+    Ok(ids)
+}
+
+/// Whether no proposal id comes twice. Who proposes picks them, so they are sorted and not hashed.
 fn are_ids_distinct(alloc: Global, uncle: &UncleView<'_>) -> Result<bool, NoMemory>
     ensures { IfOk result (λ distinct. distinct ≡ hashes.are_distinct uncle.now.proposals) }
 {
-    let mut seen: HashSet<[u8; 10]> = HashSet::new(alloc);
-    'later: for i in (0..uncle.proposals_count()).rev() {
-        if !seen.insert(id_at(uncle, i))? {
-            return Ok(false);
-        }
-    }
-    Ok(true)
+    let mut ids = ids_of(alloc, uncle)?;
+    Ok(sorted_keys::are_distinct(&mut ids))
 }
 
 /// Whether an uncle's proposal ids are so many at most, all distinct, and its header commits to them.

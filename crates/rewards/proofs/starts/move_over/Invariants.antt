@@ -1,4 +1,4 @@
-use Rattle.std.proofs.Common.{◌≡◌, ℕ, cond, List, Some, None}
+use Rattle.std.proofs.Common.{◌≡◌, ℕ, Bool, ◌&&◌, cond, List, Some, None}
 use Rattle.std.specs.Str.{bytes_eq}
 use Rattle.std.specs.HashMap.{get}
 use Rattle.chain_defs.specs.Branch.{branch}
@@ -13,7 +13,7 @@ use Rattle.rewards.proofs.starts.move_over.Given as goal
 abbrev pub invariant-lower : goal.invariant-lower
 invariant-lower g l = record {
   read : HasRead g.B.Blocks.told g.B.Blocks.count g.B.Blocks.loans_of g.B.Blocks.faults g.B.Blocks.damages l.fn.blocks l.blocks None;
-  moved : (stored : List Stored) → g.B.Blocks.told l.fn.blocks ≡ Some stored → IndexesBlocks (blocks_of stored) l.tree.entries
-      → ((id : List ℕ) → get bytes_eq l.fn.starts id ≡ cond (proposes_at (branch (blocks_of stored) l.parent) id l.proposer) (Some 0) None)
-      → AreMoved l.spec.w_far (branch (blocks_of stored) l.parent) l.proposer l.low l.height (get bytes_eq l.starts);
+  moved : (stored : List Stored) (asked : List ℕ → Bool) → g.B.Blocks.told l.fn.blocks ≡ Some stored → IndexesBlocks (blocks_of stored) l.tree.entries
+      → ((id : List ℕ) → get bytes_eq l.fn.starts id ≡ cond (proposes_at (branch (blocks_of stored) l.parent) id l.proposer && asked id) (Some 0) None)
+      → AreMoved l.spec.w_far (branch (blocks_of stored) l.parent) asked l.proposer l.low l.height (get bytes_eq l.starts);
 }

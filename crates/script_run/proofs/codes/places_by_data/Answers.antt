@@ -9,7 +9,7 @@ use Rattle.script_run.proofs.CodeLemmas.{data-more, data-none, all-behind}
 use Rattle.script_run.proofs.codes.places_by_data.Goals as goal
 
 pub deps-init : goal.deps-init
-deps-init c hash = ap (lookup (bytes_eq hash)) c.new-places.ensures.empty ∙ data-none c.args.deps.now hash
+deps-init c hash = ap (lookup (bytes_eq hash)) c.with_hasher-places.ensures.empty ∙ data-none c.args.deps.now hash
 
 pub deps-preserved : goal.deps-preserved
 deps-preserved c hash =

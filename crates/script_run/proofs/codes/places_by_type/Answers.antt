@@ -25,7 +25,7 @@ bounds-deps-later c =
     type-within c.args.second c.in-Some.hash (length c.args.deps.now - c.deps.done) c.args.deps.now c.in-Some-get.later.now (omega arith) found
 
 pub deps-init : goal.deps-init
-deps-init c hash = ap (lookup (bytes_eq hash)) c.new-places.ensures.empty ∙ type-none c.args.second c.args.deps.now hash
+deps-init c hash = ap (lookup (bytes_eq hash)) c.with_hasher-places.ensures.empty ∙ type-none c.args.second c.args.deps.now hash
 
 pub deps-preserved : goal.deps-preserved
 deps-preserved c hash =

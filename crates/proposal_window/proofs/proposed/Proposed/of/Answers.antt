@@ -1,7 +1,6 @@
 use Rattle.std.proofs.Common.{◌≡◌, ◌-◌, ◌||◌, sym, ap, ◌∙◌, refl, arith}
 use Rattle.std.specs.List.{list_any, range_with_len}
 use Rattle.std.specs.Str.{bytes_eq}
-use Rattle.std.specs.HashSet.{contains}
 use Rattle.chain_defs.specs.Branch.{branch}
 use Rattle.chain_tree.specs.Told.{blocks_of}
 use Rattle.rule_defs.specs.Window.{proposes_at}
@@ -18,7 +17,7 @@ window-init g c = record {
   within = λ begun. absurd (omega (arith, begun));
   added = λ stored tells indexes id.
       let none : 0 ≡ c.window_of-low.result.0 - c.window_of-low.result.0 = omega arith in
-      ap (list_any (bytes_eq id)) c.new-ids.ensures.empty
+      ap (list_any (bytes_eq id)) c.new-ids.ensures.items
       ∙ ap (λ n. list_any (proposes_at (branch (blocks_of stored) c.args.parent) id) (range_with_len c.window_of-low.result.0 n)) none;
 }
 
@@ -30,8 +29,8 @@ window-preserved g c = record {
   added = λ stored tells indexes id.
       window-more (proposes_at (branch (blocks_of stored) c.args.parent) id) c.window_of-low.result.0 c.window.proposer _ _ c.window.invariant.from
       (c.window.invariant.added stored tells indexes id)
-      (c.in-Ok.ensures.added stored (c.window.invariant.read.told ∙ tells) id
-      ∙ ap (λ b. contains bytes_eq c.window.ids id || b)
+      (c.in-Ok.ensures.put stored (c.window.invariant.read.told ∙ tells) id
+      ∙ ap (λ b. list_any (bytes_eq id) c.window.ids.items || b)
       (sym (proposes-at-place (blocks_of stored) c.args.tree.now.entries id c.args.parent c.window.proposer c.ancestor-place.result _ indexes
       c.requires.parent (c.ancestor-place.ensures.of_blocks (blocks_of stored) indexes) refl)));
 }
@@ -47,7 +46,8 @@ pub returns : goal.returns
 returns g c = record {
   read = c.window.invariant.read;
   proposed = λ stored tells indexes id.
-      window-proposes c.args.spec.now (branch (blocks_of stored) c.args.parent) id c.args.height c.window_of-low.result.0 c.window_of-low.result.1 c.window.proposer _
+      c.of.ensures id
+      ∙ window-proposes c.args.spec.now (branch (blocks_of stored) c.args.parent) id c.args.height c.window_of-low.result.0 c.window_of-low.result.1 c.window.proposer _
       c.window_of-low.ensures.low c.window_of-low.ensures.end (let past = c.window-test.false in omega (arith, past)) c.window.invariant.within
       (c.window.invariant.added stored tells indexes id);
   undamaged = λ stored tells indexes damage same. no_answer _ _ same;

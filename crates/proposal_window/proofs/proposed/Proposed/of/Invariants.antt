@@ -1,7 +1,6 @@
 use Rattle.std.proofs.Common.{◌≡◌, ◌-◌, ℕ, ◌<◌, ◌≤◌, List, Some, None}
 use Rattle.std.specs.List.{list_any, range_with_len}
 use Rattle.std.specs.Str.{bytes_eq}
-use Rattle.std.specs.HashSet.{contains}
 use Rattle.chain_defs.specs.Branch.{branch}
 use Rattle.chain_tree.specs.Blocks.{IndexesBlocks}
 use Rattle.chain_tree.specs.Told.{Stored, blocks_of}
@@ -16,5 +15,5 @@ invariant-window g l = record {
   from : l.low ≤ l.proposer;
   within : l.low < l.proposer → l.proposer ≤ l.end;
   added : (stored : List Stored) → g.B.Blocks.told l.fn.blocks ≡ Some stored → IndexesBlocks (blocks_of stored) l.tree.entries → (id : List ℕ)
-      → contains bytes_eq l.ids id ≡ list_any (proposes_at (branch (blocks_of stored) l.parent) id) (range_with_len l.low (l.proposer - l.low));
+      → list_any (bytes_eq id) l.ids.items ≡ list_any (proposes_at (branch (blocks_of stored) l.parent) id) (range_with_len l.low (l.proposer - l.low));
 }
