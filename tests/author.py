@@ -1,6 +1,6 @@
 #!/usr/bin/env python3
 """What the documents say to an author: how a program is built, what it prints, and what usually goes wrong; a chain with
-accounts, and a page of it.
+accounts, chains and transactions as JSON, and a page.
 
     sh tests/author.sh [WORD ..]
 
@@ -375,12 +375,16 @@ def check_wrong_locks(_, folder):
     say(author_chain.check_wrong_locks(folder))
 
 
+def check_texts(_, folder):
+    say(author_chain.check_texts(folder))
+
+
 def check_pages_in_a_browser(_, folder):
     say(author_chain.check_pages_in_a_browser(folder))
 
 
 OF_C = check_pages, check_claims, check_samples, check_signature, check_accounts, check_wrong_locks
-OTHERS = check_rust, check_pages_in_a_browser
+OTHERS = check_rust, check_texts, check_pages_in_a_browser
 
 
 def main():
@@ -390,12 +394,12 @@ def main():
     else:
         say('no program in C was tried: gcc-riscv64-unknown-elf and picolibc-riscv64-unknown-elf are not there')
     # said aloud, since it may take a while
-    for name in ('ckbdev', 'ckbtrace'):
+    for name in ('ckbdev', 'ckbtrace', 'ckbjson'):
         subprocess.run([sys.executable, os.path.join(TOP, 'tools', 'build.py'), name], stdin=subprocess.DEVNULL, check=True)
     failed = 0
     with new_folder() as folder:
         machine = Machine(folder)
-        for name in ('ckbdev', 'ckbtrace', 'examples', 'bench'):
+        for name in ('ckbdev', 'ckbtrace', 'ckbjson', 'examples', 'bench'):
             os.symlink(os.path.join(TOP, name), os.path.join(folder, name))
         for check in (it for it in checks if not sys.argv[1:] or any(word in it.__name__ for word in sys.argv[1:])):
             try:

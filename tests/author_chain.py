@@ -114,6 +114,39 @@ def check_wrong_locks(folder):
     return 'a lock that is wrong in %d ways is refused as docs/RULES.md says' % len(WRONG_LOCKS)
 
 
+# ------------------------------------------------------- a chain and payments as texts
+
+# a chain whose specification and genesis were edited as JSON, and a transaction from JSON; the commands of docs/WAYS.md
+EDITED = """
+mkdir texts
+./ckbjson spec --show < examples/spec.bin | sed 's/"epoch_length":"0xa"/"epoch_length":"0x4"/; s/"maturity":"0x0"/"maturity":"1 1\\/2"/' > spec.json
+./ckbjson spec < spec.json > texts.spec
+./ckbjson block --show < examples/genesis.bin | sed 's/"0x3e8"/"0x19b76daa800"/' > genesis.json
+./ckbjson block --seal < genesis.json > texts.genesis
+cat texts.spec texts.genesis | ./ckbdev texts init
+"""
+
+
+def check_texts(folder):
+    """A specification and a genesis are edited as JSON and make a chain that is mined; a wallet's JSON is checked; a slip is named."""
+    said = ran(['sh', '-ec', EDITED], folder)
+    must(re.fullmatch('genesis 0x[0-9a-f]{64}\n', said), 'init of an edited genesis says %r' % said)
+    ran([sys.executable, 'examples/mine.py', 'texts', '14', '--timestamp', '1767225600000'], folder)
+    must(ran(['./ckbdev', 'texts', 'tip'], folder).startswith('tip 14 '), 'the edited chain is not mined')
+    must_be(ran(['./ckbdev', 'texts', 'epoch'], folder).split()[1], '3', 'the epoch of block 14, of four blocks each')
+    with open(os.path.join(TOP, 'examples', 'transfer.bin'), 'rb') as f:
+        item = f.read()
+    tree = json.loads(ran(['./ckbjson', 'transaction', '--show'], folder, item))
+    wallet = json.dumps({**tree, 'hash': '0x' + '00' * 32}, indent=2)
+    made = subprocess.run(['./ckbjson', 'transaction'], cwd=folder, input=wallet.encode(), stdout=subprocess.PIPE, check=True).stdout
+    must_be(made, item, 'a transaction of JSON')
+    slip = subprocess.run(['./ckbjson', 'transaction'], cwd=folder, input=wallet.replace('"since": "0x0"', '"since": "0"', 1).encode(),
+                          stdout=subprocess.PIPE, stderr=subprocess.PIPE).stderr.decode()
+    line = wallet[:wallet.index('"since"')].count('\n') + 1
+    must('line %d: inputs[0].since: a number is 0x and lower-case hex, without leading zeros' % line in slip, 'a slip is called %r' % slip)
+    return 'a chain is made of JSON, and so is a transaction; a slip in it is named'
+
+
 # ------------------------------------------------------------- pages in a browser
 
 # what a browser finds of a page: boxes that overlap or whose text does not fit, arrows that do not lead from the box of a

@@ -17,7 +17,7 @@ CELL_LIMIT = 300
 # a file that a document names, as `src/main.rt` or `crates.txt`
 FILE = re.compile(r'(?<![\w/.-])[\w-]+(?:[/.][\w-]+)*\.(?:rt|antt|py|sh|c|h|S|ld|elf|bin|json|toml)(?![\w/])')
 # files that the commands of the documents make, where they are run; and names that stand for others
-MADE = {'block.json', 'transfer.json', 'own.json', 'own.bin', 'store.bin', 'blocks.bin', 'exit0.elf', 'hello.elf', 'fault.elf', 'lock.elf',
+MADE = {'longer.json', 'longer.bin', 'block.json', 'transfer.json', 'own.json', 'own.bin', 'store.bin', 'blocks.bin', 'exit0.elf', 'hello.elf', 'fault.elf', 'lock.elf',
         'payment.bin'}
 EXAMPLES = {'FILE.antt', 'NAME.py', 'NAME.elf', 'NAME.c', 'SOURCE.c', 'it.py'}
 AREAS = {'log.bin', 'snap_a.bin', 'snap_b.bin'}

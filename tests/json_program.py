@@ -1,4 +1,5 @@
-"""`ckbjson` over the items of examples/: their texts beside a writer in plain Python, their hashes, words and streams."""
+"""`ckbjson` over the items of examples/: their texts beside a writer in plain Python, sealed blocks, hashes, what is said of wrong texts,
+words and streams."""
 
 import functools
 import json
@@ -8,9 +9,20 @@ import sys
 
 import block_json
 from harness import TOP, Ran, contract, first, must, must_answer, must_be, new_folder
-from encoding import ckbhash, fields_of
+from encoding import ckbhash, fields_of, table, transactions_root, uint
+import make_store
+
+sys.path.append(os.path.join(TOP, 'tests', 'rows'))
+import wrong_texts  # noqa: E402 (beside the path above)
 
 INPUT_LIMIT = 1 << 24
+# the numbers of a specification in the order of its bytes
+BY_PLACE = ('compact_target', 'epoch_length', 'w_close', 'w_far', 'max_block_bytes', 'max_proposals', 'max_cycles', 'maturity',
+            'primary_reward', 'secondary_reward', 'halving_interval')
+
+
+# the greatest numbers, which no store takes
+OTHER_SPEC = make_store.Spec(*((1 << 8 * size) - 1 for size in make_store.Spec.SIZES), bytes(range(32)))
 
 
 @functools.lru_cache(None)
@@ -37,6 +49,16 @@ def witness_tree(b):
     return {'lock': block_json.script(lock), 'message': block_json.text(message[4:])}
 
 
+def spec_tree(b):
+    """The fields of a specification, of which docs/RULES.md has the places."""
+    names, at, tree = list(wrong_texts.WANTED['spec'][1]), 4, {}
+    for name, size in zip(BY_PLACE, make_store.Spec.SIZES):
+        tree[name] = hex(int.from_bytes(b[at:at + size], 'little'))
+        at += size
+    tree['dao_code_hash'] = block_json.text(b[at:])
+    return {name: tree[name] for name in names}
+
+
 @functools.lru_cache(None)
 def items():
     """(the kind, the bytes, the tree) of each block and of its parts, each once."""
@@ -52,6 +74,8 @@ def items():
             held = fields_of(witnesses)[:1]
             if place == 0 and held and len(held[0]) > 16:
                 found['witness', held[0][4:]] = witness_tree(held[0][4:])
+    for spec in (first.SPEC, contract.SPEC, OTHER_SPEC):
+        found['spec', spec.item()] = spec_tree(spec.item())
     return [(kind, item, tree) for (kind, item), tree in found.items()]
 
 
@@ -75,7 +99,7 @@ def must_refuse(words, given, line):
 def check_json_items(_):
     """Each item is shown as its text, and read from it, also with spaces and line feeds."""
     kinds = {kind for kind, _, _ in items()}
-    must_be(kinds, {'block', 'transaction', 'script', 'witness'}, 'what the samples hold')
+    must_be(kinds, {'block', 'transaction', 'script', 'witness', 'spec'}, 'what the samples hold')
     for kind, item, tree in items():
         must_answer(Ran([converter(), kind, '--show'], item), 0, compact(tree) + b'\n', kind)
         for given in (compact(tree), json.dumps(tree, indent=1).encode()):
@@ -98,16 +122,94 @@ def check_json_refused(_):
         for other in samples:
             if other != kind:
                 must_refuse([other, '--show'], item, b'ckbjson: no bytes of a %s\n' % other.encode())
-                must_refuse([other], compact(tree), b'ckbjson: no text of a %s\n' % other.encode())
+                must_refuse([other], compact(tree), wrong_texts.said_of(other, compact(tree)).encode())
         must_refuse([kind, '--show'], item[:-1], b'ckbjson: no bytes of a %s\n' % kind.encode())
         must_refuse([kind, '--show'], b'', b'ckbjson: no bytes of a %s\n' % kind.encode())
+
+
+def check_json_wrong_texts(_):
+    """What is said of each text that is refused, beside a reader in plain Python."""
+    rows = wrong_texts.rows()
+    must(len(rows) >= 200, 'there are %d wrong texts' % len(rows))
+    for kind, given, line in rows:
+        must_refuse([kind], given, line.encode())
+    for given, line in [(text, line) for kind, text, line in rows if kind == 'block'][:10]:
+        must_refuse(['block', '--seal'], given, line.encode())
+
+
+def check_json_maturity(_):
+    """Epochs by hand: the number, the index and the length of the value, each in its bits."""
+    tree = spec_tree(first.SPEC.item())
+    for text, value in (('0', 0), ('4', 4), ('16777215', 0xffffff), ('1 1/3', 1 | 1 << 24 | 3 << 40), ('0 0/1', 1 << 40), ('4 0/1', 4 | 1 << 40),
+                        ('16777215 65534/65535', 0xffffff | 65534 << 24 | 65535 << 40), ('0x4', 4), ('0xFFFFFFFFFFFFFFFF', (1 << 64) - 1)):
+        item = first.changed(first.SPEC, maturity=value).item()
+        must_answer(Ran([converter(), 'spec'], compact({**tree, 'maturity': text})), 0, item, 'maturity ' + text)
+
+
+def sealed(block):
+    """The block with what its header commits to, by docs/RULES.md; None where a number leaves u64."""
+    header, uncles, transactions, proposals = fields_of(block)
+    hashes = [transactions_root(fields_of(transactions)), hash_of(proposals[4:]),
+              hash_of(b''.join(ckbhash(fields_of(it)[0]) for it in fields_of(uncles)))]
+    dao = header[160:192]
+    if header[16:24] == bytes(8):
+        outputs = [it for transaction in fields_of(transactions) for it in outputs_of(fields_of(transaction)[0])]
+        sums = [sum(it) for it in zip(*outputs)] or [0, 0]
+        if max(sums) >= 1 << 64:
+            return None
+        dao = uint(sums[0], 8) + dao[8:24] + uint(sums[1], 8)
+    return table([header[:64] + b''.join(hashes) + dao + header[192:], uncles, transactions, proposals])
+
+
+def hash_of(content):
+    return ckbhash(content) if content else bytes(32)
+
+
+def outputs_of(raw):
+    """(what each output holds, what it occupies)."""
+    _, _, _, _, outputs, contents = fields_of(raw)
+    for output, content in zip(fields_of(outputs), fields_of(contents)):
+        capacity, *scripts = fields_of(output)
+        size = 8 + len(content) - 4 + sum(33 + len(fields_of(it)[2]) - 4 for it in scripts if it)
+        yield int.from_bytes(capacity, 'little'), size * 10 ** 8
+
+
+def check_json_sealed(program):
+    """A block is what it was, where only what its header commits to was changed; a genesis that was changed makes a store."""
+    for block in blocks():
+        header, *rest = fields_of(block)
+        is_genesis = header[16:24] == bytes(8)
+        spoilt = header[:64] + bytes(range(96)) + (bytes(8) + header[168:184] + bytes(8) if is_genesis else header[160:192]) + header[192:]
+        tree = block_json.tree_of(table([spoilt, *rest]))
+        must_answer(Ran([converter(), 'block', '--seal'], compact(tree)), 0, block, 'a sealed block')
+        must_be(sealed(table([spoilt, *rest])), block, 'a block that is sealed in Python')
+    with_parts = wrong_texts.samples()
+    tree = next(tree for kind, tree in with_parts if kind == 'block')
+    for number in ('0x0', '0x5'):
+        it = {**tree, 'header': {**tree['header'], 'number': number}}
+        whole = Ran([converter(), 'block'], compact(it)).out
+        must_answer(Ran([converter(), 'block', '--seal'], compact(it)), 0, sealed(whole), 'an uncle and proposals, number ' + number)
+    tree = block_json.tree_of(first.GENESIS.item())
+    outputs = tree['transactions'][0]['outputs']
+    outputs[1]['capacity'] = hex(12345 * 10 ** 8)
+    tree['header']['timestamp'] = hex(5000)
+    ran = Ran([converter(), 'block', '--seal'], compact(tree))
+    must_be(ran.status, 0, 'the seal of a genesis that was changed')
+    must(ckbhash(fields_of(ran.out)[0]) != first.GENESIS.hash(), 'a genesis that was changed keeps its hash')
+    with new_folder() as folder:
+        line = b'genesis 0x%s\n' % ckbhash(fields_of(ran.out)[0]).hex().encode()
+        must_answer(Ran([program, folder, 'init'], first.SPEC.item() + ran.out), 0, line, 'init of a sealed genesis')
+    outputs[1]['capacity'] = hex((1 << 64) - 1)
+    must_refuse(['block', '--seal'], compact(tree),
+                b'ckbjson: the block is not sealed: its cells hold or occupy more than 2^64 - 1 shannons\n')
 
 
 def check_json_words_and_streams(_):
     """Words outside the grammar read and write nothing; a stream that fails has its status."""
     kind, item, tree = next(it for it in items() if it[0] == 'transaction')
     for words in ([], [''], ['Block'], ['transactions'], ['--show'], ['--show', 'block'], ['block', 'show'], ['block', '--show', ''],
-                  ['id', '--show'], ['id', 'block'], ['block', 'block']):
+                  ['id', '--show'], ['id', 'block'], ['block', 'block'], ['specification'], ['spec', '--seal'],
+                  ['transaction', '--seal'], ['--seal'], ['block', '--seal', '--show'], ['id', '--seal']):
         ran = Ran([converter(), *words], item)
         must_be((ran.status, ran.out, ran.read), (2, b'', 0), repr(words))
     must_be(Ran([converter(), 'id'], bytes(INPUT_LIMIT + 1)).status, 12, 'an input that is too long')
@@ -123,13 +225,17 @@ def check_json_document(_):
     """What docs/COMMANDS.md shows of hashes is what comes, by the script."""
     with open(os.path.join(TOP, 'docs', 'COMMANDS.md'), encoding='utf-8') as f:
         part = f.read().split('\n## JSON and bytes\n')[1].split('\n## ')[0]
-    command, *wanted = [line[4:] for line in part.splitlines() if line.startswith('    ')][3:]
+    shown = [line[4:] for line in part.splitlines() if line.startswith('    ')][4:]
+    command, wanted = shown[0], shown[1:5]
     # the script has a build to run
     converter()
     with new_folder() as away:
         for name in ('ckbjson', 'examples'):
             os.symlink(os.path.join(TOP, name), os.path.join(away, name))
         must_answer(Ran(['sh', '-c', './' + command], cwd=away), 0, ''.join(line + '\n' for line in wanted).encode(), command)
+        wrong, line = shown[5:]
+        ran = Ran(['sh', '-c', wrong.replace('ckbjson', './ckbjson')], cwd=away)
+        must_be((ran.status, ran.out, ran.err), (1, b'', line.encode() + b'\n'), wrong)
     with open(os.path.join(TOP, 'examples', 'transfer.bin'), 'rb') as f:
         must_be(lines_of_hashes('transaction', f.read()).decode().splitlines(), wanted, 'the hashes in docs/COMMANDS.md')
 

@@ -7,7 +7,7 @@ import re
 
 from harness import TOP, must
 
-PATHS_OF_THE_PROGRAM, PATHS_OF_ALL = 11_500, 63_000
+PATHS_OF_THE_PROGRAM, PATHS_OF_ALL = 11_500, 63_500
 
 
 def listed():

@@ -13,10 +13,12 @@ import time
 
 import all as figures
 import block_json
+import make_store as store
 from harness import (CONTRACT_LINE, FIRST_INIT, FIRST_LINE, SCRIPT, SECONDS, TOP, Ran, chain_of,
                      contract, first, line_of, must, must_answer, must_be, must_have_tip, new_folder, new_store,
                      started, status_of, write)
 from assembling import assembled_on, contract_chain
+from json_program import converter
 from making import contract_cell_line, live_line, mined_on_page
 from streams import BAD_WORDS
 
@@ -687,6 +689,14 @@ def blocks_of_items(chain):
         yield './ckbdev contract import < block', 0, joined
 
 
+def own_genesis():
+    """The genesis of the first chain at the start of 2026, with 1,000 CKB in place of 10,000,000."""
+    only, = first.GENESIS.transactions
+    outputs = only.outputs[0], (1000 * 10 ** 8, b'')
+    dao = sum(it[0] for it in outputs), 10 ** 16, 0, sum(store.occupied(*it[1:]) for it in outputs)
+    return first.changed(first.GENESIS, timestamp=1767225600000, dao=dao, transactions=(first.changed(only, outputs=outputs),))
+
+
 def check_readme(_):
     """What the README and the page on examples/ show is what comes."""
     readme, examples = shown_by('README.md'), shown_by('examples/README.md')
@@ -697,12 +707,13 @@ def check_readme(_):
         ('./ckbdev chain import < examples/first-blocks.bin', 1, text),
         ('./ckbdev chain tip', 0, (first.tip(tip) + '\n').encode()),
     ]
-    own = first.changed(first.GENESIS, timestamp=1767225600000)
     of_own_chain = [
-        ('./ckbdev chain json 0 | sed \'s/"timestamp":"0x3e8"/"timestamp":"0x19b76daa800"/\' > own.json', 0, b''),
-        ('./ckbdev chain unjson < own.json > own.bin', 0, b''),
-        ('cat examples/spec.bin own.bin | ./ckbdev own init', 0, (first.genesis_line(own) + '\n').encode()),
+        ('./ckbdev chain json 0 | sed \'s/"0x3e8"/"0x19b76daa800"/; s/"0x38d7ea4c68000"/"0x174876e800"/\' > own.json', 0, b''),
+        ('./ckbjson block --seal < own.json > own.bin', 0, b''),
+        ('cat examples/spec.bin own.bin | ./ckbdev own init', 0, (first.genesis_line(own_genesis()) + '\n').encode()),
         ('./ckbdev own json 1', 0, b'none\n'),
+        ('./ckbjson spec --show < examples/spec.bin | sed \'s/"maturity":"0x0"/"maturity":"1 1\\/3"/\' > longer.json', 0, b''),
+        ('./ckbjson spec < longer.json > longer.bin', 0, b''),
     ]
     of_program = [('./ckbdev chain exec 1000000 < examples/primes.elf', 0, b'exit 25 8337\n')]
     of_code = [
@@ -724,6 +735,8 @@ def check_readme(_):
         ('./ckbdev contract check < examples/transfer.bin', 0, (contract.transfer()[1] + '\n').encode()),
         ('./ckbdev contract check < examples/refused.bin', 1, (contract.refused()[1] + '\n').encode()),
     ]
+    # the script ckbjson has a build to run
+    converter()
     chain = contract_chain()
     of_assembled = [('cat examples/witness.bin examples/transfer.bin examples/refused.bin > items', 0, b''),
                     *blocks_of_items(chain), *mined_on_page(chain)]
@@ -731,7 +744,7 @@ def check_readme(_):
         for folder, page in (('chain', readme), ('own', examples), ('contract', readme)):
             must('\nmkdir %s\n' % folder in page, 'no page makes the folder %s' % folder)
             os.mkdir(os.path.join(away, folder))
-        for name in ('ckbdev', 'examples'):
+        for name in ('ckbdev', 'ckbjson', 'examples'):
             os.symlink(os.path.join(TOP, name), os.path.join(away, name))
         for page, lines in ((readme, of_chain), (examples, of_own_chain), (readme, of_contract), (examples, of_assembled),
                             (readme, of_program), (examples, of_code)):

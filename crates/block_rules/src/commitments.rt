@@ -8,22 +8,25 @@ use mol_schema::{BlockView, HeaderView, TxView};
 use outside::NoMemory;
 use std::alloc::Global;
 
+/// The hash of a transaction: of its `RawTransaction`, without witnesses (RFC 0022).
 #[tactic(auto, unfolding(chain_defs::specs::Hashes::transaction_hash))]
-fn transaction_hash(transaction: &TxView<'_>) -> [u8; 32]
+pub fn transaction_hash(transaction: &TxView<'_>) -> [u8; 32]
     ensures { result ≡ hashes.transaction_hash transaction.now }
 {
     ckbhash(transaction.raw().bytes())
 }
 
+/// Its hash with the witnesses (RFC 0027, "transactions_root").
 #[tactic(auto, unfolding(chain_defs::specs::Hashes::witness_hash))]
-fn witness_hash(transaction: &TxView<'_>) -> [u8; 32]
+pub fn witness_hash(transaction: &TxView<'_>) -> [u8; 32]
     ensures { result ≡ hashes.witness_hash transaction.now }
 {
     ckbhash(transaction.bytes())
 }
 
+/// The hash of a header, which is that of its block.
 #[tactic(auto, unfolding(chain_defs::specs::Kept::header_hash))]
-fn hash_of_header(header: &HeaderView<'_>) -> [u8; 32]
+pub fn hash_of_header(header: &HeaderView<'_>) -> [u8; 32]
     ensures { result ≡ header_hash header.now }
 {
     ckbhash(header.bytes())

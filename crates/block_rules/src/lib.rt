@@ -11,5 +11,8 @@ mod commitments;
 mod rules;
 
 pub use checked::Checked;
-pub use commitments::{proposals_hash, transaction_hashes, transactions_root, uncles_hash};
+pub use commitments::{
+    hash_of_header, proposals_hash, transaction_hash, transaction_hashes, transactions_root,
+    uncles_hash, witness_hash,
+};
 pub use rules::check;

@@ -8,6 +8,8 @@ pub(crate) enum Kind {
     Script,
     /// What the first witness of a cellbase holds.
     Witness,
+    /// The specification of a chain.
+    Specification,
 }
 
 /// What the program is asked for.
@@ -17,6 +19,8 @@ pub(crate) enum Command {
     Read(Kind),
     /// Bytes are read, and JSON is written.
     Show(Kind),
+    /// The JSON of a block is read, and the bytes of the block are written with what its header commits to.
+    Seal,
     /// Bytes are read, and hashes are printed.
     Id,
 }
@@ -28,6 +32,7 @@ pub(crate) fn name_of(kind: Kind) -> &'static str {
         Kind::Block => "block",
         Kind::Script => "script",
         Kind::Witness => "witness",
+        Kind::Specification => "spec",
     }
 }
 
@@ -37,11 +42,21 @@ fn kind_of(word: &str) -> Option<Kind> {
         "block" => Some(Kind::Block),
         "script" => Some(Kind::Script),
         "witness" => Some(Kind::Witness),
+        "spec" => Some(Kind::Specification),
         _ => None,
     }
 }
 
-/// The command that words spell: a kind, and `--show` after it where bytes are shown; or `id`.
+/// The command of a kind and an option.
+fn command_with(kind: &str, option: &str) -> Option<Command> {
+    match (kind, option) {
+        ("block", "--seal") => Some(Command::Seal),
+        (_, "--show") => Some(Command::Show(kind_of(kind)?)),
+        _ => None,
+    }
+}
+
+/// The command that words spell: a kind, and `--show` after it where bytes are shown; `block` and `--seal`; or `id`.
 pub(crate) fn command_of(words: &[String]) -> Option<Command> {
     match words {
         [word] => {
@@ -51,13 +66,7 @@ pub(crate) fn command_of(words: &[String]) -> Option<Command> {
                 Some(Command::Read(kind_of(word)?))
             }
         }
-        [kind, option] => {
-            if option.as_str() == "--show" {
-                Some(Command::Show(kind_of(kind)?))
-            } else {
-                None
-            }
-        }
+        [kind, option] => command_with(kind, option),
         _ => None,
     }
 }

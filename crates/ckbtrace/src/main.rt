@@ -10,42 +10,22 @@ ghost use Rattle.std.specs.Prelude.{◌≤◌, ◌^◌};
 
 mod jumps;
 mod page;
-mod status;
 mod text;
 mod trace;
 mod words;
 
-use outside::{Sink, Source, read_full};
+use outside::{Sink, Source};
 use outside_os::{StdinSource, StdoutSink};
 use page::{bad_elf, spent_loading};
+use program_io::{Status, read_input, words_of, write_answer};
 use program_run::{Started, start};
-use status::Status;
 use std::alloc::Global;
-use std::env;
-use std::io::ErrorKind;
 use std::process::ExitCode;
-use trace::{run_to_page, write_text};
+use trace::run_to_page;
 use words::budget_of;
 
 /// The most bytes of a file, as of `exec`.
 const FILE_LIMIT: usize = 1_048_576;
-
-/// The one word.
-fn word_of(rt: &HostRuntime) -> Result<String, Status> {
-    let mut args = match env::args(rt) {
-        Ok(args) => args,
-        Err(error) if error.kind() == ErrorKind::OutOfMemory => return Err(Status::NoMemory),
-        Err(_) => return Err(Status::BadWords),
-    };
-    let _ = args.next();
-    let Some(word) = args.next() else {
-        return Err(Status::BadWords);
-    };
-    if args.next().is_some() {
-        return Err(Status::BadWords);
-    }
-    Ok(word)
-}
 
 /// Reads a file, runs it, and writes its page.
 fn trace_input<S: Source, K: Sink>(
@@ -56,15 +36,14 @@ fn trace_input<S: Source, K: Sink>(
 ) -> Result<(), Status>
     requires { budget ≤ 2 ^ 40 }
 {
-    let mut file = vec![in alloc; 0u8; FILE_LIMIT + 1]?;
-    let Ok(end) = read_full(input, &mut file) else {
-        return Err(Status::InputFault);
-    };
-    if end > FILE_LIMIT {
-        write_text("extra 1048576\n", out)?;
-        return Err(Status::ExtraInput);
+    match read_input(alloc, FILE_LIMIT, input) {
+        Ok(file) => trace_file(alloc, budget, &file, out),
+        Err(Status::ExtraInput) => {
+            write_answer(b"extra 1048576\n", out)?;
+            Err(Status::ExtraInput)
+        }
+        Err(status) => Err(status),
     }
-    trace_file(alloc, budget, &file[..end], out)
 }
 
 /// Runs a file, and writes its page.
@@ -75,11 +54,11 @@ fn trace_file<K: Sink>(alloc: Global, budget: u64, file: &[u8], out: &mut K) -> 
         Ok(Started::Ready(machine)) => run_to_page(alloc, machine, budget, out),
         Ok(Started::Spent { cycles }) => {
             let page = spent_loading(alloc, cycles, budget)?;
-            write_text(&page, out)
+            write_answer(page.as_bytes(), out)
         }
         Ok(Started::BadElf(condition)) => {
             let page = bad_elf(alloc, condition)?;
-            write_text(&page, out)
+            write_answer(page.as_bytes(), out)
         }
         Err(_) => Err(Status::NoMemory),
     }
@@ -87,8 +66,11 @@ fn trace_file<K: Sink>(alloc: Global, budget: u64, file: &[u8], out: &mut K) -> 
 
 /// Runs over the standard streams.
 fn run(rt: HostRuntime) -> Result<(), Status> {
-    let word = word_of(&rt)?;
-    let Some(budget) = budget_of(&word) else {
+    let words = words_of(&rt)?;
+    let [word] = words.as_slice() else {
+        return Err(Status::BadWords);
+    };
+    let Some(budget) = budget_of(word) else {
         return Err(Status::BadWords);
     };
     let mut input = StdinSource::new(rt);

@@ -3,10 +3,10 @@ ghost use Rattle.std.specs.Prelude.{◌≡◌, true, Ok, None};
 
 use crate::jumps::Jumps;
 use crate::page::page_of;
-use crate::status::Status;
 use crate::text::text_line;
 use machine_defs::{Outcome, Step};
-use outside::{Sink, write_all};
+use outside::Sink;
+use program_io::{Status, write_answer};
 use std::alloc::Global;
 use vm_step::Machine;
 use vm_sys::{Alone, Sys, handle};
@@ -31,15 +31,7 @@ pub(crate) fn run_to_page<K: Sink>(
     let mut jumps = Jumps::new();
     let (outcome, pc) = run(alloc, &mut machine, &mut jumps, out)?;
     let page = page_of(alloc, &mut machine, &jumps, outcome, pc, budget)?;
-    write_text(&page, out)
-}
-
-/// Writes all of a text.
-pub(crate) fn write_text<K: Sink>(text: &str, out: &mut K) -> Result<(), Status> {
-    match write_all(out, text.as_bytes()) {
-        Ok(()) => Ok(()),
-        Err(_) => Err(Status::OutputFault),
-    }
+    write_answer(page.as_bytes(), out)
 }
 
 /// Runs a machine to its end: the outcome, and where the step was that ended it. Each step costs a cycle at least, so the
@@ -116,7 +108,7 @@ fn print<K: Sink>(alloc: Global, machine: &mut Machine, out: &mut K) -> Result<(
 {
     let address = machine.reg(A0);
     match text_line(alloc, machine.memory_mut(), address) {
-        Ok(line) => write_text(&line, out),
+        Ok(line) => write_answer(line.as_bytes(), out),
         Err(_) => Err(Status::NoMemory),
     }
 }

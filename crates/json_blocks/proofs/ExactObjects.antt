@@ -24,19 +24,19 @@ opposite : {P : Type 0} {b : Bool} → b ≡ true → b ≡ false → P
 opposite {P} {b} is is_not = is_false (sym is_not ∙ is)
 
 -- What is read so far holds of the value, and so does the rest: the bytes are those of such a value, or there is none.
-record Whole {V : Type 0} (it : shape.Shape V) (P : V → Type 0) (Q : V → Bool) (bytes : List ℕ) : Type 0 where
+pub record Whole {V : Type 0} (it : shape.Shape V) (P : V → Type 0) (Q : V → Bool) (bytes : List ℕ) : Type 0 where
   value : V
   fits : IsTrue (it.encoding value).fits
   before : P value
   after : Q value ≡ true
   bytes_are : bytes ≡ shape.encoded it value
 
-abbrev Rest : {V : Type 0} → shape.Shape V → (V → Type 0) → (V → Bool) → Option (List ℕ) → Type 0
+abbrev pub Rest : {V : Type 0} → shape.Shape V → (V → Type 0) → (V → Bool) → Option (List ℕ) → Type 0
 Rest {V} it P Q None = (v : V) → IsTrue (it.encoding v).fits → P v → Q v ≡ true → ⊥
 Rest it P Q (Some bytes) = Whole it P Q bytes
 
 -- a row, and those after it
-row-rest : {V X : Type 0} (it : shape.Shape V) (P : V → Type 0) (key : List ℕ) (of : Form X) (sx : shape.Shape X) (field : V → X) (rows : V → List Row)
+pub row-rest : {V X : Type 0} (it : shape.Shape V) (P : V → Type 0) (key : List ℕ) (of : Form X) (sx : shape.Shape X) (field : V → X) (rows : V → List Row)
     → ((v : V) → IsTrue (it.encoding v).fits → IsTrue (sx.encoding (field v)).fits)
     → (read : Data → Option (List ℕ)) → ((t : Data) → Exact of sx t (read t)) → (ms : Members) (K : Data × Members → List ℕ → Option (List ℕ))
     → ((x : X) (d : Data) (left : Members) → IsTrue (sx.encoding x).fits
@@ -67,7 +67,7 @@ row-rest {V} {X} it P key of sx field rows fit read exact (member k d left) K ne
     keyed false e = λ v f p q. is_false q
 
 -- no row is left
-end-rest : {V : Type 0} (it : shape.Shape V) (P : V → Type 0) (ms : Members) (o : Option (List ℕ)) → Rest it P (λ v. true) o
+pub end-rest : {V : Type 0} (it : shape.Shape V) (P : V → Type 0) (ms : Members) (o : Option (List ℕ)) → Rest it P (λ v. true) o
     → Rest it P (λ v. members_read [] ms) (end_at ms >>= (λ last. o))
 end-rest it P no_members o rest = rest
 end-rest it P (member k d ms) o rest = λ v f p q. is_false q
@@ -92,7 +92,7 @@ table-rest {V} it P fields is v p fit bs are = by (nat_lt (molecule.full_size bs
     by false e = λ w f q r. opposite (sym (short w q) ∙ (and_parts _ _ (sym (ap (λ (x : shape.Encoding). x.fits) (is w)) ∙ f)).0) e
 
 -- the fields make a struct
-struct-rest : {V : Type 0} (it : shape.Shape V) (P : V → Type 0) (fields : V → List shape.Encoding) → ((v : V) → it.encoding v ≡ shape.struct (fields v))
+pub struct-rest : {V : Type 0} (it : shape.Shape V) (P : V → Type 0) (fields : V → List shape.Encoding) → ((v : V) → it.encoding v ≡ shape.struct (fields v))
     → (v : V) → P v → AllFit (fields v) → (bytes : List ℕ) → bytes ≡ concat (shape.parts (fields v)) → Rest it P (λ w. true) (Some bytes)
 struct-rest it P fields is v p fit bytes are = record {
   value = v;
@@ -103,7 +103,7 @@ struct-rest it P fields is v p fit bytes are = record {
 }
 
 -- the members of an object
-object-rest : {V : Type 0} (beside_hash : Bool) (it : shape.Shape V) (Q : V → Members → Bool) (K : Members → Option (List ℕ)) → ((ms : Members) → Rest it (λ v. Unit {0}) (λ v. Q v ms) (K ms))
+pub object-rest : {V : Type 0} (beside_hash : Bool) (it : shape.Shape V) (Q : V → Members → Bool) (K : Members → Option (List ℕ)) → ((ms : Members) → Rest it (λ v. Unit {0}) (λ v. Q v ms) (K ms))
     → (t : Data) → Rest it (λ v. Unit {0}) (λ v. is_object (λ ms. Q v (left beside_hash ms)) t) (members_at beside_hash t >>= (λ ms. K ms))
 object-rest beside_hash it Q K each null = λ v f p q. is_false q
 object-rest beside_hash it Q K each (boolean b) = λ v f p q. is_false q
@@ -112,7 +112,7 @@ object-rest beside_hash it Q K each (string s) = λ v f p q. is_false q
 object-rest beside_hash it Q K each (array ds) = λ v f p q. is_false q
 object-rest beside_hash it Q K each (object ms) = each (left beside_hash ms)
 
-exact-from : {V : Type 0} (of : Form V) (it : shape.Shape V) → IsReadOnce of it → (t : Data) (o : Option (List ℕ)) → Rest it (λ v. Unit {0}) (λ v. of.reads v t) o → Exact of it t o
+pub exact-from : {V : Type 0} (of : Form V) (it : shape.Shape V) → IsReadOnce of it → (t : Data) (o : Option (List ℕ)) → Rest it (λ v. Unit {0}) (λ v. of.reads v t) o → Exact of it t o
 exact-from of it once t None none = λ w f r. none w f tt r
 exact-from of it once t (Some bytes) whole = record {
   value = whole.value;
@@ -160,10 +160,10 @@ hash-row it P key field rows fit ms K next =
 
 -- ---- the objects
 
-u32-exact : (t : Data) → Exact hex_number shape.u32 t (number_at w32 t)
+pub u32-exact : (t : Data) → Exact hex_number shape.u32 t (number_at w32 t)
 u32-exact t = number-exact w32 u32-once (omega arith) t
 
-u64-exact : (t : Data) → Exact hex_number shape.u64 t (number_at w64 t)
+pub u64-exact : (t : Data) → Exact hex_number shape.u64 t (number_at w64 t)
 u64-exact t = number-exact w64 u64-once (omega arith) t
 
 u128-exact : (t : Data) → Exact hex_number shape.u128 t (number_at w128 t)

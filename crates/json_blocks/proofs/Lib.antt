@@ -1,6 +1,6 @@
 pub mod Plain
 pub mod NumberText
-pub mod Rows
+pub mod RowTexts
 pub mod ReadBack
 pub mod ReadOnce
 pub mod TextBack

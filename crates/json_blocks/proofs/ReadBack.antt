@@ -12,7 +12,7 @@ use Rattle.json_defs.specs.Form.{Form, lower_digit, lowered, hex_text, hex_numbe
 use Rattle.json_defs.specs.Blocks as form
 use Rattle.json_defs.specs.Laws.{IsReadBack}
 
-both : (a b : Bool) → a ≡ true → b ≡ true → (a && b) ≡ true
+pub both : (a b : Bool) → a ≡ true → b ≡ true → (a && b) ≡ true
 both a b first second = ap (λ (x : Bool). x && b) first ∙ second
 
 same_text : (s : List ℕ) → bytes_eq s s ≡ true

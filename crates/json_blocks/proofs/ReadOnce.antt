@@ -123,7 +123,7 @@ u128-once v w t fits fits' first second = same_number v w t (number_fits v (256 
 abbrev IsName : List ℕ → Type 0
 IsName name = slice_index (lowered name) 0 ≡ 48 → ⊥
 
-text_of_name : (name digits : List ℕ) (t : Data) → IsName name → is_text name t ≡ true → has_digits digits t ≡ true → ⊥
+pub text_of_name : (name digits : List ℕ) (t : Data) → IsName name → is_text name t ≡ true → has_digits digits t ≡ true → ⊥
 text_of_name name digits null other first second = is_false first
 text_of_name name digits (boolean x) other first second = is_false first
 text_of_name name digits (number x) other first second = is_false first
@@ -138,7 +138,7 @@ digits_of_bytes : (b : List ℕ) (t : Data) → byte_string.reads b t ≡ true �
 unfolding byte_string
 digits_of_bytes b t read = read
 
-two_names : (name other : List ℕ) (t : Data) → is_text name t ≡ true → is_text other t ≡ true → name ≡ other
+pub two_names : (name other : List ℕ) (t : Data) → is_text name t ≡ true → is_text other t ≡ true → name ≡ other
 two_names name other null first second = is_false first
 two_names name other (boolean x) first second = is_false first
 two_names name other (number x) first second = is_false first
@@ -227,12 +227,12 @@ option-once of it once some (Some v) (Some w) t fits fits' first second = ap Som
 -- ---- objects
 
 -- both of two tests hold of the members of one object
-record Opened (P Q : Members → Bool) : Type 0 where
-  ms : Members
-  first : P ms ≡ true
-  second : Q ms ≡ true
+pub record Opened (P Q : Members → Bool) : Type 0 where
+  pub ms : Members
+  pub first : P ms ≡ true
+  pub second : Q ms ≡ true
 
-opened : (P Q : Members → Bool) (t : Data) → is_object P t ≡ true → is_object Q t ≡ true → Opened P Q
+pub opened : (P Q : Members → Bool) (t : Data) → is_object P t ≡ true → is_object Q t ≡ true → Opened P Q
 opened P Q null first second = is_false first
 opened P Q (boolean x) first second = is_false first
 opened P Q (number x) first second = is_false first
@@ -241,19 +241,19 @@ opened P Q (array ds) first second = is_false first
 opened P Q (object ms) first second = record { ms = ms; first = first; second = second }
 
 -- one tree is read by both rows, which have one key
-record Shares (r r' : Row) : Type 0 where
-  tree : Data
-  first : r.reads tree ≡ true
-  second : r'.reads tree ≡ true
-  key : r.key ≡ r'.key
+pub record Shares (r r' : Row) : Type 0 where
+  pub tree : Data
+  pub first : r.reads tree ≡ true
+  pub second : r'.reads tree ≡ true
+  pub key : r.key ≡ r'.key
 
 -- each row shares a tree with its other
-abbrev Agree : List Row → List Row → Type 0
+abbrev pub Agree : List Row → List Row → Type 0
 Agree [] rows' = Unit {0}
 Agree (r ∷ rows) [] = Unit {0}
 Agree (r ∷ rows) (r' ∷ rows') = Shares r r' × Agree rows rows'
 
-agree : (rows rows' : List Row) (ms : Members) → members_read rows ms ≡ true → members_read rows' ms ≡ true → Agree rows rows'
+pub agree : (rows rows' : List Row) (ms : Members) → members_read rows ms ≡ true → members_read rows' ms ≡ true → Agree rows rows'
 agree [] rows' ms first second = tt
 agree (r ∷ rows) [] ms first second = tt
 agree (r ∷ rows) (r' ∷ rows') no_members first second = is_false first

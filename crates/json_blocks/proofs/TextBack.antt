@@ -17,7 +17,7 @@ use Rattle.json_defs.specs.Form.{Form, items, hex_number, byte_string, named_byt
 use Rattle.json_defs.specs.Blocks as form
 
 -- the tree has no bare number, nests n deep at most, and is what its JSON reads as
-record Sound (n : ℕ) (d : Data) : Type 0 where
+pub record Sound (n : ℕ) (d : Data) : Type 0 where
   numbers : tree.HasNumbers (outline d)
   shallow : tree.depth (outline d) ≤ n
   back : of_json (outline d) ≡ Some d
@@ -25,7 +25,7 @@ record Sound (n : ℕ) (d : Data) : Type 0 where
 max_within : (a b n : ℕ) → a ≤ n → b ≤ n → max a b ≤ n
 max_within a b n first second = omega arith
 
-deeper : (m n : ℕ) {d : Data} → m ≤ n → Sound m d → Sound n d
+pub deeper : (m n : ℕ) {d : Data} → m ≤ n → Sound m d → Sound n d
 deeper m n more sound = record { numbers = sound.numbers; shallow = (let h = sound.shallow in omega arith); back = sound.back }
 
 text-sound : (n : ℕ) (s : List ℕ) → Sound n (string s)
@@ -34,11 +34,11 @@ text-sound n s = record { numbers = tt; shallow = omega arith; back = refl }
 null-sound : (n : ℕ) → Sound n null
 null-sound n = record { numbers = tt; shallow = omega arith; back = refl }
 
-number-sound : (n x : ℕ) → Sound n (hex_number.tree x)
+pub number-sound : (n x : ℕ) → Sound n (hex_number.tree x)
 unfolding hex_number
 number-sound n x = text-sound n _
 
-bytes-sound : (n : ℕ) (b : List ℕ) → Sound n (byte_string.tree b)
+pub bytes-sound : (n : ℕ) (b : List ℕ) → Sound n (byte_string.tree b)
 unfolding byte_string
 bytes-sound n b = text-sound n _
 
@@ -78,22 +78,22 @@ list-sound n of each vs =
 -- ---- objects, member by member
 
 -- the members put after those found
-record MembersSound (n : ℕ) (found ms whole : Members) : Type 0 where
+pub record MembersSound (n : ℕ) (found ms whole : Members) : Type 0 where
   numbers : tree.MembersHaveNumbers (members_outline ms)
   shallow : tree.members_depth (members_outline ms) ≤ n
   back : of_members (members_outline ms) found ≡ Some whole
 
-no_member-sound : (n : ℕ) (found : Members) → MembersSound n found no_members found
+pub no_member-sound : (n : ℕ) (found : Members) → MembersSound n found no_members found
 no_member-sound n found = record { numbers = tt; shallow = omega arith; back = refl }
 
-member-sound : {n : ℕ} {ms whole : Members} (found : Members) (k : List ℕ) (d : Data) → Sound n d → MembersSound n (put k d found) ms whole → MembersSound n found (member k d ms) whole
+pub member-sound : {n : ℕ} {ms whole : Members} (found : Members) (k : List ℕ) (d : Data) → Sound n d → MembersSound n (put k d found) ms whole → MembersSound n found (member k d ms) whole
 member-sound {n} {ms} {whole} found k d here behind = record {
   numbers = (here.numbers, behind.numbers);
   shallow = max_within _ _ n here.shallow behind.shallow;
   back = ap (λ (o : Option Data). option_and_then (λ e. of_members (members_outline ms) (put k e found)) o) here.back ∙ behind.back;
 }
 
-object-sound : {n : ℕ} (ms : Members) → MembersSound n no_members ms ms → Sound (suc n) (object ms)
+pub object-sound : {n : ℕ} (ms : Members) → MembersSound n no_members ms ms → Sound (suc n) (object ms)
 object-sound {n} ms all = record { numbers = all.numbers; shallow = (let h = all.shallow in omega arith); back = ap (option_map object) all.back }
 
 script-sound : (s : schema.Script) → Sound 1 (form.script.tree s)
@@ -199,7 +199,7 @@ block-sound b =
     (no_member-sound 5 _)))))
 
 -- the text of a sound tree reads as it
-text-back : (d : Data) → Sound 127 d → read (compact_text d) ≡ Some d
+pub text-back : (d : Data) → Sound 127 d → read (compact_text d) ≡ Some d
 text-back d sound =
     let tokens_back : tokens (print (tree.json_tokens (outline d))) ≡ tree.json_tokens (outline d) =
     tokens-print (tree.json_tokens (outline d)) (ArePrintable-json_tokens (outline d) sound.numbers) in

@@ -14,7 +14,7 @@ use Rattle.chain_defs.specs.Schema as schema
 use Rattle.json_defs.specs.Form.{Form, items, hex_number, byte_string, named_byte, list, option}
 use Rattle.json_defs.specs.Blocks as form
 
-IsText : Data → Type 0
+pub IsText : Data → Type 0
 IsText d = IsUtf8 (compact_text d)
 
 -- ---- digits
@@ -55,11 +55,11 @@ plain-text : (s : List ℕ) → are_ascii s ≡ true → IsText (string s)
 unfolding IsText
 plain-text s all = IsUtf8-quoted s (IsUtf8-are_ascii s all)
 
-number-utf8 : (n : ℕ) → IsText (hex_number.tree n)
+pub number-utf8 : (n : ℕ) → IsText (hex_number.tree n)
 unfolding hex_number
 number-utf8 n = plain-text _ (digits-ascii n)
 
-bytes-utf8 : (b : List ℕ) → IsText (byte_string.tree b)
+pub bytes-utf8 : (b : List ℕ) → IsText (byte_string.tree b)
 unfolding byte_string
 bytes-utf8 b = plain-text _ (encode_lower-ascii b)
 
@@ -88,13 +88,13 @@ unfolding IsText
 list-utf8 of each vs = IsUtf8-append (91 ∷ []) _ (IsUtf8-are_ascii (91 ∷ []) refl) (items-utf8 of.tree each false vs)
 
 -- members, with the end of their object
-record AreTexts (ms : Members) : Type 0 where
+pub record AreTexts (ms : Members) : Type 0 where
   text : (later : Bool) → IsUtf8 (members_text later ms)
 
-no_member-utf8 : AreTexts no_members
+pub no_member-utf8 : AreTexts no_members
 no_member-utf8 = record { text = λ later. IsUtf8-are_ascii (125 ∷ []) refl }
 
-member-utf8 : {ms : Members} (k : List ℕ) (d : Data) → are_ascii k ≡ true → IsText d → AreTexts ms → AreTexts (member k d ms)
+pub member-utf8 : {ms : Members} (k : List ℕ) (d : Data) → are_ascii k ≡ true → IsText d → AreTexts ms → AreTexts (member k d ms)
 unfolding IsText
 member-utf8 {ms} k d all here others =
     let value : IsUtf8 (compact_text d ++ members_text true ms) = IsUtf8-append (compact_text d) (members_text true ms) here (others.text true) in
@@ -105,7 +105,7 @@ member-utf8 {ms} k d all here others =
           (IsUtf8-append (quoted k) (58 ∷ (compact_text d ++ members_text true ms)) (IsUtf8-quoted k (IsUtf8-are_ascii k all)) colon);
     }
 
-object-utf8 : {ms : Members} → AreTexts ms → IsText (object ms)
+pub object-utf8 : {ms : Members} → AreTexts ms → IsText (object ms)
 unfolding IsText
 object-utf8 {ms} all = IsUtf8-append (123 ∷ []) (members_text false ms) (IsUtf8-are_ascii (123 ∷ []) refl) (all.text false)
 
@@ -214,6 +214,10 @@ block-utf8 v =
     (member-utf8 (codes "transactions") _ refl (list-utf8 form.transaction transaction-utf8 v.transactions)
     (member-utf8 (codes "uncles") _ refl (list-utf8 form.uncle uncle-utf8 v.uncles)
     no_member-utf8))))
+
+pub is_utf8 : (d : Data) → IsText d → IsUtf8 (compact_text d)
+unfolding IsText
+is_utf8 d text = text
 
 pub block-is_utf8 : (v : schema.Block) → IsUtf8 (compact_text (form.block.tree v))
 unfolding IsText

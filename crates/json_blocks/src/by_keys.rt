@@ -15,7 +15,7 @@ use std::alloc::Global;
 /// The members of an object, read by their keys, one after another, and the fields that they are read as. What stops the
 /// reading first is kept: what is read after it has no meaning, and nothing is made of it.
 #[derive(Drop)]
-pub(crate) struct Rows<'a> {
+pub struct Rows<'a> {
     alloc: Global,
     members: Members<'a>,
     /// Whether members of the key `hash` are passed over.
@@ -57,11 +57,7 @@ fn ended(
 
 impl<'a> Rows<'a> {
     /// The members of an object: all of them, or all but those of the key `hash`.
-    pub(crate) fn of(
-        alloc: Global,
-        value: &'a Value,
-        beside_hash: bool,
-    ) -> Result<Rows<'a>, JsonStop>
+    pub fn of(alloc: Global, value: &'a Value, beside_hash: bool) -> Result<Rows<'a>, JsonStop>
         ensures left { Gives (λ r. left r.beside_hash (members_view r.members)) result (members_at beside_hash (view value.now)) }
         ensures goes_on { IfOk result (λ r. r.stop ≡ None) }
         ensures none_yet { IfOk result (λ r. map (λ f. f.items) r.fields.items ≡ []) }
@@ -90,7 +86,7 @@ impl<'a> Rows<'a> {
     }
 
     /// Reads the next member's value, where it has this key.
-    pub(crate) fn read<I: Item>(&mut self, key: &str)
+    pub fn read<I: Item>(&mut self, key: &str)
         ensures { Reads self.old.stop (left self.old.beside_hash (members_view self.old.members)) (map (λ f. f.items) self.old.fields.items)
             self.new.stop (left self.new.beside_hash (members_view self.new.members)) (map (λ f. f.items) self.new.fields.items)
             (value_at key.now I.Item.reads_as) }
@@ -121,7 +117,7 @@ impl<'a> Rows<'a> {
     }
 
     /// The struct of the fields at these places, where no member is left. A place counts the rows that were read before it.
-    pub(crate) fn joined(mut self, places: &[usize]) -> Result<Vec<u8>, JsonStop>
+    pub fn joined(mut self, places: &[usize]) -> Result<Vec<u8>, JsonStop>
         ensures { Ends self.entry.stop (left self.entry.beside_hash (members_view self.entry.members)) (map (λ f. f.items) self.entry.fields.items) (struct_of places.now) (Gives (λ b. b.items) result) }
     {
         match ended(self.stop, self.beside_hash, &mut self.members) {

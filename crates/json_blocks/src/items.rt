@@ -8,7 +8,7 @@ use serde_json::Value;
 use std::alloc::Global;
 
 /// A number below 2^32.
-pub(crate) struct U32;
+pub struct U32;
 
 impl Item for U32 {
     ghost use Rattle.std.specs.Int.{w32};
@@ -27,7 +27,7 @@ impl Item for U32 {
 }
 
 /// A number below 2^64.
-pub(crate) struct U64;
+pub struct U64;
 
 impl Item for U64 {
     ghost use Rattle.std.specs.Int.{w64};
@@ -62,7 +62,7 @@ impl Item for U128 {
 }
 
 /// A hash.
-pub(crate) struct Hash;
+pub struct Hash;
 
 impl Item for Hash {
     ghost use Rattle.json_blocks.specs.Reading.{array_at};

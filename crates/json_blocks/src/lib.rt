@@ -26,7 +26,13 @@ mod stop;
 mod text;
 mod write;
 
+pub use by_keys::Rows;
+pub use items::{Hash, U32, U64};
 pub use laws::{form_laws, item_laws, reading_laws};
-pub use read::{cellbase_witness_from_json, from_json, script_from_json, transaction_from_json};
+pub use lists::Item;
+pub use read::{
+    cellbase_witness_from_json, from_json, read_text, script_from_json, transaction_from_json,
+};
 pub use stop::JsonStop;
+pub use text::Text;
 pub use write::{cellbase_witness_to_json, script_to_json, to_json, transaction_to_json};

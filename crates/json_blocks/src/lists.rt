@@ -10,7 +10,7 @@ use std::alloc::Global;
 use std::marker::PhantomData;
 
 /// What stands in a place of a block: a member's value, or an item of a list.
-pub(crate) trait Item {
+pub trait Item {
     ghost use Rattle.std.specs.Prelude.{ℕ, List, Option};
     ghost use Rattle.serde_json.specs.Data.{Data};
     ghost use Rattle.serde_json.specs.View.{view};

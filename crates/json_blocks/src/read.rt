@@ -34,7 +34,7 @@ fn tree_of(alloc: Global, text: &[u8]) -> Result<Value, JsonStop>
 }
 
 /// The encoding of the item that a text is read as.
-fn read_text<I: Item>(alloc: Global, text: &[u8]) -> Result<Vec<u8>, JsonStop>
+pub fn read_text<I: Item>(alloc: Global, text: &[u8]) -> Result<Vec<u8>, JsonStop>
     ensures { GivesOfText I.Item.reads_as text.now result }
 {
     match tree_of(alloc, text) {

@@ -39,14 +39,14 @@ pub(crate) trait Items<V> {
 
 /// A text that grows. Once memory has run out, nothing more is put, and there is no text at the end.
 #[derive(Drop)]
-pub(crate) struct Text {
+pub struct Text {
     bytes: Vec<u8>,
     short: bool,
 }
 
 impl Text {
     /// An empty text, with room for so many bytes.
-    pub(crate) fn with_capacity(alloc: Global, capacity: usize) -> Result<Text, NoMemory>
+    pub fn with_capacity(alloc: Global, capacity: usize) -> Result<Text, NoMemory>
         ensures empty { IfOk result (λ text. text.bytes.items ≡ []) }
     {
         Ok(Text {
@@ -56,7 +56,7 @@ impl Text {
     }
 
     /// The whole text.
-    pub(crate) fn done(self) -> Result<Vec<u8>, NoMemory>
+    pub fn done(self) -> Result<Vec<u8>, NoMemory>
         ensures whole { IfOk result (λ bytes. bytes.items ≡ self.bytes.items) }
         ensures enough { IfOk result (λ _. self.short ≡ false) }
     {
@@ -68,7 +68,7 @@ impl Text {
     }
 
     /// Puts bytes as they are.
-    pub(crate) fn put(&mut self, bytes: &[u8])
+    pub fn put(&mut self, bytes: &[u8])
         ensures { Puts self.old self.new bytes.now }
     {
         if self.short {
@@ -134,7 +134,7 @@ impl Text {
     }
 
     /// Puts a member that is a number.
-    pub(crate) fn number_row(&mut self, mark: u8, key: &str, n: u128)
+    pub fn number_row(&mut self, mark: u8, key: &str, n: u128)
         requires { IsPlain key.now }
         ensures { PutsRow self.old self.new mark key.now (hex_number.tree n) }
     {
@@ -143,7 +143,7 @@ impl Text {
     }
 
     /// Puts a member that is a byte string.
-    pub(crate) fn bytes_row(&mut self, mark: u8, key: &str, bytes: &[u8])
+    pub fn bytes_row(&mut self, mark: u8, key: &str, bytes: &[u8])
         requires { IsPlain key.now }
         ensures { PutsRow self.old self.new mark key.now (byte_string.tree bytes.now) }
     {

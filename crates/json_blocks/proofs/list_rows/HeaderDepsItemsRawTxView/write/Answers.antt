@@ -1,7 +1,7 @@
 use Rattle.std.proofs.Common.{arith}
 use Rattle.std.proofs.lemmas.List.{length-map}
 use Rattle.json_defs.specs.Form.{byte_string}
-use Rattle.json_blocks.proofs.Rows.{item_put}
+use Rattle.json_blocks.proofs.RowTexts.{item_put}
 use Rattle.json_blocks.proofs.list_rows.HeaderDepsItemsRawTxView.write.Goals as goal
 
 pub header_deps_item-requires : goal.header_deps_item-requires

@@ -1,7 +1,7 @@
 use Rattle.std.proofs.Common.{arith}
 use Rattle.std.proofs.lemmas.List.{length-map}
 use Rattle.json_defs.specs.Blocks as form
-use Rattle.json_blocks.proofs.Rows.{item_put}
+use Rattle.json_blocks.proofs.RowTexts.{item_put}
 use Rattle.json_blocks.proofs.list_rows.OutputsItemsRawTxView.write.Goals as goal
 
 pub outputs_item-requires : goal.outputs_item-requires

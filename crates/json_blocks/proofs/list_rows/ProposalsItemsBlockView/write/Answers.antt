@@ -1,7 +1,7 @@
 use Rattle.std.proofs.Common.{arith}
 use Rattle.std.proofs.lemmas.List.{length-map}
 use Rattle.json_defs.specs.Form.{byte_string}
-use Rattle.json_blocks.proofs.Rows.{item_put}
+use Rattle.json_blocks.proofs.RowTexts.{item_put}
 use Rattle.json_blocks.proofs.list_rows.ProposalsItemsBlockView.write.Goals as goal
 
 pub proposals_item-requires : goal.proposals_item-requires

@@ -2,7 +2,7 @@ use Rattle.std.proofs.Common.{ap}
 use Rattle.json_defs.specs.Form.{byte_string}
 use Rattle.json_defs.specs.Blocks.{uncle}
 use Rattle.json_defs.specs.Blocks as form
-use Rattle.json_blocks.proofs.Rows.{first_row, next_row, no_row, same_row, listed}
+use Rattle.json_blocks.proofs.RowTexts.{first_row, next_row, no_row, same_row, listed}
 use Rattle.json_blocks.proofs.objects.UncleViewWritten.write.Goals as goal
 
 pub returns : goal.returns

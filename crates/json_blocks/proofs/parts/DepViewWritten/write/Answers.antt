@@ -3,7 +3,7 @@ use Rattle.std.proofs.Common.{ap}
 use Rattle.json_defs.specs.Form.{named_byte}
 use Rattle.json_defs.specs.Blocks.{cell_dep}
 use Rattle.json_defs.specs.Blocks as form
-use Rattle.json_blocks.proofs.Rows.{first_row, next_row, no_row, same_row}
+use Rattle.json_blocks.proofs.RowTexts.{first_row, next_row, no_row, same_row}
 use Rattle.json_blocks.proofs.parts.DepViewWritten.write.Goals as goal
 
 pub returns : goal.returns

@@ -2,7 +2,7 @@ use Rattle.std.proofs.Common.{ap}
 use Rattle.json_defs.specs.Form.{hex_number}
 use Rattle.json_defs.specs.Blocks.{cell_input}
 use Rattle.json_defs.specs.Blocks as form
-use Rattle.json_blocks.proofs.Rows.{first_row, next_row, no_row, same_row}
+use Rattle.json_blocks.proofs.RowTexts.{first_row, next_row, no_row, same_row}
 use Rattle.json_blocks.proofs.parts.InputViewWritten.write.Goals as goal
 
 pub returns : goal.returns

@@ -1,7 +1,7 @@
 use Rattle.std.proofs.Common.{ap}
 use Rattle.json_defs.specs.Form.{byte_string, hex_number}
 use Rattle.json_defs.specs.Blocks.{out_point}
-use Rattle.json_blocks.proofs.Rows.{first_row, next_row, no_row, same_row}
+use Rattle.json_blocks.proofs.RowTexts.{first_row, next_row, no_row, same_row}
 use Rattle.json_blocks.proofs.parts.OutPointViewWritten.write.Goals as goal
 
 pub returns : goal.returns

@@ -2,7 +2,7 @@ use Rattle.std.specs.Prelude.{codes}
 use Rattle.std.proofs.Common.{ap}
 use Rattle.json_defs.specs.Form.{byte_string, named_byte}
 use Rattle.json_defs.specs.Blocks.{script}
-use Rattle.json_blocks.proofs.Rows.{first_row, next_row, no_row, same_row}
+use Rattle.json_blocks.proofs.RowTexts.{first_row, next_row, no_row, same_row}
 use Rattle.json_blocks.proofs.parts.ScriptViewWritten.write.Goals as goal
 
 pub returns : goal.returns

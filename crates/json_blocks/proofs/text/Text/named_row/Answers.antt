@@ -1,4 +1,4 @@
-use Rattle.json_blocks.proofs.Rows.{keyed}
+use Rattle.json_blocks.proofs.RowTexts.{keyed}
 use Rattle.json_blocks.proofs.text.Text.named_row.Goals as goal
 
 pub returns : goal.returns

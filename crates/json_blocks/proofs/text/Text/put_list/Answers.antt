@@ -1,6 +1,6 @@
 use Rattle.std.proofs.Common.{arith}
 use Rattle.std.specs.Prelude.{nat_lt}
-use Rattle.json_blocks.proofs.Rows.{list_begins, list_goes_on, list_ends, item_at}
+use Rattle.json_blocks.proofs.RowTexts.{list_begins, list_goes_on, list_ends, item_at}
 use Rattle.json_blocks.proofs.text.Text.put_list.Goals as goal
 
 pub items-init : goal.items-init

@@ -1,6 +1,6 @@
 use Rattle.std.proofs.Common.{drop}
 use Rattle.std.specs.Prelude.{nat_lt}
-use Rattle.json_blocks.proofs.Rows.{Lists}
+use Rattle.json_blocks.proofs.RowTexts.{Lists}
 use Rattle.json_blocks.proofs.text.Text.put_list.Given as goal
 
 -- what is put, and the text of the items that are left

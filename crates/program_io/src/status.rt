@@ -1,21 +1,31 @@
-// How a run of the program ends, in the numbers of `ckbdev`.
+// How a run ends, in the numbers of `ckbdev`.
+ghost use Rattle.std.specs.Prelude.{◌≡◌};
+ghost use Rattle.program_io.specs.declared.status.Status.TheVariants.{NoMemory as no_memory};
+
 use std::alloc::{AllocError, AllocFailed};
 
-#[derive(Clone, Copy)]
-pub(crate) enum Status {
+/// How a run of a program ended.
+#[derive(Clone, Copy, Debug, PartialEq, Eq)]
+pub enum Status {
     /// What was asked for is written.
     Done,
     /// The input is none of what was named.
     Refused,
+    /// The words are not in the grammar.
     BadWords,
+    /// Reading the input failed.
     InputFault,
+    /// Writing the output failed.
     OutputFault,
+    /// Memory ran out.
     NoMemory,
+    /// The input is longer than it may be.
     ExtraInput,
 }
 
 impl Status {
-    pub(crate) fn number(self) -> u8 {
+    /// The exit status of the program.
+    pub fn number(self) -> u8 {
         match self {
             Status::Done => 0,
             Status::Refused => 1,
@@ -29,12 +39,16 @@ impl Status {
 }
 
 impl From<AllocError> for Status {
+    ghost from_gives = { λ _ status. status ≡ no_memory };
+
     fn from(_: AllocError) -> Self {
         Status::NoMemory
     }
 }
 
 impl<T: Drop> From<AllocFailed<T>> for Status {
+    ghost from_gives = { λ _ status. status ≡ no_memory };
+
     fn from(_: AllocFailed<T>) -> Self {
         Status::NoMemory
     }

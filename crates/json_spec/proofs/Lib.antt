@@ -1,0 +1,5 @@
+pub mod Spans
+pub mod Walks
+pub mod Epochs
+pub mod Objects
+pub mod BytesLaw
