@@ -1,7 +1,8 @@
 -- What the transactions of a block so far have in its ext and among its rules.
-use Rattle.std.proofs.Common.{◌≡◌, ℕ, ◌+◌, ◌-◌, ◌≤◌, ◌<◌, ℤ, pos, ◌+ℤ◌, Bool, true, false, ◌&&◌, List, [], ◌∷◌, ◌++◌, length, take, drop, Option, Some, refl, sym, ap, ◌∙◌, arith}
+use Rattle.std.proofs.Common.{◌≡◌, ℕ, ◌+◌, ◌-◌, ◌≤◌, ◌<◌, ℤ, pos, ◌+ℤ◌, Bool, true, false, ◌&&◌, List, [], ◌∷◌, ◌++◌, length, take, drop, Vec, Global, Option, Some, Result, Ok, Err, refl, sym, ap, ◌∙◌, arith}
 use Rattle.std.specs.Prelude.{slice_get, is_some, nat_lt, nat_le, ◌^◌, map, IsOkAnd, IsTrue}
-use Rattle.std.specs.List.{list_any, filter}
+use Rattle.std.specs.List.{All, list_any, filter}
+use Rattle.std.proofs.lemmas.List.Elements.{All-nil, All-same}
 use Rattle.std.proofs.lemmas.Int.{ints}
 use Rattle.std.specs.Str.{bytes_eq}
 use Rattle.chain_defs.specs.Schema.{OutPoint, Transaction, Block}
@@ -12,7 +13,8 @@ use Rattle.chain_defs.specs.Branch.{branch}
 use Rattle.chain_defs.specs.Hashes.{transaction_hash}
 use Rattle.chain_tree.specs.Told.{Stored, blocks_of}
 use Rattle.tx_rules.specs.At.{AtValue, IsSiteOf}
-use Rattle.tx_rules.specs.Copying.{row_in}
+use Rattle.cell_model.specs.declared.cells.Resolved.{Resolved}
+use Rattle.tx_rules.specs.Copying.{ServesAgain, row_in}
 use Rattle.cell_defs.specs.Row.{Row}
 use Rattle.cell_defs.specs.Ext.{Ext}
 use Rattle.rule_defs.specs.Site.{Site, site_at}
@@ -24,7 +26,7 @@ use Rattle.verdict_defs.specs.Scene.{scene_of}
 use Rattle.verdict_defs.specs.ScriptRules.{cycles_of, script_rules}
 use Rattle.verdict_defs.specs.Transactions.{transaction_rules, rules_from, rules_of_transactions}
 use Rattle.verdict_defs.specs.Ext.{rows_spent, spent_from, ext_of}
-use Rattle.verdict_defs.specs.Judged.{judged, judged_where, judged_transactions, passed_at, transactions_passed}
+use Rattle.verdict_defs.specs.Judged.{Passed, judged, judged_where, judged_transactions, passed_at, transactions_passed}
 use Rattle.verdict_defs.proofs.JudgedLemmas.{judged-passes-by, passes-by, passes-with}
 use Rattle.block_judge.specs.declared.stop.JudgeStop.{JudgeStop}
 use Rattle.block_judge.specs.declared.transactions.PassedTransaction.{PassedTransaction}
@@ -67,6 +69,18 @@ is-taken stored at rows site left t proposed passed e old new placed is last pas
       interest_is = taken.interest_is ∙ ap (λ (z : ℤ). old.interest +ℤ z) by.1.interest_is;
       freed_is = taken.freed_is ∙ ap (λ (n : ℕ). old.freed + n) by.1.freed_is;
     })
+
+-- the copies of deps that are kept beside it are no part of it
+pub adds-beside : {C : Type 0} (kept : List Block) (parent : ℕ) (site : Site) (comes : Result Passed ℕ) (old new : Progress C) (before after : Vec Resolved Global)
+    → IsOkAnd comes (λ is. AddsJudged kept parent site is (record old { deps = before }) new)
+    → IsOkAnd comes (λ is. AddsJudged kept parent site is old (record new { deps = after }))
+adds-beside kept parent site (Ok is) old new before after adds =
+    record { left_is = adds.left_is; fees_are = adds.fees_are; rows_are = adds.rows_are; interest_is = adds.interest_is; freed_is = adds.freed_is }
+adds-beside kept parent site (Err rule) old new before after adds = absurd adds
+
+-- no copies serve again
+pub none-serve : (told : Option (List Stored)) (at : AtValue) (copies : List Resolved) → copies ≡ [] → All (ServesAgain told at) copies
+none-serve told at copies none = All-same (ServesAgain told at) copies [] none (All-nil (ServesAgain told at))
 
 -- the cycles of a block are few
 pub few-cycles : (cycles : ℕ) → IsTrue (keeps_s5 cycles) → cycles ≤ 2 ^ 40

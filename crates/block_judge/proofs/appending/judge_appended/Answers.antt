@@ -10,6 +10,7 @@ use Rattle.block_judge.specs.Answers.{Answers, IsPassed}
 use Rattle.block_judge.specs.Appending.{next_site}
 use Rattle.block_judge.specs.Inputs.{AreInputsOf}
 use Rattle.block_judge.proofs.SiteLemmas.{site-next}
+use Rattle.block_judge.proofs.NextLemmas.{none-serve}
 use Rattle.block_judge.proofs.appending.judge_appended.Goals as goal
 
 pub returns : goal.returns
@@ -30,3 +31,6 @@ returns g c =
           (c.judge_transaction.ensures.exact stored site tells
           (site-next stored at c.args.so_far.now.timestamp c.args.so_far.now.transactions.now (g.C.Cells.rows c.args.context.now.cells.now) (g.S.Cells.rows c.args.so_far.now.cells.now) (ap Some c.so_far.ensures) sees.stands sees.rows_are));
     }
+
+pub judge_transaction-requires-clause-before : goal.judge_transaction-requires-clause-before
+judge_transaction-requires-clause-before g c = none-serve _ _ c.new.result.items c.new.ensures.items

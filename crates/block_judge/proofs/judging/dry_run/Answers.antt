@@ -11,6 +11,7 @@ use Rattle.block_judge.specs.Answers.{IsPassed, StopsAs}
 use Rattle.block_judge.proofs.AnswerLemmas.{pays-and-takes}
 use Rattle.block_judge.proofs.Exits.{as_step, no_error}
 use Rattle.block_judge.proofs.SiteLemmas.{site-alone}
+use Rattle.block_judge.proofs.NextLemmas.{none-serve}
 use Rattle.block_judge.proofs.judging.dry_run.Goals as goal
 
 pub returns-in-Err : goal.returns-in-Err
@@ -41,3 +42,6 @@ returns-in-Ok g c =
           (judged-unasked site _ c.args.tx.now ∙ ap (λ (s : Specification). judged_alone site s.max_cycles c.args.tx.now) c.spec.view_is)
           (c.in-Ok.ensures.exact stored site tells (site-alone stored at (g.C.Cells.rows c.args.context.now.cells.now) refl stands)));
     }
+
+pub judge_transaction-requires-clause-before : goal.judge_transaction-requires-clause-before
+judge_transaction-requires-clause-before g c = none-serve _ _ c.new.result.items c.new.ensures.items
