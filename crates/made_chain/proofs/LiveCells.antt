@@ -1,6 +1,5 @@
 -- The live cells as a list: one for each out-point with a cell, and so as many as there are rows.
-use Rattle.std.proofs.Common.{◌≡◌, ℕ, zero, suc, ◌≤◌, ◌⊎◌, inl, inr, ⊎_elim, Bool, true, false, List, [], ◌∷◌, length, map, Option, Some, None, is_some, IsSome, slice_get, refl, sym, ap, ◌∙◌, subst, arith}
-use Rattle.std.specs.Prelude.{if◌then◌else◌}
+use Rattle.std.proofs.Common.{◌≡◌, ℕ, zero, suc, ◌≤◌, ◌⊎◌, inl, inr, Bool, true, false, List, [], ◌∷◌, length, map, Option, Some, None, is_some, IsSome, slice_get, refl, sym, ap, ◌∙◌, arith}
 use Rattle.std.specs.Option.{option_map}
 use Rattle.std.specs.List.{AllByRecursion, Contains, IsDistinct, list_any}
 use Rattle.std.specs.Map.{lookup, keys_of}
@@ -17,7 +16,7 @@ use Rattle.std.proofs.lemmas.Map.Steps.{length-le_from_keys}
 use Rattle.std.proofs.lemmas.Option.{slice_get-map, slice_get-get_or, slice_get_within, get_or_from_slice_get}
 use Rattle.chain_defs.specs.Schema.{OutPoint}
 use Rattle.cell_defs.specs.Cell.{Cell}
-use Rattle.cell_defs.specs.Events.{Event, Makes, Spends, same_out_point, last_naming, cell_left, cell_after}
+use Rattle.cell_defs.specs.Events.{Event, same_out_point, cell_after}
 use Rattle.cell_defs.specs.LiveCells.{live_cells}
 use Rattle.cell_defs.proofs.LiveLaws.{lists-just-the-live, lists-each-once}
 use Rattle.cell_defs.specs.Row.{Row, out_point_cmp, IsRising, ListsRows}

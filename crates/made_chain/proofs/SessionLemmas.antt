@@ -68,16 +68,16 @@ one_counted DiskFault ends old between new counts others =
 one_counted NoMemory ends old between new counts others =
     subst (λ n. up_to_last (n + fault_ends ends) ≤ new) (counts.unchanged (λ same. absurd (cc))) others
 
-module _ {D : Type 0} (reads_as : D → Option Image) (images : D → Image → Type 0) (faults : D → ℕ) (armed : D → Option ℕ) where
+module _ {D C : Type 0} (content_of : D → C) (reads_as : D → Option Image) (images : D → Image → Type 0) (faults : D → ℕ) (armed : D → Option ℕ) where
   abbrev Is : Session → ℕ → End → D → D → ℕ → ℕ → Type 0
-  Is = IsSession reads_as images faults armed
+  Is = IsSession content_of reads_as images faults armed
 
   abbrev Are : List Session → List Outcome → D → D → ℕ → ℕ → Type 0
-  Are = AreSessions reads_as images faults armed
+  Are = AreSessions content_of reads_as images faults armed
 
   -- a session by its three calls
   pub session_made : (session : Session) (items : List (Vec ℕ Global)) (acked : ℕ) (end : End) (old ready mid new : D) (before after : ℕ) → items ≡ session.items.items
-      → reads_as ready ≡ reads_as old → SameImages (images old) (images ready) → faults ready ≡ faults old
+      → content_of ready ≡ content_of old → armed ready ≡ session.pass → reads_as ready ≡ reads_as old → SameImages (images old) (images ready) → faults ready ≡ faults old
       → IsSome (reads_as mid)
       → ((chain : Chain) → IsOnlyImage chain (reads_as ready) (images ready) → (image : Image) → images mid image → KeepsPrefix chain (items_in items) acked image)
       → IsEndOf (length items) acked end → CountsFault (faults ready) (faults mid) (end ≡ DiskFault)
@@ -85,7 +85,17 @@ module _ {D : Type 0} (reads_as : D → Option Image) (images : D → Image → 
       → IfSome (reads_as new) (images mid) → HasOneImage (reads_as new) (images new) → IsKnownAsBefore (reads_as mid) (reads_as new) → armed new ≡ None
       → faults new ≡ faults mid → Is session acked end old new before after
   unfolding only_armed
-  session_made session items acked end old ready mid new before after same reads rest unarmed told keeps ended counts most among one tells disarmed uncounted = record {
+  session_made session items acked end old ready mid new before after same content ready_for reads rest unarmed told keeps ended counts most among one tells disarmed uncounted = record {
+    stopped = record {
+      ready = ready;
+      arming = record { content = content; armed_for = ready_for; uncounted = unarmed };
+      exit = mid;
+      imported = record {
+        kept = λ chain only image left. subst (λ (l : List (Vec ℕ Global)). KeepsPrefix chain (items_in l) acked image) same (keeps chain only image left);
+        fault = counts;
+      };
+      crashed = record { among = among; one_image = one; told = tells; disarmed = disarmed; uncounted = uncounted };
+    };
     kept = λ chain only. only_crashed chain (items_of session) acked (reads_as mid) (reads_as new) (images mid) (images new) told tells among one (λ image left.
         subst (λ (l : List (Vec ℕ Global)). KeepsPrefix chain (items_in l) acked image) same (keeps chain (at_start chain only) image left));
     ended = subst (λ (n : ℕ). IsEndOf n acked end) (ap (λ (l : List (Vec ℕ Global)). length l) same ∙ sym (as_many session.items.items)) ended;

@@ -1,10 +1,11 @@
 -- What a session leaves of a store, and what sessions leave that follow one another (crates/made_chain/README.md, "Sessions").
-use Rattle.std.specs.Prelude.{◌≡◌, Bool, true, false, ℕ, ◌+◌, ◌<◌, ◌≤◌, ◌^◌, List, [], ◌∷◌, All, map, length, take, Option, None}
+use Rattle.std.specs.Prelude.{◌≡◌, Bool, true, false, ℕ, ◌+◌, ◌<◌, ◌≤◌, ◌^◌, List, [], ◌∷◌, All, map, length, take, Option, None, IfSome}
 use Rattle.std.specs.List.{filter}
 use Rattle.std.specs.declared.alloc.Global.{Global}
 use Rattle.std.specs.declared.vec.Vec.{Vec}
 use Rattle.outside.specs.Causes.{CountsFault}
 use Rattle.outside.specs.Image.{Image}
+use Rattle.outside.specs.Disk.{HasOneImage, IsKnownAsBefore}
 use Rattle.verdict_defs.specs.Chain.{Chain, chain_over}
 use Rattle.store_defs.specs.Store.{StandsFor}
 use Rattle.node_store.specs.Node.{IsOnlyImage}
@@ -52,9 +53,38 @@ pub record IsEndOf (size acked : ℕ) (end : End) : Type 0 where
   pub whole : end ≡ Whole → acked ≡ size
   pub all : acked ≡ size → 0 < size → end ≡ Whole
 
-module _ {D : Type 0} (reads_as : D → Option Image) (images : D → Image → Type 0) (faults : D → ℕ) (armed : D → Option ℕ) where
+-- what disks of a type tell, and for how many calls each is armed
+module _ {D C : Type 0} (content_of : D → C) (reads_as : D → Option Image) (images : D → Image → Type 0) (faults : D → ℕ) (armed : D → Option ℕ) where
+  -- A disk was armed for so many calls, and is else as before.
+  pub record IsArmed (pass : Option ℕ) (old new : D) : Type 0 where
+    pub content : content_of new ≡ content_of old
+    pub armed_for : armed new ≡ pass
+    pub uncounted : faults new ≡ faults old
+
+  -- A disk crashed: it has one image, which is one of those that it had.
+  pub record IsCrashed (old new : D) : Type 0 where
+    pub among : IfSome (reads_as new) (images old)
+    pub one_image : HasOneImage (reads_as new) (images new)
+    pub told : IsKnownAsBefore (reads_as old) (reads_as new)
+    pub disarmed : armed new ≡ None
+    pub uncounted : faults new ≡ faults old
+
+  -- What came of the items of a session, between the arming and the crash: each image that is left keeps a prefix of them.
+  pub record HasImported (items : List (List ℕ)) (acked : ℕ) (end : End) (old new : D) : Type 0 where
+    pub kept : (chain : Chain) → IsOnlyImage chain (reads_as old) (images old) → (image : Image) → images new image → KeepsPrefix chain items acked image
+    pub fault : CountsFault (faults old) (faults new) (end ≡ DiskFault)
+
+  -- The disk was armed as the session says, its items were imported, and the disk crashed.
+  pub record IsStoppedSo (session : Session) (acked : ℕ) (end : End) (old new : D) : Type 0 where
+    pub ready : D
+    pub arming : IsArmed session.pass old ready
+    pub exit : D
+    pub imported : HasImported (items_of session) acked end ready exit
+    pub crashed : IsCrashed exit new
+
   -- A session over the disk before it and after it, where the steps stood at these numbers: so many items got a verdict, and so it ended.
   pub record IsSession (session : Session) (acked : ℕ) (end : End) (old new : D) (before after : ℕ) : Type 0 where
+    pub stopped : IsStoppedSo session acked end old new
     -- over the chain that the one image stood for, there is one image again, and it stands for what joined of so many first items
     pub kept : (chain : Chain) → IsOnlyImage chain (reads_as old) (images old)
         → (count : ℕ) × IsKeptCount (length (items_of session)) acked count × IsOnlyImage (chain_over chain (take count (items_of session))) (reads_as new) (images new)
@@ -73,12 +103,12 @@ pub record Outcome : Type 0 where
   pub acked : ℕ
   pub end : End
 
-module _ {D : Type 0} (reads_as : D → Option Image) (images : D → Image → Type 0) (faults : D → ℕ) (armed : D → Option ℕ) where
+module _ {D C : Type 0} (content_of : D → C) (reads_as : D → Option Image) (images : D → Image → Type 0) (faults : D → ℕ) (armed : D → Option ℕ) where
   -- Each is over the disk that the one before it left.
   abbrev pub AreSessions : List Session → List Outcome → D → D → ℕ → ℕ → Type 0
   AreSessions [] [] old new before after = (new ≡ old) × (after ≡ before)
   AreSessions (session ∷ sessions) (outcome ∷ outcomes) old new before after = (between : D) × (then : ℕ)
-      × IsSession reads_as images faults armed session outcome.acked outcome.end old between before then × AreSessions sessions outcomes between new then after
+      × IsSession content_of reads_as images faults armed session outcome.acked outcome.end old between before then × AreSessions sessions outcomes between new then after
   AreSessions _ _ old new before after = ⊥
 
   -- Of each session there are one count of verdicts and one end, in order.

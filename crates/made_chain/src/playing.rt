@@ -26,7 +26,7 @@ pub fn session<D: Crashing, J: Judging, L: Ledger>(
 ) -> (u64, End)
     requires store { HasSoundImage (D.reads_as disk.old) (D.images disk.old) }
     requires short { IsShort session.now }
-    ensures session { IsSession D.reads_as D.images D.faults D.armed session.now result.0 result.1 disk.old disk.new steps.old steps.new }
+    ensures session { IsSession D.content_of D.reads_as D.images D.faults D.armed session.now result.0 result.1 disk.old disk.new steps.old steps.new }
 {
     disk.arm(session.pass);
     let ended = open_and_import(alloc, disk, judge, &session.items, steps);
@@ -44,7 +44,7 @@ pub fn play<D: Crashing, J: Judging, L: Ledger>(
 ) -> Result<Played, NoMemory>
     requires store { HasSoundImage (D.reads_as disk.old) (D.images disk.old) }
     requires short { All IsShort sessions.now }
-    ensures played { IfOk result (λ played. ArePlayed D.reads_as D.images D.faults D.armed sessions.now played.acked.items played.ends.items
+    ensures played { IfOk result (λ played. ArePlayed D.content_of D.reads_as D.images D.faults D.armed sessions.now played.acked.items played.ends.items
         disk.old disk.new steps.old steps.new) }
     ensures kept { (chain : Chain) → IsOnlyImage chain (D.reads_as disk.old) (D.images disk.old)
         → IfOk result (λ played. (kept : Chain) × IsKeptAfter chain (map items_of sessions.now) played.acked.items kept

@@ -1,14 +1,14 @@
 // The blocks of a generated chain are imported in sessions that are stopped at one call of the disk after the other, and counted.
-ghost use Rattle.std.specs.Prelude.{◌≡◌, ◌+◌, ◌*◌, ◌^◌, ◌≤◌, ◌<◌, length, map, replicate, All, IfOk, OnOk, IsSome};
+ghost use Rattle.std.specs.Prelude.{◌≡◌, ◌+◌, ◌-◌, ◌*◌, ◌^◌, ◌≤◌, ◌<◌, length, map, replicate, slice_get, true, Some, All, IfOk, OnOk, IsSome};
 ghost use Rattle.verdict_defs.specs.Chain.{Chain, chain_of_genesis};
 ghost use Rattle.node_store.specs.Node.{IsOnlyImage, IsSoundNode};
 ghost use Rattle.made_chain.specs.Sessions.{items_in, items_of, AreShort, IsShort, HasSoundImage};
 ghost use Rattle.report_defs.specs.SoakLaws.{NamesNoLater};
 ghost use Rattle.report_defs.specs.Simulation.{AreSoakCounts, counts_over};
-ghost use Rattle.made_chain.specs.Soak.{stop_of, stops_of, IsPlayed};
+ghost use Rattle.made_chain.specs.Soak.{stop_of, stops_of, IsPlayed, EndWhole, IsSoaked, IsSoakedInMemory};
 
 use crate::counting::{SIZE_BOUND, counted, open_new};
-use crate::{Session, play};
+use crate::{End, Session, play};
 use chain_gen::{Made, make};
 use node_store::{HELD, Judging, Node};
 use outside::{Crashing, Disk, NoMemory, Steps};
@@ -77,7 +77,22 @@ fn sessions_over(alloc: Global, seed: u64, items: &[Vec<u8>]) -> Result<Vec<Sess
     Ok(sessions)
 }
 
-/// Plays sessions, of which the last must give so many verdicts.
+/// Whether the last of these ends is whole.
+fn last_is_whole(ends: &[End]) -> bool
+    ensures { result ≡ true → slice_get ends.now (length ends.now - 1) ≡ Some End.Whole }
+{
+    let count = ends.len();
+    if count == 0 {
+        return false;
+    }
+    match ends[count - 1] {
+        End::Whole => true,
+        End::DiskFault => false,
+        End::NoMemory => false,
+    }
+}
+
+/// Plays sessions, of which the last must be whole and give so many verdicts.
 fn play_all<D: Crashing, J: Judging, L: Ledger>(
     alloc: Global,
     disk: &mut D,
@@ -90,6 +105,7 @@ fn play_all<D: Crashing, J: Judging, L: Ledger>(
     requires short { All IsShort sessions.now }
     ensures kept { (chain : Chain) → IsOnlyImage chain (D.reads_as disk.old) (D.images disk.old)
         → OnOk result ((kept : Chain) × IsPlayed chain (map items_of sessions.now) size kept × IsOnlyImage kept (D.reads_as disk.new) (D.images disk.new)) }
+    ensures ended { OnOk result (EndWhole D.content_of D.reads_as D.images D.faults D.armed sessions.now disk.old disk.new steps.old steps.new) }
 {
     let played = match play(alloc, disk, judge, sessions, steps) {
         Ok(played) => played,
@@ -101,6 +117,9 @@ fn play_all<D: Crashing, J: Judging, L: Ledger>(
     }
     let last = played.acked[count - 1];
     if last < size {
+        return Err(NoMemory);
+    }
+    if !last_is_whole(&played.ends) {
         return Err(NoMemory);
     }
     Ok(())
@@ -134,8 +153,9 @@ fn soak_on<D: Crashing, J: Judging, L: Ledger>(
 ) -> Result<Counts, NoMemory>
     requires told { IsSome (D.reads_as disk.old) }
     requires count { length made.now.blocks.items ≤ 100 }
-    ensures { IfOk result (λ counts. NamesNoLater (items_in made.now.blocks.items)
+    ensures counts { IfOk result (λ counts. NamesNoLater (items_in made.now.blocks.items)
         → counts ≡ counts_over (chain_of_genesis made.now.spec.items made.now.genesis.items) (items_in made.now.blocks.items)) }
+    ensures soaked { IfOk result (λ _. IsSoaked D.content_of D.reads_as D.images D.faults D.armed seed (items_in made.now.blocks.items)) }
 {
     soak_laws();
     let sessions = sessions_over(alloc, seed, &made.blocks)?;
@@ -170,7 +190,8 @@ fn soak_made<J: Judging, L: Ledger>(
     requires parts { blank.parts ≡ L.parts }
     requires some { 0 < L.parts }
     requires count { count ≤ 100 }
-    ensures { IfOk result (λ counts. AreSoakCounts seed count counts) }
+    ensures counts { IfOk result (λ counts. AreSoakCounts seed count counts) }
+    ensures soaked { IfOk result (λ _. IsSoakedInMemory seed count) }
 {
     soak_laws();
     let made = make(alloc, seed, count)?;
@@ -181,7 +202,8 @@ fn soak_made<J: Judging, L: Ledger>(
 
 /// What is counted where the blocks of a seed, so many of them, at most 100, are imported over their genesis in 4 times as many
 /// sessions and two: session k is stopped after k calls of the disk, and the last is not. They are kept on a disk in memory, and
-/// steps are counted for no one. `Err` is want of memory, also where the disk meets it in the last session or outside the sessions.
+/// steps are counted for no one. `Err` is want of memory, also where the disk meets it in the last session or outside the sessions,
+/// of a soak without blocks too.
 /// Where two hashes of the genesis and the blocks are equal, nothing is said of the counts.
 pub fn soak_counts_of<J: Judging>(
     alloc: Global,
@@ -190,7 +212,9 @@ pub fn soak_counts_of<J: Judging>(
     count: u32,
 ) -> Result<Counts, NoMemory>
     requires { count ≤ 100 }
-    ensures { IfOk result (λ counts. AreSoakCounts seed count counts) }
+    ensures counts { IfOk result (λ counts. AreSoakCounts seed count counts) }
+    // Each session was played, stopped as it is to be, and the last was whole.
+    ensures soaked { IfOk result (λ _. IsSoakedInMemory seed count) }
 {
     soak_made::<J, Brand>(alloc, judge, seed, count, Blank::new(1))
 }

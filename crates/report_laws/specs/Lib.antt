@@ -1,1 +1,2 @@
 pub mod CanonicalLaws
+pub mod DecodedTexts

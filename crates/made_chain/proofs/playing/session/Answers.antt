@@ -16,8 +16,8 @@ returns g c =
     let rests = g.met.D.Disk.content_rests c.args.disk.now c.arm.new.self c.arm.ensures.content in
     let ended = c.open_and_import-ended in
     record {
-      session = session_made g.D.Disk.reads_as g.D.Disk.images g.D.Disk.faults g.D.Crashing.armed c.args.session.now c.deref.result.now ended.result.0 ended.result.1
+      session = session_made g.D.Disk.content_of g.D.Disk.reads_as g.D.Disk.images g.D.Disk.faults g.D.Crashing.armed c.args.session.now c.deref.result.now ended.result.0 ended.result.1
           c.args.disk.now c.arm.new.self ended.new.disk c.crash.new.self c.args.steps.now ended.new.steps c.deref.ensures.value
-          rests.reads rests.images c.arm.ensures.uncounted ended.ensures.told ended.ensures.kept ended.ensures.end ended.ensures.fault ended.ensures.steps
+          c.arm.ensures.content c.arm.ensures.armed rests.reads rests.images c.arm.ensures.uncounted ended.ensures.told ended.ensures.kept ended.ensures.end ended.ensures.fault ended.ensures.steps
           c.crash.ensures.among c.crash.ensures.one_image c.crash.ensures.told c.crash.ensures.disarmed c.crash.ensures.uncounted;
     }

@@ -1,6 +1,9 @@
-use Rattle.std.proofs.Common.{◌≡◌, ℕ, ◌+◌, ◌*◌, ◌-◌, List, Vec, Global, length, map, replicate, ap, subst, ◌∙◌, arith}
+use Rattle.std.proofs.Common.{◌≡◌, ℕ, ◌+◌, ◌*◌, ◌-◌, List, Vec, Global, length, map, replicate, ap, sym, subst, ◌∙◌, arith}
+use Rattle.std.proofs.lemmas.List.{length-map}
+use Rattle.std.proofs.lemmas.Result.{IfOk-weaker}
 use Rattle.verdict_defs.specs.Chain.{chain_of_genesis}
 use Rattle.made_chain.specs.Sessions.{items_in, items_of}
+use Rattle.made_chain.specs.Soak.{stop_of, stops_of}
 use Rattle.made_chain.proofs.SoakLemmas.{counts-played}
 use Rattle.made_chain.proofs.soaking.soak_on.Goals as goal
 
@@ -30,6 +33,20 @@ returns g c =
     let before : c.len-before.result ≡ length chain.blocks = c.len-before.ensures.of_blocks chain.blocks c.tree.ensures.indexed in
     let after : c.len-2.result ≡ length now.blocks = c.len-2.ensures.of_blocks now.blocks c.tree-2.ensures.indexed in
     let joined : c.from.result ≡ length now.blocks - length chain.blocks = omega (arith, c.from.ensures, c.saturating_sub-joined.ensures, before, after) in
-    counts-played c.soak_laws.ensures.prefixes_replay c.soak_laws.ensures.joined_are_counted (chain_of_genesis made.spec.items made.genesis.items) chain played.0 now
-    blocks (map items_of c.deref-4.result.now) c.len.result c.from.result c.counted.result opened lists size played.1 (c.in_ok-node.ensures.chain played.0 played.2)
-    joined c.counted.ensures
+    record {
+      counts = counts-played c.soak_laws.ensures.prefixes_replay c.soak_laws.ensures.joined_are_counted (chain_of_genesis made.spec.items made.genesis.items) chain played.0 now
+          blocks (map items_of c.deref-4.result.now) c.len.result c.from.result c.counted.result opened lists size played.1 (c.in_ok-node.ensures.chain played.0 played.2)
+          joined c.counted.ensures;
+      soaked = IfOk-weaker c.counted.result _ _ (λ counts is. record {
+        sessions = c.deref-4.result.now;
+        items_are = lists ∙ ap (λ (n : ℕ). replicate (4 * n + 2) (items_in blocks)) (sym (length-map blocks (λ (bytes : Vec ℕ Global). bytes.items)));
+        stops_are = ap (map stop_of) c.deref-4.ensures.value ∙ c.in_ok-sessions.ensures.stops
+            ∙ ap (λ (l : List (Vec ℕ Global)). stops_of c.args.seed (length l)) c.deref.ensures.value
+            ∙ ap (stops_of c.args.seed) (sym (length-map blocks (λ (bytes : Vec ℕ Global). bytes.items)));
+        old = _;
+        new = _;
+        before = _;
+        after = _;
+        ended = c.in-Ok.ensures.ended;
+      }) c.counted.ensures;
+    }
