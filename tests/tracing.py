@@ -73,6 +73,32 @@ class Traced(script_machine.Machine):
             return 'no instruction' if fault.args[0] == 4 else 'no code'
 
 
+def symbols_of(file):
+    """The symbols of the file's first symbol table that have no type, or are data or functions: the name, the address and the size of each."""
+    def at(place, size):
+        return int.from_bytes(file[place:place + size], 'little')
+    headers = [at(40, 8) + 64 * i for i in range(at(60, 2))]
+    table = next((it for it in headers if at(it + 4, 4) == 2), None)
+    if table is None:
+        return []
+    names = at(headers[at(table + 40, 4)] + 24, 8)
+    found = []
+    for it in range(at(table + 24, 8), at(table + 24, 8) + at(table + 32, 8), 24):
+        name = file[names + at(it, 4):].split(b'\0')[0].decode('latin1')
+        if at(it + 4, 1) % 16 < 3:
+            found.append((name, at(it + 8, 8), at(it + 16, 8)))
+    return found
+
+
+def named(symbols, address):
+    """The name of an address, behind a space, where it has one."""
+    for name, value, size in symbols:
+        if name and name[0] != '$' and value <= address < value + max(size, 1):
+            past = '+0x%x' % (address - value) if address > value else ''
+            return ' (%s%s)' % (name[:80], past)
+    return ''
+
+
 def page_of(program, code, budget):
     """The page of a file, worked out by the plain machine. The texts of instructions are those of `dis`."""
     with mock.patch.object(script_machine, 'Machine', Traced):
@@ -87,9 +113,10 @@ def page_of(program, code, budget):
         end += (machine.cycles,)
     lines = [' '.join(map(str, end)), 'cycles %d of %d' % (machine.cycles, budget)]
     texts = texts_at(program, machine, [pc] + [jump[0] for jump in jumps])
-    lines += ['pc 0x%x %s' % (pc, texts[0]), 'last jumps']
+    names = functools.partial(named, symbols_of(code))
+    lines += ['pc 0x%x%s %s' % (pc, names(pc), texts[0]), 'last jumps']
     for (at, to, times), text in zip(jumps, texts[1:]):
-        lines.append('  0x%x %s to 0x%x' % (at, text, to) + (', %d times' % times if times > 1 else ''))
+        lines.append('  0x%x%s %s to 0x%x%s' % (at, names(at), text, to, names(to)) + (', %d times' % times if times > 1 else ''))
     cells = ['  x%-2d %-4s 0x%016x' % (i, NAMES[i], machine.x[i]) for i in range(32)]
     lines += ['registers', *(cells[i] + cells[i + 1] for i in range(0, 32, 2))]
     return ''.join(machine.texts) + ''.join(line + '\n' for line in lines)

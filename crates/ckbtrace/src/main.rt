@@ -1,28 +1,27 @@
-//! `ckbtrace` runs an ELF file as `exec` of `ckbdev` does, and prints on one page how it ended: the line of `exec`, the
-//! cycles, the instruction that ended it, the last jumps and the registers. Each text that the program prints by syscall
-//! 2177 comes before that, as it is printed.
+//! `ckbtrace` explains. Of an ELF file, which it runs as `exec` of `ckbdev` does, it prints on one page how it ended: the line
+//! of `exec`, the cycles, the instruction that ended it, the last jumps and the registers. Each text that the program prints by
+//! syscall 2177 comes before that, as it is printed. Of a transaction or a block it prints the line of `check` or `import`, and
+//! below it why that is the answer.
 //!
-//! It makes the steps of the machine itself, and answers each ECALL as for a program that runs alone. No clause says what
-//! it prints: that it is safe is proved, and tests compare its pages with those of a plain machine.
+//! What a page says no clause says: that the program is safe is proved, and tests compare its pages with those of models. What
+//! is proved of the line and of the store stands in `run_explanation`.
 #![tactic(auto)]
 
-ghost use Rattle.std.specs.Prelude.{◌≤◌, ◌^◌};
+ghost use Rattle.std.specs.Prelude.{◌≡◌, ◌<◌, ◌≤◌, ◌^◌};
 
-mod jumps;
-mod page;
-mod text;
-mod trace;
+mod program;
 mod words;
 
-use outside::{Sink, Source};
-use outside_os::{StdinSource, StdoutSink};
-use page::{bad_elf, spent_loading};
+use outside::{Sink, Source, Steps};
+use outside_os::{FolderDisk, StdinSource, StdoutSink};
+use program::trace_file;
 use program_io::{Status, read_input, words_of, write_answer};
-use program_run::{Started, start};
+use run_explanation::{Wanted, explain};
 use std::alloc::Global;
+use std::marker::Brand;
 use std::process::ExitCode;
-use trace::run_to_page;
-use words::budget_of;
+use std::sync::ledger::{Blank, Ledger};
+use words::{budget_of, wanted_by};
 
 /// The most bytes of a file, as of `exec`.
 const FILE_LIMIT: usize = 1_048_576;
@@ -46,42 +45,59 @@ fn trace_input<S: Source, K: Sink>(
     }
 }
 
-/// Runs a file, and writes its page.
-fn trace_file<K: Sink>(alloc: Global, budget: u64, file: &[u8], out: &mut K) -> Result<(), Status>
-    requires { budget ≤ 2 ^ 40 }
-{
-    match start(alloc, file, budget) {
-        Ok(Started::Ready(machine)) => run_to_page(alloc, machine, budget, out),
-        Ok(Started::Spent { cycles }) => {
-            let page = spent_loading(alloc, cycles, budget)?;
-            write_answer(page.as_bytes(), out)
-        }
-        Ok(Started::BadElf(condition)) => {
-            let page = bad_elf(alloc, condition)?;
-            write_answer(page.as_bytes(), out)
-        }
-        Err(_) => Err(Status::NoMemory),
-    }
-}
-
-/// Runs over the standard streams.
-fn run(rt: HostRuntime) -> Result<(), Status> {
-    let words = words_of(&rt)?;
-    let [word] = words.as_slice() else {
-        return Err(Status::BadWords);
-    };
+/// Runs a program over the standard streams, within so many cycles.
+fn run_trace(rt: HostRuntime, word: &str) -> u8 {
     let Some(budget) = budget_of(word) else {
-        return Err(Status::BadWords);
+        return Status::BadWords.number();
     };
     let mut input = StdinSource::new(rt);
     let mut out = StdoutSink::new(rt);
-    trace_input(rt.alloc(), budget, &mut input, &mut out)
+    match trace_input(rt.alloc(), budget, &mut input, &mut out) {
+        Ok(()) => Status::Done.number(),
+        Err(status) => status.number(),
+    }
+}
+
+/// Explains an item over the standard streams and a store's folder.
+fn run_explain<L: Ledger>(rt: HostRuntime, folder: &String, wanted: Wanted, blank: Blank) -> u8
+    requires name { blank.name ≡ L.name }
+    requires parts { blank.parts ≡ L.parts }
+    requires some { 0 < L.parts }
+{
+    let mut steps = Steps::<L>::new(blank);
+    let mut input = StdinSource::new(rt);
+    let mut out = StdoutSink::new(rt);
+    let Ok(folder) = folder.clone() else {
+        return Status::NoMemory.number();
+    };
+    let mut disk = FolderDisk::new(rt, folder);
+    explain(
+        rt.alloc(),
+        &mut input,
+        &mut out,
+        &mut disk,
+        wanted,
+        &mut steps,
+    )
+    .number()
+}
+
+/// Runs as the words ask.
+fn run(rt: HostRuntime, words: &[String]) -> u8 {
+    match words {
+        [] => Status::BadWords.number(),
+        [word] => run_trace(rt, word),
+        [folder, rest @ ..] => match wanted_by(rest) {
+            Some(wanted) => run_explain::<Brand>(rt, folder, wanted, Blank::new(1)),
+            None => Status::BadWords.number(),
+        },
+    }
 }
 
 fn main(rt: HostRuntime) -> ExitCode {
-    let status = match run(rt) {
-        Ok(()) => Status::Done,
-        Err(status) => status,
+    let number = match words_of(&rt) {
+        Ok(words) => run(rt, &words),
+        Err(status) => status.number(),
     };
-    ExitCode::from(status.number())
+    ExitCode::from(number)
 }

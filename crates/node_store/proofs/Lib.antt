@@ -35,3 +35,4 @@ pub mod StayingLemmas
 pub mod ImportedLemmas
 pub mod WritingLemmas
 pub mod MigrationLemmas
+pub mod TryingLemmas

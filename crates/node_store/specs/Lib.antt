@@ -14,3 +14,4 @@ pub mod Gathering
 pub mod Opening
 pub mod Snapshot
 pub mod OpeningSteps
+pub mod Trying

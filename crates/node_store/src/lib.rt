@@ -3,7 +3,7 @@
 //! [`Node`] is the contract of use. Its clauses see a `Chain` of `verdict_defs`, and where the records of its log end: `open`
 //! answers the chain that a store keeps; `import` answers the verdict on an item, as a [`Judging`] says it, and where it joins
 //! keeps it and puts its record on the disk, so that at each moment a crash leaves the chain before the item or after it;
-//! `migrate` gives the store an edition of the rules from an epoch on, where its tip stands before it; `tip`,
+//! `judge` answers that verdict and keeps nothing; `migrate` gives the store an edition of the rules from an epoch on, where its tip stands before it; `tip`,
 //! `tree` and `state` tell what is kept, and `header`, `block`, `live`, `fetch` and `counted` what queries ask of the best branch.
 //! [`judge`] accepts a specification and a genesis, and [`NewStore`] makes a store of them.
 //!
@@ -33,6 +33,7 @@ mod reading;
 mod recorded;
 mod snapshot;
 mod store;
+mod trying;
 
 pub use body::KeptBody;
 pub use cache::Cache;

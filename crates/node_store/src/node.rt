@@ -267,7 +267,7 @@ impl Node {
     }
 
     /// Asks a judge what is to become of an item. The live cells then stand where it goes on from.
-    fn decide<D: Disk, J: Judging, L: Ledger>(
+    pub(crate) fn decide<D: Disk, J: Judging, L: Ledger>(
         self,
         alloc: Global,
         disk: &mut D,

@@ -10,3 +10,4 @@ pub mod FitLemmas
 pub mod WorldLemmas
 pub mod ReadLemmas
 pub mod RunningLemmas
+pub mod WatchLemmas

@@ -22,11 +22,11 @@ use std::marker::Model;
 /// A script group: its script with the script's hash, and the places of its members among the inputs and among the
 /// outputs of the transaction.
 #[derive(Drop)]
-pub(crate) struct Group<'a> {
-    pub(crate) script: ScriptView<'a>,
-    pub(crate) hash: [u8; 32],
-    pub(crate) inputs: Vec<u32>,
-    pub(crate) outputs: Vec<u32>,
+pub struct Group<'a> {
+    pub script: ScriptView<'a>,
+    pub hash: [u8; 32],
+    pub inputs: Vec<u32>,
+    pub outputs: Vec<u32>,
 }
 
 impl<'a> Model for Group<'a> {

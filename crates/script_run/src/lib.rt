@@ -4,7 +4,8 @@
 //! answers the cycles that its scripts take within a budget, or the first failure, exactly by `outcome_of` of
 //! `verdict_defs`. Scripts are shown parts of the transaction and of the cells as they lie; what is computed or read for
 //! them, a hash, a number or a header, stands in a few bytes of its own. What the transaction resolves to is left to
-//! `tx_rules`, which rule a failure breaks to the layers above.
+//! `tx_rules`, which rule a failure breaks to the layers above. [`watch_groups`] runs the same groups by a [`Watcher`], which
+//! looks at them as they run: what it leaves of the source is proved of it, and not what the watcher sees.
 #![tactic(auto)]
 
 mod bytes;
@@ -17,7 +18,10 @@ mod shown;
 mod sources;
 mod stop;
 mod type_id;
+mod watching;
 mod world;
 
+pub use groups::Group;
 pub use running::run_groups;
 pub use stop::ScriptStop;
+pub use watching::{GroupEnd, Terms, Watcher, watch_groups};

@@ -46,7 +46,7 @@ fn lacks_code(codes: &Codes<'_>, group: &Group<'_>, place: u32) -> Option<Failur
 }
 
 /// Why the code of the first group without one is not found.
-fn first_without_code(codes: &Codes<'_>, groups: &[Group<'_>]) -> Option<Failure>
+pub(crate) fn first_without_code(codes: &Codes<'_>, groups: &[Group<'_>]) -> Option<Failure>
     requires few { length groups.now < 2 ^ 32 }
     ensures { (scene : Scene) → AreCodesIn codes.now scene → result ≡ defs.first_without_code scene 0 (map (λ it. it.group) groups.now) }
 {

@@ -23,6 +23,7 @@ use crate::bytes::{Answer, Bytes, HeaderPart, Lookup};
 use crate::groups::Group;
 use crate::items::look_up;
 use crate::shown::ShownTx;
+use crate::watching::Watcher;
 use chain_tree::Blocks;
 use mol_schema::{BlockView, HeaderView};
 use outside::ReadStop;
@@ -230,6 +231,33 @@ pub(crate) fn run_code<'a, 'w, B: Blocks>(
         Err(Stopped::Loading) => Err(ReadStop::NoMemory),
         Err(Stopped::Running(stop)) => Err(stop),
     }
+}
+
+/// Runs the code of a group by a watcher, over what the group is shown.
+pub(crate) fn watch_code<'a, 'w, B: Blocks, R: Watcher>(
+    alloc: Global,
+    tx: &'w ShownTx<'a>,
+    group: &'w Group<'a>,
+    blocks: &mut B,
+    watcher: &mut R,
+    code: &[u8],
+    budget: u64,
+) -> Result<Execution, ReadStop>
+    requires budget { budget ≤ 2 ^ 40 }
+    requires counts { B.count blocks.old ≡ tx.now.kept }
+    ensures read { HasRead B.told B.count B.loans_of B.faults B.damages blocks.old blocks.new (stop_of result) }
+{
+    let mut headers = HashMap::new(alloc);
+    let mut world = GroupWorld {
+        blocks,
+        tx,
+        group,
+        hand: None,
+        headers: &mut headers,
+    };
+    let came = watcher.run(alloc, code, budget, &mut world);
+    give_back(world);
+    came
 }
 
 /// Ends the loan of the blocks: they are as the world leaves them.
