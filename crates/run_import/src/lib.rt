@@ -11,3 +11,4 @@ mod lines;
 mod watching;
 
 pub use importing::import;
+pub use lines::item_line;

@@ -3,9 +3,11 @@ ghost use Rattle.std.specs.Prelude.{◌≡◌, Err, IfOk};
 ghost use Rattle.chain_tree.specs.Reading.{stop_of};
 ghost use Rattle.rewards.specs.Reading.{YieldsUndamaged};
 ghost use Rattle.node_store.specs.Node.{IsOwnDiskWhereTold, IsSoundWhereTold, LeavesAll};
+ghost use Rattle.run_store.specs.Damage.{AnswersDamage};
 ghost use Rattle.report_defs.specs.Report as reports;
 ghost use Rattle.report_defs.specs.declared.command.Query.TheVariants as queries;
 ghost use Rattle.report_defs.specs.Status.{IsOneOf};
+ghost use Rattle.run_store.specs.Keeping.{KeepsNode};
 ghost use Rattle.run_text.specs.Store.{OnlyReads, opening_stops};
 ghost use Rattle.run_query.specs.Queries.{balances_of};
 
@@ -31,9 +33,11 @@ fn balances<D: Disk>(alloc: Global, disk: &mut D, node: &mut Node) -> Result<(i1
 pub fn audit<D: Disk>(alloc: Global, disk: &mut D, node: &mut Node) -> Result<Vec<u8>, Status>
     requires own { IsOwnDiskWhereTold node.old (D.reads_as disk.old) (D.images disk.old) }
     ensures disk { OnlyReads D.content_of D.faults disk.old disk.new (result ≡ Err Status.DiskFault) }
+    ensures node { KeepsNode node.old node.new (D.reads_as disk.new) (D.images disk.new) }
     ensures text { IsSoundWhereTold node.old (D.reads_as disk.old) → IfOk result (λ text. text.items ≡ reports.answer_to_query queries.Audit node.old.chain) }
     ensures stop { (status : Status) → result ≡ Err status → IsOneOf opening_stops status }
     ensures sound { IsSoundWhereTold node.old (D.reads_as disk.old) → result ≡ Err Status.NotAStore → ⊥ }
+    ensures damage { AnswersDamage node.old node.new (result ≡ Err Status.NotAStore) }
 {
     let left = match balances(alloc, disk, node) {
         Ok(left) => left,

@@ -9,6 +9,7 @@ ghost use Rattle.outside.specs.declared.disk.Damage.{Damage};
 ghost use Rattle.outside.specs.declared.disk.ReadStop.TheVariants.{DiskFault, Damaged};
 ghost use Rattle.store_defs.specs.Store.{IsJoined};
 ghost use Rattle.node_store.specs.Node.{IsOwnDiskWhereTold, IsSoundWhereTold};
+ghost use Rattle.run_store.specs.Damage.{AnswersDamage};
 ghost use Rattle.report_defs.specs.Report as reports;
 ghost use Rattle.report_defs.specs.Queries as answers;
 ghost use Rattle.report_defs.specs.Queries.{cell_at_tip};
@@ -16,6 +17,7 @@ ghost use Rattle.report_defs.specs.Text as text;
 ghost use Rattle.report_defs.specs.declared.command.Query.TheVariants as queries;
 ghost use Rattle.report_defs.specs.declared.dao.DaoState.TheVariants as states;
 ghost use Rattle.report_defs.specs.Status.{IsOneOf};
+ghost use Rattle.run_store.specs.Keeping.{KeepsNode};
 ghost use Rattle.run_text.specs.Store.{OnlyReads, finding_stops, opening_stops};
 ghost use Rattle.run_query.specs.Queries.{IsCopied, IsCopyFound, IsLiveIn};
 
@@ -43,9 +45,11 @@ pub fn dao<D: Disk>(
 ) -> Result<Vec<u8>, Status>
     requires own { IsOwnDiskWhereTold node.old (D.reads_as disk.old) (D.images disk.old) }
     ensures disk { OnlyReads D.content_of D.faults disk.old disk.new (result ≡ Err Status.DiskFault) }
+    ensures node { KeepsNode node.old node.new (D.reads_as disk.new) (D.images disk.new) }
     ensures text { IsSoundWhereTold node.old (D.reads_as disk.old) → IfOk result (λ text. text.items ≡ reports.answer_to_query (queries.Dao tx_hash index) node.old.chain) }
     ensures stop { (status : Status) → result ≡ Err status → IsOneOf opening_stops status }
     ensures sound { IsSoundWhereTold node.old (D.reads_as disk.old) → result ≡ Err Status.NotAStore → ⊥ }
+    ensures damage { AnswersDamage node.old node.new (result ≡ Err Status.NotAStore) }
 {
     let found = match fetch_cell(alloc, disk, node, tx_hash, index) {
         Ok(found) => found,
@@ -67,10 +71,12 @@ fn fetch_cell<D: Disk>(
 ) -> Result<Option<Fetched>, Status>
     requires own { IsOwnDiskWhereTold node.old (D.reads_as disk.old) (D.images disk.old) }
     ensures disk { OnlyReads D.content_of D.faults disk.old disk.new (result ≡ Err Status.DiskFault) }
+    ensures node { KeepsNode node.old node.new (D.reads_as disk.new) (D.images disk.new) }
     ensures chain { node.new.chain ≡ node.old.chain }
     ensures found { IsSoundWhereTold node.old (D.reads_as disk.old) → IfOk result (IsCopyFound (cell_at_tip node.old.chain tx_hash index)) }
     ensures stop { (status : Status) → result ≡ Err status → IsOneOf opening_stops status }
     ensures sound { IsSoundWhereTold node.old (D.reads_as disk.old) → result ≡ Err Status.NotAStore → ⊥ }
+    ensures damage { AnswersDamage node.old node.new (result ≡ Err Status.NotAStore) }
 {
     let Some(o) = out_point(tx_hash, index) else {
         return Ok(None);

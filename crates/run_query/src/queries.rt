@@ -21,9 +21,11 @@ ghost use Rattle.node_store.specs.OpeningSteps.{moves_to_open};
 ghost use Rattle.cell_state.specs.State.{rows};
 ghost use Rattle.node_store.specs.Node.{IsOwnDiskWhereTold, IsSoundWhereTold};
 ghost use Rattle.node_store.specs.Kept.{AreRowsOfTip};
+ghost use Rattle.run_store.specs.Damage.{AnswersDamage};
 ghost use Rattle.node_store.specs.Queries.{IsHeaderAt};
 ghost use Rattle.run_text.specs.Output.{SinkTook};
 ghost use Rattle.run_query.specs.Queries.{IsCellFound};
+ghost use Rattle.run_store.specs.Keeping.{KeepsNode};
 ghost use Rattle.run_text.specs.Store.{DeliversCommand, IsQueryPrinted, OnlyReads, opening_stops};
 
 use crate::audit::audit;
@@ -43,7 +45,7 @@ use std::alloc::{AllocError, Global};
 use std::sync::ledger::Ledger;
 
 /// Finds what a query answers over the kept blocks. Each query has a function of its own.
-fn answer_to<D: Disk>(
+pub fn answer_to<D: Disk>(
     alloc: Global,
     disk: &mut D,
     node: &mut Node,
@@ -51,9 +53,11 @@ fn answer_to<D: Disk>(
 ) -> Result<Vec<u8>, Status>
     requires own { IsOwnDiskWhereTold node.old (D.reads_as disk.old) (D.images disk.old) }
     ensures disk { OnlyReads D.content_of D.faults disk.old disk.new (result ≡ Err Status.DiskFault) }
+    ensures node { KeepsNode node.old node.new (D.reads_as disk.new) (D.images disk.new) }
     ensures text { IsSoundWhereTold node.old (D.reads_as disk.old) → IfOk result (λ text. text.items ≡ reports.answer_to_query query node.old.chain) }
     ensures stop { (status : Status) → result ≡ Err status → IsOneOf opening_stops status }
     ensures sound { IsSoundWhereTold node.old (D.reads_as disk.old) → result ≡ Err Status.NotAStore → ⊥ }
+    ensures damage { AnswersDamage node.old node.new (result ≡ Err Status.NotAStore) }
 {
     match query {
         Query::Tip => tip(alloc, node),
@@ -96,9 +100,11 @@ fn header<D: Disk>(
 ) -> Result<Vec<u8>, Status>
     requires own { IsOwnDiskWhereTold node.old (D.reads_as disk.old) (D.images disk.old) }
     ensures disk { OnlyReads D.content_of D.faults disk.old disk.new (result ≡ Err Status.DiskFault) }
+    ensures node { KeepsNode node.old node.new (D.reads_as disk.new) (D.images disk.new) }
     ensures text { IsSome (D.reads_as disk.old) → IfOk result (λ text. text.items ≡ reports.answer_to_query (queries.Header height) node.old.chain) }
     ensures stop { (status : Status) → result ≡ Err status → IsOneOf opening_stops status }
     ensures sound { IsSome (D.reads_as disk.old) → result ≡ Err Status.NotAStore → ⊥ }
+    ensures damage { AnswersDamage node.old node.new (result ≡ Err Status.NotAStore) }
 {
     let found = match node.header(alloc, disk, height) {
         Ok(found) => found,
@@ -131,9 +137,11 @@ fn json<D: Disk>(
 ) -> Result<Vec<u8>, Status>
     requires own { IsOwnDiskWhereTold node.old (D.reads_as disk.old) (D.images disk.old) }
     ensures disk { OnlyReads D.content_of D.faults disk.old disk.new (result ≡ Err Status.DiskFault) }
+    ensures node { KeepsNode node.old node.new (D.reads_as disk.new) (D.images disk.new) }
     ensures text { IsSome (D.reads_as disk.old) → IfOk result (λ text. text.items ≡ reports.answer_to_query (queries.Json height) node.old.chain) }
     ensures stop { (status : Status) → result ≡ Err status → IsOneOf opening_stops status }
     ensures sound { IsSome (D.reads_as disk.old) → result ≡ Err Status.NotAStore → ⊥ }
+    ensures damage { AnswersDamage node.old node.new (result ≡ Err Status.NotAStore) }
 {
     let found = match node.block(alloc, disk, height) {
         Ok(found) => found,
@@ -225,6 +233,7 @@ fn find_and_answer<K: Sink, D: Disk>(
     ensures status { IsOneOf query_statuses result }
     ensures disk { OnlyReads D.content_of D.faults disk.old disk.new (result ≡ Status.DiskFault) }
     ensures faults { CountsFault (K.faults out.old) (K.faults out.new) (result ≡ Status.SinkFault) }
+    ensures damage { AnswersDamage node.old node.new (result ≡ Status.NotAStore) }
 {
     let text = match answer_to(alloc, disk, node, query) {
         Ok(text) => text,

@@ -15,5 +15,5 @@ mod questions;
 
 pub use assembling::assemble;
 pub use pool_defs::Line;
-pub use questions::question;
+pub use questions::{answer_of_trial, check, judge_item, question};
 pub use tx_pool::Assembled;

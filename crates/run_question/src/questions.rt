@@ -17,8 +17,10 @@ ghost use Rattle.report_defs.specs.declared.command.Command.TheVariants as comma
 ghost use Rattle.run_text.specs.Items.{SourceGave};
 ghost use Rattle.run_text.specs.Whole.{IsReadWhole};
 ghost use Rattle.node_store.specs.OpeningSteps.{moves_to_open};
+ghost use Rattle.run_store.specs.Damage.{AnswersDamage};
 ghost use Rattle.run_text.specs.Output.{Transfers};
 ghost use Rattle.node_store.specs.Node.{IsOwnDiskWhereTold, IsSoundWhereTold};
+ghost use Rattle.run_store.specs.Keeping.{KeepsNode};
 ghost use Rattle.run_text.specs.Store.{OnlyReads, opening_stops};
 ghost use Rattle.run_question.specs.Question.{IsAnswerTo, AnswersQuestion, DeliversAnswer};
 
@@ -68,6 +70,7 @@ fn answer_to<D: Disk>(
     ensures one_of { IfOk result (λ answer. IsOneOf (Status.Done ∷ Status.SomeRefused ∷ []) answer.status) }
     ensures stop { (status : Status) → result ≡ Err status → IsOneOf opening_stops status }
     ensures sound { IsSoundWhereTold node.old (D.reads_as disk.old) → result ≡ Err Status.NotAStore → ⊥ }
+    ensures damage { AnswersDamage node.old node.new (result ≡ Err Status.NotAStore) }
 {
     match question {
         Question::Check => check(alloc, disk, node, &items[0]),
@@ -76,7 +79,7 @@ fn answer_to<D: Disk>(
 }
 
 /// Judges a transaction alone, and says what came of it.
-fn check<D: Disk>(
+pub fn check<D: Disk>(
     alloc: Global,
     disk: &mut D,
     node: &mut Node,
@@ -84,10 +87,12 @@ fn check<D: Disk>(
 ) -> Result<Answer, Status>
     requires own { IsOwnDiskWhereTold node.old (D.reads_as disk.old) (D.images disk.old) }
     ensures disk { OnlyReads D.content_of D.faults disk.old disk.new (result ≡ Err Status.DiskFault) }
+    ensures node { KeepsNode node.old node.new (D.reads_as disk.new) (D.images disk.new) }
     ensures answer { IsSoundWhereTold node.old (D.reads_as disk.old) → IfOk result (λ answer. IsAnswerTo Question.Check node.old.chain (item.now ∷ []) (string_bytes answer.text) answer.status) }
     ensures one_of { IfOk result (λ answer. IsOneOf (Status.Done ∷ Status.SomeRefused ∷ []) answer.status) }
     ensures stop { (status : Status) → result ≡ Err status → IsOneOf opening_stops status }
     ensures sound { IsSoundWhereTold node.old (D.reads_as disk.old) → result ≡ Err Status.NotAStore → ⊥ }
+    ensures damage { AnswersDamage node.old node.new (result ≡ Err Status.NotAStore) }
 {
     let tried = match judge_item(alloc, disk, node, item) {
         Ok(tried) => tried,
@@ -99,8 +104,8 @@ fn check<D: Disk>(
     }
 }
 
-/// Judges the transaction of an item alone.
-fn judge_item<D: Disk>(
+/// Judges the transaction of an item alone, as `check` does: J1 where it is no canonical `Transaction`.
+pub fn judge_item<D: Disk>(
     alloc: Global,
     disk: &mut D,
     node: &mut Node,
@@ -108,9 +113,11 @@ fn judge_item<D: Disk>(
 ) -> Result<Trial, Status>
     requires own { IsOwnDiskWhereTold node.old (D.reads_as disk.old) (D.images disk.old) }
     ensures disk { OnlyReads D.content_of D.faults disk.old disk.new (result ≡ Err Status.DiskFault) }
+    ensures node { KeepsNode node.old node.new (D.reads_as disk.new) (D.images disk.new) }
     ensures trial { IsSoundWhereTold node.old (D.reads_as disk.old) → IfOk result (λ tried. tried ≡ trials.trial node.old.chain item.now) }
     ensures stop { (status : Status) → result ≡ Err status → IsOneOf opening_stops status }
     ensures sound { IsSoundWhereTold node.old (D.reads_as disk.old) → result ≡ Err Status.NotAStore → ⊥ }
+    ensures damage { AnswersDamage node.old node.new (result ≡ Err Status.NotAStore) }
 {
     let Some(tx) = TxView::read(item) else {
         return Ok(Trial::Refused(1));
@@ -122,8 +129,8 @@ fn judge_item<D: Disk>(
     }
 }
 
-/// What is said of a transaction that was judged, and the status.
-fn answer_of_trial(alloc: Global, tried: &Trial) -> Result<Answer, NoMemory>
+/// What `check` says of a transaction that was judged, and the status.
+pub fn answer_of_trial(alloc: Global, tried: &Trial) -> Result<Answer, NoMemory>
     ensures text { IfOk result (λ answer. string_bytes answer.text ≡ text.trial_line tried.now) }
     ensures status { IfOk result (λ answer. answer.status ≡ reports.status_of_trial tried.now) }
     ensures one_of { IfOk result (λ answer. IsOneOf (Status.Done ∷ Status.SomeRefused ∷ []) answer.status) }
@@ -152,6 +159,7 @@ fn read_and_answer<S: Source, K: Sink, D: Disk>(
     ensures disk { OnlyReads D.content_of D.faults disk.old disk.new (result ≡ Status.DiskFault) }
     ensures input_faults { CountsFault (S.faults input.old) (S.faults input.new) (result ≡ Status.InputFault) }
     ensures out_faults { CountsFault (K.faults out.old) (K.faults out.new) (result ≡ Status.SinkFault) }
+    ensures damage { AnswersDamage node.old node.new (result ≡ Status.NotAStore) }
 {
     let items = match read_items(alloc, input, question) {
         Ok(Whole::Items(items)) => items,

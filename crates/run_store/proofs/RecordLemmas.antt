@@ -1,5 +1,5 @@
 -- The records that LOG keeps after an opening.
-use Rattle.std.proofs.Common.{◌≡◌, ◌⊎◌, inl, inr, ℕ, ◌≤◌, Bool, true, false, List, [], ◌∷◌, take, drop, length, cond, leb, arith, refl, ap, sym, ◌∙◌, subst, append-nil}
+use Rattle.std.proofs.Common.{◌≡◌, ◌⊎◌, inl, inr, ℕ, ◌≤◌, Bool, true, false, List, [], ◌∷◌, take, drop, length, cond, arith, refl, ap, sym, ◌∙◌, subst, append-nil}
 use Rattle.std.specs.Prelude.{Option, Some, None, is_none, ◌==◌, ◌&&◌}
 use Rattle.std.specs.Str.{bytes_eq}
 use Rattle.std.specs.Cmp.Lexicographic.{bytes_decides}

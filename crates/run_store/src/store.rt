@@ -37,6 +37,7 @@ fn status_of_opening(stop: LogStop) -> Status
 pub fn status_of_reading(stop: ReadStop) -> Status
     ensures one_of { IsOneOf opening_stops result }
     ensures none { result ≡ Status.NotAStore → (damage : Damage) × (stop ≡ ReadStop.Damaged damage) }
+    ensures damaged { (damage : Damage) → stop ≡ ReadStop.Damaged damage → result ≡ Status.NotAStore }
     ensures fault { (result ≡ Status.DiskFault) ↔ (stop ≡ ReadStop.DiskFault) }
     ensures memory { (result ≡ Status.NoMemory) ↔ (stop ≡ ReadStop.NoMemory) }
 {

@@ -49,7 +49,7 @@ fn command_named(name: &[u8], arguments: &[String]) -> Option<Command>
 }
 
 /// The command of this name that takes no argument.
-fn command_alone(name: &[u8]) -> Option<Command>
+pub fn command_alone(name: &[u8]) -> Option<Command>
     ensures command { result ≡ grammar.command_named (name.now ∷ []) }
     ensures within { IfSome result IsWithinLimit }
 {
@@ -87,7 +87,7 @@ fn command_alone(name: &[u8]) -> Option<Command>
 }
 
 /// The command of this name that takes one argument.
-fn command_with(name: &[u8], argument: &str) -> Option<Command>
+pub fn command_with(name: &[u8], argument: &str) -> Option<Command>
     ensures command { result ≡ grammar.command_with name.now argument.now }
     ensures within { IfSome result IsWithinLimit }
 {
@@ -170,7 +170,7 @@ fn list_command(argument: &str) -> Option<Command>
 }
 
 /// The command of this name that takes two arguments.
-fn command_at(name: &[u8], first: &str, second: &str) -> Option<Command>
+pub fn command_at(name: &[u8], first: &str, second: &str) -> Option<Command>
     ensures command { result ≡ grammar.command_at name.now first.now second.now }
     ensures within { IfSome result IsWithinLimit }
 {
@@ -230,7 +230,7 @@ fn out_point_of(hash: &str, index: &str) -> Option<([u8; 32], u64)>
 
 /// The hash that a word spells. Only digits in lower case do, though both cases are read.
 #[tactic(auto, unfolding(report_defs::specs::Words::hash_of_word))]
-fn hash_of_word(word: &str) -> Option<[u8; 32]>
+pub fn hash_of_word(word: &str) -> Option<[u8; 32]>
     ensures { result ≡ grammar.hash_of_word word.now }
 {
     let bytes = word.as_bytes();

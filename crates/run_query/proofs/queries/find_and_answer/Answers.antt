@@ -10,7 +10,18 @@ use Rattle.run_query.proofs.QueryReport.{query_stopped, query_printed}
 use Rattle.run_query.proofs.Statuses as statuses
 use Rattle.run_text.proofs.Statuses.{opening_stop, opening_no_sink, told_one}
 use Rattle.run_query.proofs.Statuses.{query_opening}
+use Rattle.run_store.proofs.DamageLemmas.{none_then}
 use Rattle.run_query.proofs.queries.find_and_answer.Goals as goal
+
+-- ---- Damage that was found
+
+pub returns-in-Err-clause-damage : goal.returns-in-Err-clause-damage
+returns-in-Err-clause-damage g c = λ rose. same_stop _ _ (c.in-Err.ensures.damage rose)
+
+pub returns-clause-damage : goal.returns-clause-damage
+returns-clause-damage g c = none_then c.in-Ok.ensures.damage (no_answer _ _)
+
+-- ---- The other clauses
 
 pub returns-in-Err-clause-told : goal.returns-in-Err-clause-told
 returns-in-Err-clause-told g c = (

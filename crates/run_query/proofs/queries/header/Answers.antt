@@ -1,8 +1,20 @@
 use Rattle.std.proofs.Common.{Err, ap}
 use Rattle.report_defs.specs.Queries.{header_answer}
 use Rattle.run_text.proofs.Exits.{same_stop}
+use Rattle.run_store.proofs.KeepLemmas.{keeps_left}
 use Rattle.run_store.proofs.LookLemmas.{looks_found, looks_stopped, memory_no_fault, memory_no_none, memory_opening}
+use Rattle.run_store.proofs.DamageLemmas.{none_found, found_said}
 use Rattle.run_query.proofs.queries.header.Goals as goal
+
+-- ---- Damage that was found
+
+pub returns-in-Err-clause-damage : goal.returns-in-Err-clause-damage
+returns-in-Err-clause-damage g c = found_said c.in-Err.stop c.status_of_reading.result c.in-Err.ensures.left c.status_of_reading.ensures.damaged
+
+pub returns-clause-damage : goal.returns-clause-damage
+returns-clause-damage g c = none_found c.in-Ok.ensures.left
+
+-- ---- The other clauses
 
 pub returns-in-Err-clause-disk : goal.returns-in-Err-clause-disk
 returns-in-Err-clause-disk g c = looks_stopped c.in-Err.stop c.status_of_reading.result c.in-Err.ensures.left c.status_of_reading.ensures.fault
@@ -24,3 +36,9 @@ returns-clause-stop g c = λ status is. memory_opening status (c.line_or_stop.en
 
 pub returns-clause-sound : goal.returns-clause-sound
 returns-clause-sound g c = λ some is. memory_no_none c.line_or_stop.result c.line_or_stop.ensures.memory is
+
+pub returns-in-Err-clause-node : goal.returns-in-Err-clause-node
+returns-in-Err-clause-node g c = keeps_left c.in-Err.ensures.left
+
+pub returns-clause-node : goal.returns-clause-node
+returns-clause-node g c = keeps_left c.in-Ok.ensures.left

@@ -4,9 +4,25 @@ use Rattle.outside.proofs.Endings.{no_answer, nothing_read}
 use Rattle.chain_defs.specs.Schema.{Block}
 use Rattle.report_defs.specs.Queries.{json_answer, json_of}
 use Rattle.run_text.proofs.Exits.{same_stop}
+use Rattle.run_store.proofs.KeepLemmas.{keeps_left}
 use Rattle.run_store.proofs.LookLemmas.{looks_found, looks_stopped, memory_no_fault, memory_no_none, memory_opening, none_no_fault}
 use Rattle.run_query.proofs.QueryLemmas.{block-found, none-found}
+use Rattle.run_store.proofs.DamageLemmas.{none_found, found_said}
 use Rattle.run_query.proofs.queries.json.Goals as goal
+
+-- ---- Damage that was found
+
+pub returns-in-Err-clause-damage : goal.returns-in-Err-clause-damage
+returns-in-Err-clause-damage g c = found_said c.in-Err.stop c.status_of_reading.result c.in-Err.ensures.left c.status_of_reading.ensures.damaged
+
+pub returns-in-None-clause-damage : goal.returns-in-None-clause-damage
+returns-in-None-clause-damage g c = none_found c.in-Ok.ensures.left
+
+pub returns-in_default-clause-damage : goal.returns-in_default-clause-damage
+returns-in_default-clause-damage g c = none_found c.in-Ok.ensures.left
+
+pub returns-clause-damage : goal.returns-clause-damage
+returns-clause-damage g c = none_found c.in-Ok.ensures.left
 
 -- ---- The block was not read
 
@@ -55,3 +71,15 @@ returns-clause-text g c = λ some.
     (c.in-Ok.ensures.block some) in
     let same : Some c.in-Some-read.block ≡ Some there.0 = sym c.in-Some-read.is ∙ (c.read.ensures.exact there.0).1 there.2 in
     c.in-Ok-json_line.ensures ∙ ap json_of (same ∙ sym there.1)
+
+pub returns-in-Err-clause-node : goal.returns-in-Err-clause-node
+returns-in-Err-clause-node g c = keeps_left c.in-Err.ensures.left
+
+pub returns-in-None-clause-node : goal.returns-in-None-clause-node
+returns-in-None-clause-node g c = keeps_left c.in-Ok.ensures.left
+
+pub returns-in_default-clause-node : goal.returns-in_default-clause-node
+returns-in_default-clause-node g c = keeps_left c.in-Ok.ensures.left
+
+pub returns-clause-node : goal.returns-clause-node
+returns-clause-node g c = keeps_left c.in-Ok.ensures.left

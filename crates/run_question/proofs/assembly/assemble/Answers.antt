@@ -5,7 +5,22 @@ use Rattle.outside.proofs.Endings.{no_answer}
 use Rattle.run_text.proofs.Exits.{same_stop}
 use Rattle.run_store.proofs.LookLemmas.{looks_not, looks_found, looks_stopped, memory_no_fault, memory_no_none, memory_opening, memory_is_no_fault}
 use Rattle.run_question.proofs.AssemblyLemmas.{few-enough, short-enough, witness-fits, first-and-rest, no-witness-answer, refused-is-told}
+use Rattle.run_store.proofs.DamageLemmas.{none_met, none_found, found_said}
 use Rattle.run_question.proofs.assembly.assemble.Goals as goal
+
+-- ---- Damage that was found
+
+pub returns-in_default-clause-damage : goal.returns-in_default-clause-damage
+returns-in_default-clause-damage g c = none_met c.args.node.now
+
+pub returns-in-Err-clause-damage : goal.returns-in-Err-clause-damage
+returns-in-Err-clause-damage g c = found_said c.in-Err.stop c.status_of_reading.result c.in-Err.ensures.left c.status_of_reading.ensures.damaged
+
+pub returns-in-Ok-answer_of-clause-damage : goal.returns-in-Ok-answer_of-clause-damage
+returns-in-Ok-answer_of-clause-damage g c = none_found c.in-Ok.ensures.left
+
+pub returns-clause-damage : goal.returns-clause-damage
+returns-clause-damage g c = none_found c.in-Ok.ensures.left
 
 -- ---- The witness, and the items after it
 

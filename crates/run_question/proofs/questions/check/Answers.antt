@@ -6,7 +6,21 @@ use Rattle.report_defs.specs.Text.{trial_line}
 use Rattle.report_defs.specs.Report.{status_of_trial}
 use Rattle.run_text.proofs.Exits.{same_stop}
 use Rattle.run_store.proofs.LookLemmas.{looks_as, looks_well, memory_is_no_fault}
+use Rattle.run_store.proofs.DamageLemmas.{none_then, said_as}
 use Rattle.run_question.proofs.questions.check.Goals as goal
+
+-- ---- Damage that was found
+
+pub returns-in-Err-clause-damage : goal.returns-in-Err-clause-damage
+returns-in-Err-clause-damage g c = said_as c.in-Err.ensures.damage (handed _ _)
+
+pub returns-in-Ok-answer_of_trial-clause-damage : goal.returns-in-Ok-answer_of_trial-clause-damage
+returns-in-Ok-answer_of_trial-clause-damage g c = none_then c.in-Ok.ensures.damage (no_answer _ _)
+
+pub returns-in-Err-answer_of_trial-clause-damage : goal.returns-in-Err-answer_of_trial-clause-damage
+returns-in-Err-answer_of_trial-clause-damage g c = none_then c.in-Ok.ensures.damage (no_answer _ _)
+
+-- ---- The other clauses
 
 pub returns-in-Ok-answer_of_trial-clause-disk : goal.returns-in-Ok-answer_of_trial-clause-disk
 returns-in-Ok-answer_of_trial-clause-disk g c = looks_well c.in-Ok.ensures.disk (no_answer _ _) (no_answer _ _)

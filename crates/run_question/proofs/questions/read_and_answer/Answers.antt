@@ -17,7 +17,22 @@ use Rattle.run_text.proofs.WholeReports.{whole_no_further}
 use Rattle.run_question.proofs.Statuses as statuses
 use Rattle.run_text.proofs.Statuses.{reading_stops, opening_stop, told_one}
 use Rattle.run_text.proofs.Exits.{same_stop}
+use Rattle.run_store.proofs.DamageLemmas.{none_met, none_then}
 use Rattle.run_question.proofs.questions.read_and_answer.Goals as goal
+
+-- ---- Damage that was found
+
+pub returns-in-Ok-Early-clause-damage : goal.returns-in-Ok-Early-clause-damage
+returns-in-Ok-Early-clause-damage g c = none_met c.args.node.now
+
+pub returns-in-Err-clause-damage : goal.returns-in-Err-clause-damage
+returns-in-Err-clause-damage g c = none_met c.args.node.now
+
+pub returns-clause-damage : goal.returns-clause-damage
+returns-clause-damage g c = λ rose. same_stop _ _ (c.in-Err-answer_to.ensures.damage rose)
+
+pub returns-in-Ok-clause-damage : goal.returns-in-Ok-clause-damage
+returns-in-Ok-clause-damage g c = none_then c.in-Ok.ensures.damage (no_answer _ _)
 
 -- ---- The input ends early
 

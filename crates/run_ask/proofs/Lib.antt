@@ -1,0 +1,10 @@
+pub mod LineLemmas
+pub mod ReportLemmas
+pub mod AskLemmas
+pub mod FindLemmas
+pub mod WordLemmas
+pub mod NextLemmas
+pub mod CommitLemmas
+pub mod IndexLemmas
+pub mod StoreLemmas
+pub mod TextLemmas
