@@ -19,6 +19,7 @@ from make_store import Spec
 from script_scene import Cell, Script
 
 CKBDEV = os.path.join(TOP, 'ckbdev')
+TRACER = os.path.join(TOP, 'ckbtrace')
 FEE = 1000
 
 
@@ -80,20 +81,20 @@ def check_accounts(folder):
 ASKS = '#include "ckb.h"\nint main(void) { uint64_t n = 0; return ckb_load_cell(0, &n, 0, 0, 9); }'
 OURS = ['sh', os.path.join(SCRIPTS, 'gcc.sh')]
 FAR = 'riscv64-unknown-elf-gcc -march=rv64imc -mabi=lp64 -nostdlib -static -Wl,-Ttext=0x80000000 -e main'.split()
-# how each is built, how it ends by the plain machine, and the line of `check`
+# how each is built, how it ends by the plain machine, the line of `check`, and how its group ends on the page that explains it
 WRONG_LOCKS = [
-    ('exits with 5', 'int main(void) { return 5; }', OURS, 'exit 0 5', 'refused J29'),
-    ('loads past memory', 'int main(void) { return *(volatile int *)0x400000; }', OURS, 'fault 0 1', 'refused J29'),
-    ('asks for a source that there is not', ASKS, OURS, 'fault 0 5', 'refused J29'),
-    ('does not end', 'int main(void) { for (volatile int i = 0;; i++); }', OURS, 'spent', 'refused J30'),
-    ('is linked for another machine', 'int main(void) { return 0; }', FAR, 'bad_elf 0 7', 'refused J29'),
+    ('exits with 5', 'int main(void) { return 5; }', OURS, 'exit 0 5', 'refused J29', 'exit 5 after'),
+    ('loads past memory', 'int main(void) { return *(volatile int *)0x400000; }', OURS, 'fault 0 1', 'refused J29', 'fault 1 after'),
+    ('asks for a source that there is not', ASKS, OURS, 'fault 0 5', 'refused J29', 'fault 5 after'),
+    ('does not end', 'int main(void) { for (volatile int i = 0;; i++); }', OURS, 'spent', 'refused J30', 'spent after'),
+    ('is linked for another machine', 'int main(void) { return 0; }', FAR, 'bad_elf 0 7', 'refused J29', 'bad elf 7'),
 ]
 
 
 def check_wrong_locks(folder):
-    """A lock that is wrong in five ways: what `check` says of each."""
+    """A lock that is wrong in five ways: what `check` says of each, and how it ended on the page that explains it."""
     spec = Spec(max_cycles=10 ** 6)
-    for what, source, words, end, line in WRONG_LOCKS:
+    for what, source, words, end, line, ended in WRONG_LOCKS:
         write(os.path.join(folder, 'wrong.c'), source.encode())
         ran([*words, 'wrong.c', '-o', 'wrong.elf'], folder)
         with open(os.path.join(folder, 'wrong.elf'), 'rb') as f:
@@ -111,7 +112,9 @@ def check_wrong_locks(folder):
         with new_folder() as store:
             must_be(ran([CKBDEV, store, 'init'], folder, spec.item() + genesis.item()), genesis_line(genesis) + '\n', 'init')
             must_be(ran([CKBDEV, store, 'check'], folder, spends.item, 1), line + '\n', 'a lock that %s' % what)
-    return 'a lock that is wrong in %d ways is refused as docs/RULES.md says' % len(WRONG_LOCKS)
+            page = ran([TRACER, store, 'check'], folder, spends.item, 1)
+            must(page.startswith(line + '\nJ') and '\n  %s' % ended in page, 'the page of a lock that %s: %r' % (what, page))
+    return 'a lock that is wrong in %d ways is refused as docs/RULES.md says, and explained' % len(WRONG_LOCKS)
 
 
 # ------------------------------------------------------- a chain and payments as texts
@@ -122,7 +125,7 @@ mkdir texts
 ./ckbjson spec --show < examples/spec.bin | sed 's/"epoch_length":"0xa"/"epoch_length":"0x4"/; s/"maturity":"0x0"/"maturity":"1 1\\/2"/' > spec.json
 ./ckbjson spec < spec.json > texts.spec
 ./ckbjson block --show < examples/genesis.bin | sed 's/"0x3e8"/"0x19b76daa800"/' > genesis.json
-./ckbjson block < genesis.json > texts.genesis
+./ckbjson block --seal < genesis.json > texts.genesis
 cat texts.spec texts.genesis | ./ckbdev texts init
 """
 

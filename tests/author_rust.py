@@ -143,8 +143,9 @@ def check_rust_lock(machine, folder):
     """The lines of the page, with the cycles of its version."""
     version = subprocess.run([RUSTC, '--version'], stdout=subprocess.PIPE, text=True, check=True).stdout.split()[1]
     kept = (lambda text: text) if version == VERSION else without_cycles
+    # what the script of the node says on standard error is script.py's
     ran = subprocess.run(['sh', 'examples/scripts/rust/try.sh', 'opened'], cwd=folder, stdin=subprocess.DEVNULL,
-                         stdout=subprocess.PIPE, stderr=subprocess.STDOUT, text=True)
+                         stdout=subprocess.PIPE, stderr=subprocess.DEVNULL, text=True)
     must_be((ran.returncode, kept(ran.stdout)), (0, kept(page_lines())), 'try.sh')
     must(machine.line(os.path.join(folder, 'opened', 'lock.elf')).startswith('fault 5 '), 'the lock alone')
 

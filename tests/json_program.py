@@ -1,7 +1,8 @@
-"""`ckbjson` over the items of examples/: their texts beside a writer in plain Python, hashes, what is said of wrong texts, words and
-streams."""
+"""`ckbjson` over the items of examples/: their texts beside a writer in plain Python, sealed blocks, hashes, what is said of wrong texts,
+words and streams."""
 
 import functools
+import itertools
 import json
 import os
 import subprocess
@@ -9,20 +10,13 @@ import sys
 
 import block_json
 from harness import TOP, Ran, contract, first, must, must_answer, must_be, new_folder
-from encoding import ckbhash, fields_of
-import make_store
+from encoding import ckbhash, fields_of, table, transactions_root, uint
 
 sys.path.append(os.path.join(TOP, 'tests', 'rows'))
-import wrong_texts  # noqa: E402 (beside the path above)
+import spec_items  # noqa: E402 (beside the path above)
+import wrong_texts  # noqa: E402
 
 INPUT_LIMIT = 1 << 24
-# the numbers of a specification in the order of its bytes
-BY_PLACE = ('compact_target', 'epoch_length', 'w_close', 'w_far', 'max_block_bytes', 'max_proposals', 'max_cycles', 'maturity',
-            'primary_reward', 'secondary_reward', 'halving_interval')
-
-
-# the greatest numbers, which no store takes
-OTHER_SPEC = make_store.Spec(*((1 << 8 * size) - 1 for size in make_store.Spec.SIZES), bytes(range(32)))
 
 
 @functools.lru_cache(None)
@@ -49,16 +43,6 @@ def witness_tree(b):
     return {'lock': block_json.script(lock), 'message': block_json.text(message[4:])}
 
 
-def spec_tree(b):
-    """The fields of a specification, of which docs/RULES.md has the places."""
-    names, at, tree = list(wrong_texts.WANTED['spec'][1]), 4, {}
-    for name, size in zip(BY_PLACE, make_store.Spec.SIZES):
-        tree[name] = hex(int.from_bytes(b[at:at + size], 'little'))
-        at += size
-    tree['dao_code_hash'] = block_json.text(b[at:])
-    return {name: tree[name] for name in names}
-
-
 @functools.lru_cache(None)
 def items():
     """(the kind, the bytes, the tree) of each block and of its parts, each once."""
@@ -74,8 +58,8 @@ def items():
             held = fields_of(witnesses)[:1]
             if place == 0 and held and len(held[0]) > 16:
                 found['witness', held[0][4:]] = witness_tree(held[0][4:])
-    for spec in (first.SPEC, contract.SPEC, OTHER_SPEC):
-        found['spec', spec.item()] = spec_tree(spec.item())
+    for spec in (first.SPEC, contract.SPEC):
+        found['spec', spec.item()] = spec_items.tree_of(spec.item())
     return [(kind, item, tree) for (kind, item), tree in found.items()]
 
 
@@ -133,23 +117,112 @@ def check_json_wrong_texts(_):
     must(len(rows) >= 200, 'there are %d wrong texts' % len(rows))
     for kind, given, line in rows:
         must_refuse([kind], given, line.encode())
+    for given, line in [(text, line) for kind, text, line in rows if kind == 'block'][:10]:
+        must_refuse(['block', '--seal'], given, line.encode())
 
 
-def check_json_maturity(_):
-    """Epochs by hand: the number, the index and the length of the value, each in its bits."""
-    tree = spec_tree(first.SPEC.item())
-    for text, value in (('0', 0), ('4', 4), ('16777215', 0xffffff), ('1 1/3', 1 | 1 << 24 | 3 << 40), ('0 0/1', 1 << 40), ('4 0/1', 4 | 1 << 40),
-                        ('16777215 65534/65535', 0xffffff | 65534 << 24 | 65535 << 40), ('0x4', 4), ('0xFFFFFFFFFFFFFFFF', (1 << 64) - 1)):
-        item = first.changed(first.SPEC, maturity=value).item()
-        must_answer(Ran([converter(), 'spec'], compact({**tree, 'maturity': text})), 0, item, 'maturity ' + text)
+def check_json_specifications(_):
+    """The rows of spec_items.py, in both directions."""
+    for word, given, wanted in spec_items.rows():
+        if word == 'spec':
+            must_answer(Ran([converter(), 'spec', '--show'], given), 0, wanted + b'\n', 'the text of ' + given.hex())
+            must_answer(Ran([converter(), 'spec'], wanted), 0, given, repr(wanted))
+        else:
+            must_answer(Ran([converter(), 'spec'], given), 0, wanted, repr(given))
+
+
+def sealed(block):
+    """The block with what its header commits to, by docs/RULES.md; None where a number leaves u64."""
+    header, uncles, transactions, proposals = fields_of(block)
+    hashes = [transactions_root(fields_of(transactions)), hash_of(proposals[4:]),
+              hash_of(b''.join(ckbhash(fields_of(it)[0]) for it in fields_of(uncles)))]
+    dao = header[160:192]
+    if header[16:24] == bytes(8):
+        outputs = [it for transaction in fields_of(transactions) for it in outputs_of(fields_of(transaction)[0])]
+        sums = [sum(it) for it in zip(*outputs)] or [0, 0]
+        if max(sums) >= 1 << 64:
+            return None
+        dao = uint(sums[0], 8) + dao[8:24] + uint(sums[1], 8)
+    return table([header[:64] + b''.join(hashes) + dao + header[192:], uncles, transactions, proposals])
+
+
+def hash_of(content):
+    return ckbhash(content) if content else bytes(32)
+
+
+def outputs_of(raw):
+    """(what each output holds, what it occupies with its data, of which there may be none)."""
+    _, _, _, _, outputs, contents = fields_of(raw)
+    for output, content in itertools.zip_longest(fields_of(outputs), fields_of(contents)[:len(fields_of(outputs))], fillvalue=bytes(4)):
+        capacity, *scripts = fields_of(output)
+        size = 8 + len(content) - 4 + sum(33 + len(fields_of(it)[2]) - 4 for it in scripts if it)
+        yield int.from_bytes(capacity, 'little'), size * 10 ** 8
+
+
+def check_json_sealed(_):
+    """A block is what it was, where only what its header commits to was changed, and so is one with an uncle and proposals."""
+    for block in blocks():
+        header, *rest = fields_of(block)
+        is_genesis = header[16:24] == bytes(8)
+        spoilt = header[:64] + bytes(range(96)) + (bytes(8) + header[168:184] + bytes(8) if is_genesis else header[160:192]) + header[192:]
+        tree = block_json.tree_of(table([spoilt, *rest]))
+        must_answer(Ran([converter(), 'block', '--seal'], compact(tree)), 0, block, 'a sealed block')
+        must_be(sealed(table([spoilt, *rest])), block, 'a block that is sealed in Python')
+    tree = next(tree for kind, tree in wrong_texts.samples() if kind == 'block')
+    transaction, = tree['transactions']
+    others = [], [transaction] * 3, [{**transaction, 'outputs_data': []}], [{**transaction, 'outputs': [], 'outputs_data': []}]
+    for number in ('0x0', '0x5', '0x100000000'):
+        for transactions in (tree['transactions'], *others):
+            it = {**tree, 'header': {**tree['header'], 'number': number}, 'transactions': transactions}
+            whole = Ran([converter(), 'block'], compact(it)).out
+            must_answer(Ran([converter(), 'block', '--seal'], compact(it)), 0, sealed(whole), 'an uncle and proposals, number ' + number)
+
+
+def check_json_sealed_genesis(program):
+    """A genesis that was changed makes a store, and has another hash; one whose cells hold too much is named."""
+    tree = block_json.tree_of(first.GENESIS.item())
+    outputs = tree['transactions'][0]['outputs']
+    outputs[1]['capacity'] = hex(12345 * 10 ** 8)
+    tree['header']['timestamp'] = hex(5000)
+    ran = Ran([converter(), 'block', '--seal'], compact(tree))
+    must_be(ran.status, 0, 'the seal of a genesis that was changed')
+    must_be(ran.out, sealed(Ran([converter(), 'block'], compact(tree)).out), 'a genesis that is sealed in Python')
+    must(ckbhash(fields_of(ran.out)[0]) != first.GENESIS.hash(), 'a genesis that was changed keeps its hash')
+    with new_folder() as folder:
+        line = b'genesis 0x%s\n' % ckbhash(fields_of(ran.out)[0]).hex().encode()
+        must_answer(Ran([program, folder, 'init'], first.SPEC.item() + ran.out), 0, line, 'init of a sealed genesis')
+    held = int(outputs[0]['capacity'], 16)
+    outputs[1]['capacity'] = hex((1 << 64) - 1 - held)
+    must_be(Ran([converter(), 'block', '--seal'], compact(tree)).status, 0, 'cells that hold as much as a field has room for')
+    outputs[1]['capacity'] = hex((1 << 64) - held)
+    must_refuse(['block', '--seal'], compact(tree),
+                b'ckbjson: the block is not sealed: its cells hold or occupy more than 2^64 - 1 shannons\n')
+
+
+# what the script says of words that are none of its own
+WRONG_WORDS = [
+    ([], 'there are no words'), (['Block'], "there is no kind 'Block'; did you mean 'block'?"), (['q'], "there is no kind 'q'"),
+    (['', 'x'], "there is no kind ''"), (['a\nb'], "there is no kind 'a?b'"), (['--show'], 'the kind comes first: ckbjson KIND --show'),
+    (['--seal', 'block'], 'the kind comes first: ckbjson block --seal'), (['id', 'x'], "id takes no word after it, and here is 'x'"),
+    (['block', 'show'], "after block may stand --show or --seal, and not 'show'"), (['spec', '--seal'], "after spec may stand --show, and not '--seal'"),
+    (['block', '--seal', '--show'], 'block takes at most one word after it, and here there are 2'),
+]
+
+
+def check_json_script_says_what_is_wrong_with_words(_):
+    """One line before the usage text, and nothing is read."""
+    for words, why in WRONG_WORDS:
+        ran = Ran([os.path.join(TOP, 'ckbjson'), *words], b'{}')
+        must_be((ran.status, ran.out, ran.read), (2, b'', 0), repr(words))
+        must_be(ran.err.split(b'\nusage: ')[0].decode(), 'ckbjson: ' + why, repr(words))
 
 
 def check_json_words_and_streams(_):
     """Words outside the grammar read and write nothing; a stream that fails has its status."""
     kind, item, tree = next(it for it in items() if it[0] == 'transaction')
     for words in ([], [''], ['Block'], ['transactions'], ['--show'], ['--show', 'block'], ['block', 'show'], ['block', '--show', ''],
-                  ['id', '--show'], ['id', 'block'], ['block', 'block'], ['specification'],
-                  ['block', '--Show']):
+                  ['id', '--show'], ['id', 'block'], ['block', 'block'], ['specification'], ['block', '--Show'], ['spec', '--seal'],
+                  ['transaction', '--seal'], ['--seal'], ['block', '--seal', '--show'], ['id', '--seal']):
         ran = Ran([converter(), *words], item)
         must_be((ran.status, ran.out, ran.read), (2, b'', 0), repr(words))
     must_be(Ran([converter(), 'id'], bytes(INPUT_LIMIT + 1)).status, 12, 'an input that is too long')
@@ -165,7 +238,7 @@ def check_json_document(_):
     """What docs/COMMANDS.md shows of hashes is what comes, by the script."""
     with open(os.path.join(TOP, 'docs', 'COMMANDS.md'), encoding='utf-8') as f:
         part = f.read().split('\n## JSON and bytes\n')[1].split('\n## ')[0]
-    shown = [line[4:] for line in part.splitlines() if line.startswith('    ')][3:]
+    shown = [line[4:] for line in part.splitlines() if line.startswith('    ')][4:]
     command, wanted = shown[0], shown[1:5]
     # the script has a build to run
     converter()

@@ -1,6 +1,6 @@
 # shellcheck shell=sh disable=SC2154
-# What is wrong with words that are not in the grammar of docs/COMMANDS.md, in one line. The script ckbdev takes this in
-# where there are such words: it has `commands` and `is_command`.
+# What is wrong with words that are not in the grammar of docs/COMMANDS.md, in one line. The scripts ckbdev and ckbjson take
+# this in where there are such words: each has `commands` and `is_command`, and ckbjson a sentence for each case of its own.
 
 # A word as it can stand in a line.
 shown() {

@@ -14,9 +14,10 @@ use Rattle.chain_defs.specs.Specification.{specification_of, keeps_s1}
 use Rattle.json_defs.specs.Form.{Form, hex_text}
 use Rattle.json_defs.specs.Blocks as form
 use Rattle.json_defs.specs.Blocks.{text_of}
-use Rattle.json_defs.specs.Laws.{IsEncodingOf, IsNoText}
+use Rattle.json_defs.specs.Laws.{IsReadAs, IsEncodingOf, IsNoText}
 use Rattle.json_spec.specs.Form as spec_form
 use Rattle.json_spec.specs.Bytes as spec_shape
+use Rattle.block_seal.specs.Sealed.{IsSealed}
 use Rattle.ckbjson.specs.declared.words.Kind.{Kind}
 use Rattle.ckbjson.specs.declared.words.Kind.TheVariants as kinds
 
@@ -37,6 +38,10 @@ IsNotRead kinds.Block text = IsNoText form.block schema.block text
 IsNotRead kinds.Script text = IsNoText form.script schema.script text
 IsNotRead kinds.Witness text = IsNoText form.cellbase_witness schema.cellbase_witness text
 IsNotRead kinds.Specification text = IsNoText spec_form.specification spec_shape.specification text
+
+-- the bytes are of the block that the text is read as, sealed; or that block cannot be sealed
+abbrev pub IsReadSealed : List ℕ → Option (Vec ℕ Global) → Type 0
+IsReadSealed text sealed = (b : Block) × IsReadAs form.block text b × IsSealed b sealed
 
 -- ---- bytes that are shown
 

@@ -3,9 +3,11 @@ ghost use Rattle.std.specs.Prelude.{◌≡◌, ◌++◌, [], ◌∷◌, Err, IfO
 ghost use Rattle.chain_defs.specs.Schema as schema;
 ghost use Rattle.json_blocks.specs.declared.stop.JsonStop.TheVariants.{Bad};
 ghost use Rattle.json_defs.specs.Blocks as form;
-ghost use Rattle.ckbjson.specs.Items.{IsRead, IsNotRead, IsLineOf, IsShown, IsShownAs, IsShownSpecification};
+ghost use Rattle.json_defs.specs.Laws.{IsNoText};
+ghost use Rattle.ckbjson.specs.Items.{IsRead, IsNotRead, IsReadSealed, IsLineOf, IsShown, IsShownAs, IsShownSpecification};
 
 use crate::words::Kind;
+use block_seal::seal;
 use json_blocks::{
     JsonStop, cellbase_witness_from_json, cellbase_witness_to_json, from_json, script_from_json,
     script_to_json, to_json, transaction_from_json, transaction_to_json,
@@ -26,6 +28,18 @@ pub(crate) fn read_item(alloc: Global, kind: Kind, text: &[u8]) -> Result<Vec<u8
         Kind::Script => script_from_json(alloc, text),
         Kind::Witness => cellbase_witness_from_json(alloc, text),
         Kind::Specification => specification_from_json(alloc, text),
+    }
+}
+
+/// The bytes of the block that a text is read as, with what its header commits to. None where its cells hold or occupy more
+/// than a DAO field has room for.
+pub(crate) fn read_sealed(alloc: Global, text: &[u8]) -> Result<Option<Vec<u8>>, JsonStop>
+    ensures found { IfOk result (λ sealed. IsReadSealed text.now sealed) }
+    ensures only { result ≡ Err Bad → IsNoText form.block schema.block text.now }
+{
+    match from_json(alloc, text) {
+        Ok(bytes) => Ok(seal(alloc, &BlockView::from_encoding(&bytes))?),
+        Err(stop) => Err(stop),
     }
 }
 

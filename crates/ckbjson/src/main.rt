@@ -1,5 +1,5 @@
 //! `ckbjson` makes the bytes of a transaction, a block, a script, a specification or of what the first witness of a cellbase
-//! holds from JSON, and JSON from such bytes; and prints the hashes of transactions and blocks.
+//! holds from JSON, and JSON from such bytes; seals a block; and prints the hashes of transactions and blocks.
 //!
 //! What it writes of an input is what `answer_to` gives, by its clause. No clause says what it prints of an input that is refused,
 //! which is named on standard error. What the system gives and takes is beyond any contract.
@@ -35,6 +35,7 @@ fn text_refusal(alloc: Global, kind: Kind, text: &[u8]) -> Result<String, AllocE
 fn refusal(alloc: Global, command: Command, input: &[u8]) -> Result<String, AllocError> {
     match command {
         Command::Read(kind) => text_refusal(alloc, kind, input),
+        Command::Seal => text_refusal(alloc, Kind::Block, input),
         Command::Show(kind) => format!(in alloc; "ckbjson: no bytes of a {}\n", name_of(kind)),
         Command::Id => {
             String::from_str(alloc, "ckbjson: no bytes of a transaction or of a block\n")
@@ -61,6 +62,10 @@ fn run(rt: HostRuntime) -> Result<(), Status> {
             let line = refusal(rt.alloc(), command, &bytes)?;
             Err(complain(rt, &line))
         }
+        Ok(Answer::TooMuch) => Err(complain(
+            rt,
+            "ckbjson: the block is not sealed: its cells hold or occupy more than 2^64 - 1 shannons\n",
+        )),
         Err(_) => Err(Status::NoMemory),
     }
 }

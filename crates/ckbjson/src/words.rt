@@ -19,6 +19,8 @@ pub(crate) enum Command {
     Read(Kind),
     /// Bytes are read, and JSON is written.
     Show(Kind),
+    /// The JSON of a block is read, and its bytes are written with what the header commits to.
+    Seal,
     /// Bytes are read, and hashes are printed.
     Id,
 }
@@ -47,13 +49,14 @@ fn kind_of(word: &str) -> Option<Kind> {
 
 /// The command of a kind and an option.
 fn command_with(kind: &str, option: &str) -> Option<Command> {
-    match option {
-        "--show" => Some(Command::Show(kind_of(kind)?)),
+    match (kind, option) {
+        ("block", "--seal") => Some(Command::Seal),
+        (_, "--show") => Some(Command::Show(kind_of(kind)?)),
         _ => None,
     }
 }
 
-/// The command that words spell: a kind, and `--show` after it where bytes are shown; or `id`.
+/// The command that words spell: a kind, and `--show` after it where bytes are shown; `block` and `--seal`; or `id`.
 pub(crate) fn command_of(words: &[String]) -> Option<Command> {
     match words {
         [word] => {

@@ -1,0 +1,3 @@
+pub mod Commits
+pub mod Genesis
+pub mod Rows
