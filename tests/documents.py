@@ -132,7 +132,7 @@ def check_commands_of_the_script(_):
     said = said_of([[it.split()[0], *'five words are too many'.split()] for it in wanted])
     named = [re.findall(r'[A-Z]+', line.split(' takes ')[1].split('after it')[1]) for line in said]
     must_be(named, [it.split()[1:] for it in wanted], 'the words after each command, in tools/words.sh')
-    waits, = re.findall(r'^    case \$2 in ([a-z |]+)\) return', script, re.MULTILINE)
+    waits, = re.findall(r'^    case \$2 in ([a-z |]+)\) ;; \*\) wait_for_folder', script, re.MULTILINE)
     apart, = re.findall(r'^FOLDER is .*; (.*) do not look at it', script, re.MULTILINE)
     must_be(waits.split(' | '), re.split(', | and ', apart), 'the commands for which it does not wait')
 

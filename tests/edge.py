@@ -21,10 +21,12 @@ import sys
 
 sys.dont_write_bytecode = True
 import allocations  # noqa: E402 (beside the line above)
+import asking  # noqa: E402
 import assembling  # noqa: E402
 import chain_snapshots  # noqa: E402
 import documents  # noqa: E402
 import editions  # noqa: E402
+import explaining  # noqa: E402
 import folders  # noqa: E402
 import json_program  # noqa: E402
 import json_texts  # noqa: E402
@@ -50,7 +52,7 @@ def main():
     a.add_argument('words', nargs='*')
     a = a.parse_args()
     modules = (runs, streams, assembling, making, pages, json_texts, folders, editions, allocations, chain_snapshots, script, unproved, layers,
-               documents, tracing, json_program, stored)
+               documents, tracing, explaining, json_program, asking, stored)
     checks = [it for module in modules for it in checks_of(module)]
     checks = [it for it in checks if not a.words or any(word in it[0] for word in a.words)]
     program = a.program and os.path.abspath(a.program)

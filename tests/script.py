@@ -13,6 +13,7 @@ import time
 
 import all as figures
 import block_json
+import make_store as store
 from harness import (CONTRACT_LINE, FIRST_INIT, FIRST_LINE, SCRIPT, SECONDS, TOP, Ran, chain_of,
                      contract, first, line_of, must, must_answer, must_be, must_have_tip, new_folder, new_store,
                      started, status_of, write)
@@ -20,6 +21,7 @@ from assembling import assembled_on, contract_chain
 from json_program import converter
 from making import contract_cell_line, live_line, mined_on_page
 from streams import BAD_WORDS
+from tracing import tracer
 
 
 def check_script_passes_on(_):
@@ -29,7 +31,8 @@ def check_script_passes_on(_):
         for name in ('a b', ' ', '*', '-n', "it's"):
             os.mkdir(os.path.join(away, name))
             must_answer(Ran([SCRIPT, name, 'init'], FIRST_INIT, cwd=away), 0, FIRST_LINE, 'init in %r' % name)
-            must_answer(Ran([SCRIPT, name, 'import'], given, name == '*', cwd=away), 1, text, 'import in %r' % name)
+            ran = Ran([SCRIPT, name, 'import'], given, name == '*', cwd=away)
+            must_be((ran.status, ran.out, ran.err), (1, text, why_of_import(name)), 'import in %r' % name)
         link = os.path.join(away, 'a link')
         os.symlink(SCRIPT, link)
         tip = ('%s\n' % first.tip(first.first_blocks()[1])).encode()
@@ -432,9 +435,19 @@ def check_script_explains_lines_of_exec(_):
         must('## ' + part in parts, 'docs/MACHINE.md has no part %r' % part)
 
 
+def why_text(what, folder, command, rule):
+    """What the script says of a refusal."""
+    return ("ckbdev: %s: ./ckbtrace '%s' %s explains it; docs/RULES.md has what breaks %s, and what to look at first (\"A block\")\n"
+            % (what, folder, command, rule))
+
+
+def why_of_import(folder):
+    return why_text('a block is refused', folder, 'import < BLOCK', 'each rule').encode()
+
+
 def check_script_explains_refused_transactions(_):
-    """After the line of `check` where to look, once, and the status of the program."""
-    refused = 'ckbdev: refused J%d: docs/RULES.md has what breaks J%d, and what to look at first ("A block")\n'
+    """After the line of `check` which command explains it, once, and the status of the program; after `import` that of a block."""
+    refused = why_text('refused J%d', 'any', 'check < TRANSACTION', 'J%d')
     with new_folder() as top:
         it = Answering(top)
         for line, status, said in (('ok 10000 505', 0, ''), ('refused J1', 1, refused % (1, 1)), ('refused J29', 1, refused % (29, 29))):
@@ -656,7 +669,8 @@ def check_documents(_):
             os.symlink(os.path.join(TOP, name), os.path.join(away, name))
         must_answer(Ran([SCRIPT, 'chain', 'init'], FIRST_INIT, cwd=away), 0, FIRST_LINE, 'init')
         given, text = first.input_and_text(first.first_blocks()[0])
-        must_answer(Ran([SCRIPT, 'chain', 'import'], given, cwd=away), 1, text, 'import')
+        ran = Ran([SCRIPT, 'chain', 'import'], given, cwd=away)
+        must_be((ran.status, ran.out, ran.err), (1, text, why_of_import('chain')), 'import')
         for name, line, wanted in shown:
             with open(os.path.join(TOP, 'docs', name), encoding='utf-8') as f:
                 document = f.read()
@@ -709,6 +723,26 @@ def blocks_of_items(chain):
         yield './ckbdev contract import < block', 0, joined
 
 
+# how the page begins that explains the transaction which the README has refused
+EXPLAINED = b'''refused J29
+J29: each group exits with 0
+group 0 lock 0xf7657e5b7ffeeb62b50aa012bdf1102eb2a2723c13df806a9ed3ced1740452f9, inputs 0
+  code resolved dep 1, cell 0x90450ffedc39898878267ef422c92182ff4652dbf00e04056fb1d5143eca0748 2
+  exit 7 after 1053 cycles
+page of group 0
+exit 7 1053
+cycles 1053 of 1000000000
+'''
+
+
+def own_genesis():
+    """The genesis of the first chain at the start of 2026, with 1,000 CKB in place of 10,000,000."""
+    only, = first.GENESIS.transactions
+    outputs = only.outputs[0], (1000 * 10 ** 8, b'')
+    dao = sum(it[0] for it in outputs), 10 ** 16, 0, sum(store.occupied(*it[1:]) for it in outputs)
+    return first.changed(first.GENESIS, timestamp=1767225600000, dao=dao, transactions=(first.changed(only, outputs=outputs),))
+
+
 def check_readme(_):
     """What the README and the page on examples/ show is what comes."""
     readme, examples = shown_by('README.md'), shown_by('examples/README.md')
@@ -719,11 +753,10 @@ def check_readme(_):
         ('./ckbdev chain import < examples/first-blocks.bin', 1, text),
         ('./ckbdev chain tip', 0, (first.tip(tip) + '\n').encode()),
     ]
-    own = first.changed(first.GENESIS, timestamp=1767225600000)
     of_own_chain = [
-        ('./ckbdev chain json 0 | sed \'s/"timestamp":"0x3e8"/"timestamp":"0x19b76daa800"/\' > own.json', 0, b''),
-        ('./ckbdev chain unjson < own.json > own.bin', 0, b''),
-        ('cat examples/spec.bin own.bin | ./ckbdev own init', 0, (first.genesis_line(own) + '\n').encode()),
+        ('./ckbdev chain json 0 | sed \'s/"0x3e8"/"0x19b76daa800"/; s/"0x38d7ea4c68000"/"0x174876e800"/\' > own.json', 0, b''),
+        ('./ckbjson block --seal < own.json > own.bin', 0, b''),
+        ('cat examples/spec.bin own.bin | ./ckbdev own init', 0, (first.genesis_line(own_genesis()) + '\n').encode()),
         ('./ckbdev own json 1', 0, b'none\n'),
         ('./ckbjson spec --show < examples/spec.bin | sed \'s/"maturity":"0x0"/"maturity":"1 1\\/3"/\' > longer.json', 0, b''),
         ('./ckbjson spec < longer.json > longer.bin', 0, b''),
@@ -741,19 +774,23 @@ def check_readme(_):
     # and what comes there after the line
     rule = contract.refused()[1].split(' ')[1]
     refuses = './ckbdev contract check < examples/refused.bin'
-    told_after = {refuses: ('ckbdev: refused %s: docs/RULES.md has what breaks %s, and what to look at first ("A block")\n' % (rule, rule)).encode()}
+    imports = './ckbdev contract import < examples/contract-chain.bin | grep refused'
+    told_after = {refuses: why_text('refused ' + rule, 'contract', 'check < TRANSACTION', rule).encode(), imports: why_of_import('contract'),
+                  './ckbdev chain import < examples/first-blocks.bin': why_of_import('chain')}
     coin = './ckbdev contract cell 0x%s 1' % contract.First.hash.hex()
     text_of_contract = first.input_and_text(contract.contract_chain()[0])[1]
     of_contract = [
         (makes, 0, CONTRACT_LINE),
         (coin, 0, live_line(contract.First.outputs[1], 0)),
-        ('./ckbdev contract import < examples/contract-chain.bin | grep refused', 0,
+        (imports, 0,
          b''.join(it for it in text_of_contract.splitlines(keepends=True) if it.startswith(b'refused'))),
         ('./ckbdev contract check < examples/transfer.bin', 0, (contract.transfer()[1] + '\n').encode()),
         (refuses, 1, (contract.refused()[1] + '\n').encode()),
+        ('./ckbtrace contract check < examples/refused.bin | head -n 8', 0, EXPLAINED),
     ]
-    # the script ckbjson has a build to run
+    # the scripts ckbjson and ckbtrace have a build to run
     converter()
+    tracer()
     chain = contract_chain()
     of_assembled = [('cat examples/witness.bin examples/transfer.bin examples/refused.bin > items', 0, b''),
                     *blocks_of_items(chain), *mined_on_page(chain)]
@@ -761,7 +798,7 @@ def check_readme(_):
         for folder, page in (('chain', readme), ('own', examples), ('contract', readme)):
             must('\nmkdir %s\n' % folder in page, 'no page makes the folder %s' % folder)
             os.mkdir(os.path.join(away, folder))
-        for name in ('ckbdev', 'ckbjson', 'examples'):
+        for name in ('ckbdev', 'ckbjson', 'ckbtrace', 'examples'):
             os.symlink(os.path.join(TOP, name), os.path.join(away, name))
         for page, lines in ((readme, of_chain), (examples, of_own_chain), (readme, of_contract), (examples, of_assembled),
                             (readme, of_program), (examples, of_code)):
@@ -771,7 +808,7 @@ def check_readme(_):
                 must_be((ran.status, ran.out, ran.err), (status, wanted, text + after), line)
         must_answer(Ran(['sh', '-c', coin], cwd=away), 0, b'none\n', coin + ' after the import')
         ran = Ran(['sh', os.path.join(TOP, 'examples', 'first-chain.sh'), 'new'], cwd=away)
-        must_be((ran.status, ran.err), (0, b''), 'first-chain.sh')
+        must(ran.status == 0 and ran.err.startswith(b'ckbdev: a block is refused: ') and ran.err.count(b'\n') == 1, 'first-chain.sh: %r' % ran.err)
         for _, _, wanted in of_chain:
             must(wanted in ran.out, 'first-chain.sh does not show %r' % wanted)
         must_be(sorted(os.listdir(os.path.join(away, 'new'))), ['log.bin', 'snap_a.bin', 'snap_b.bin'],

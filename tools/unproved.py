@@ -44,8 +44,9 @@ READ_NOTHING = ('migrate', 'tip', 'header', 'json', 'epoch', 'audit', 'cell', 'l
 # those that write to a store, and what may be there where one did not run to its end
 WRITE = {'init': 'a store may be made: ./%s FOLDER tip tells', 'import': 'blocks may be kept: ./%s FOLDER tip tells',
          'watch': 'blocks may be kept: ./%s FOLDER tip tells', 'migrate': 'the store may have its edition: the same command tells, ./%s FOLDER migrate N'}
-# programs whose first word is a folder
-IN_A_FOLDER = ('ckbdev',)
+IN_A_FOLDER = ('ckbdev', 'ckbask')
+# programs whose first word is a folder, where others follow it
+MAY_BE_IN_A_FOLDER = ('ckbtrace',)
 SIGNALS = (signal.SIGHUP, signal.SIGINT, signal.SIGQUIT, signal.SIGTERM)
 
 
@@ -109,7 +110,7 @@ def input_whole(file):
 
 def words_from_the_root(words):
     """The words for a program that runs elsewhere. An empty folder stays empty: it is not in the grammar."""
-    if NAME in IN_A_FOLDER and words and words[0]:
+    if words and words[0] and (NAME in IN_A_FOLDER or NAME in MAY_BE_IN_A_FOLDER and len(words) > 1):
         return [os.path.join(os.getcwd(), words[0]), *words[1:]]
     return words
 
