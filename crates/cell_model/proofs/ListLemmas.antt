@@ -1,6 +1,6 @@
 -- Kept blocks in two lists, as what they are seen as.
-use Rattle.std.proofs.Common.{◌≡◌, ℕ, zero, suc, ◌+◌, ◌^◌, ◌<◌, ◌≤◌, Bool, true, List, [], ◌∷◌, ◌++◌, length, map, drop, get_or, Vec, Global, Option, Some, None, refl, sym, ap, subst, ⊎_elim, ◌∙◌, append_assoc, append-nil, arith}
-use Rattle.std.specs.Prelude.{slice_get, if◌then◌else◌, IsSome, IfSome}
+use Rattle.std.proofs.Common.{◌≡◌, ℕ, zero, suc, ◌+◌, ◌^◌, ◌<◌, ◌≤◌, Bool, true, List, [], ◌∷◌, ◌++◌, length, map, drop, get_or, Vec, Global, Option, Some, None, Result, Ok, Err, refl, sym, ap, subst, ⊎_elim, ◌∙◌, append_assoc, append-nil, arith}
+use Rattle.std.specs.Prelude.{slice_get, if◌then◌else◌, IsSome, IfSome, IfOk}
 use Rattle.std.specs.List.{All}
 use Rattle.std.proofs.lemmas.Bool.{lt-ltb, cases_lt}
 use Rattle.std.proofs.lemmas.List.{length-map, length_push, map_push, get_or-map, get_or_append_left, get_or_push, drop_more, drop_all}
@@ -217,3 +217,9 @@ kept_more blocks exts more_blocks more_exts bytes ext kept one other few canonic
     kept-push (contents blocks) (contents exts) bytes.items ext.items kept (omega (arith, few, many)) canonical (λ some. later (omega (arith, some, many))) in
     subst (λ (e : List (List ℕ)). AreKept (contents more_blocks) e) (sym (contents-push exts more_exts ext other))
     (subst (λ (b : List (List ℕ)). AreKept b (contents exts ++ ext.items ∷ [])) (sym (contents-push blocks more_blocks bytes one)) more)
+
+-- ---- What a call gives, where it gives something
+
+pub if_ok-so : {T E : Type 0} (result : Result T E) (P Q : T → Type 0) → ((value : T) → P value → Q value) → IfOk result P → IfOk result Q
+if_ok-so (Ok value) P Q so is = so value is
+if_ok-so (Err stop) P Q so is = tt

@@ -20,5 +20,5 @@ pub use copies::{copy_of, data_at, fetch, output_at};
 pub use ext::{Ext, fee_in};
 pub use hashes::{meta_of, meta_with};
 pub use last_script::LastScript;
-pub use list_blocks::ListBlocks;
+pub use list_blocks::{ListBlocks, copied_ids};
 pub use row::{ROW_SIZE, put_row, read_row};

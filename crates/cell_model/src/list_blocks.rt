@@ -56,7 +56,18 @@ fn proposal_ids(alloc: Global, block: &BlockView<'_>) -> Result<Vec<[u8; 10]>, N
     Ok(ids)
 }
 
-/// The same of each block.
+/// A copy of proposal ids.
+pub fn copied_ids(alloc: Global, ids: &[[u8; 10]]) -> Result<Vec<[u8; 10]>, NoMemory>
+    ensures { IfOk result (λ copied. copied.items ≡ ids.now) }
+{
+    let mut copied = Vec::with_capacity(alloc, ids.len())?;
+    'ids: for i in 0..ids.len() {
+        copied.push(ids[i])?;
+    }
+    Ok(copied)
+}
+
+/// Those of each block.
 fn proposal_ids_of_all(alloc: Global, blocks: &[Vec<u8>]) -> Result<Vec<Vec<[u8; 10]>>, NoMemory>
     requires { All IsCanonical (contents blocks.now) }
     ensures { IfOk result (λ ids. id_lists ids.items ≡ all_ids blocks.now) }
@@ -165,9 +176,12 @@ impl Blocks for ListBlocks {
         }
     }
 
-    fn ids(&self) -> &[[u8; 10]] {
+    fn ids(&mut self) -> Result<Vec<[u8; 10]>, NoMemory> {
         match self.hand {
-            Some(e) => &self.ids[e as usize],
+            Some(e) => {
+                let ids = &self.ids[e as usize];
+                copied_ids(*ids.allocator(), ids)
+            }
             None => unreachable!(),
         }
     }

@@ -1,5 +1,5 @@
 // Where the bytes of kept blocks come from: the trait that the rules on cells, proposals and uncles read them by.
-ghost use Rattle.std.specs.Prelude.{◌≡◌, ◌-◌, ◌^◌, ◌<◌, ◌≤◌, Option, Some, None, Err, List, ℕ, length, map, drop, slice_get, OnOk, OnErr, IfSome, IsSome, IsTrue};
+ghost use Rattle.std.specs.Prelude.{◌≡◌, ◌-◌, ◌^◌, ◌<◌, ◌≤◌, Option, Some, None, Err, List, ℕ, length, map, drop, slice_get, IfOk, OnOk, OnErr, IfSome, IsSome, IsTrue};
 ghost use Rattle.chain_defs.specs.Hashes.{proposal_id};
 ghost use Rattle.cell_defs.specs.Ext.{is_ext};
 ghost use Rattle.outside.specs.declared.disk.Area.TheVariants.{Log};
@@ -9,7 +9,7 @@ ghost use Rattle.chain_tree.specs.Told.{Stored};
 ghost use Rattle.chain_tree.specs.Reading.{Findings, HasRead, stop_of};
 
 use mol_schema::BlockView;
-use outside::ReadStop;
+use outside::{NoMemory, ReadStop};
 
 /// The kept blocks with their exts, each by its place. One entry at a time is the current one: `bring` makes it so, and `block`,
 /// `spent` and `ids` give what it has. What is damaged stands in LOG, where the kept blocks are.
@@ -56,10 +56,13 @@ pub trait Blocks {
         ensures ext { IfSome (told self.now) (λ stored. IfSome (in_hand self.now) (λ e. IfSome (slice_get stored e) (λ it. result.now ≡ it.ext))) };
 
     /// The proposal ids of the transactions of the current entry after its first, in their order. A source hashes a
-    /// transaction once for them, when it takes its block.
-    fn ids(&self) -> &[[u8; 10]]
-        requires { IsSome (in_hand self.now) }
-        ensures { IfSome (told self.now) (λ stored. IfSome (in_hand self.now) (λ e. IfSome (slice_get stored e) (λ it. result.now ≡ map proposal_id (drop 1 it.block.transactions)))) };
+    /// transaction for them once while it has the block, when they are first asked for.
+    fn ids(&mut self) -> Result<Vec<[u8; 10]>, NoMemory>
+        requires { IsSome (in_hand self.old) }
+        ensures read { HasRead told count loans_of faults damages self.old self.new None }
+        ensures in_hand { in_hand self.new ≡ in_hand self.old }
+        ensures ids { IfOk result (λ ids. IfSome (told self.old) (λ stored. IfSome (in_hand self.old)
+            (λ e. IfSome (slice_get stored e) (λ it. ids.items ≡ map proposal_id (drop 1 it.block.transactions))))) };
 
     /// Takes why a reader stopped, where no call here did. Damage is then what was found last, since what a reader finds wrong
     /// in what it was given is damage like any other.

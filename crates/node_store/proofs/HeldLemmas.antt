@@ -1,8 +1,8 @@
 -- What a cache holds after its calls.
-use Rattle.std.proofs.Common.{◌≡◌, ℕ, ◌<◌, Bool, List, [], Option, Some, None, Result, Ok, Err, refl, sym, ap, subst, ⊎_elim, ◌∙◌, nat_eq, inl, inr}
+use Rattle.std.proofs.Common.{◌≡◌, ℕ, ◌<◌, Bool, true, false, cond, List, [], ◌∷◌, Option, Some, None, Result, Ok, Err, refl, sym, ap, subst, ⊎_elim, ◌∙◌, nat_eq, inl, inr}
 use Rattle.std.specs.Prelude.{is_some, IsTrue, IsSome, OnOk, OnErr}
 use Rattle.std.specs.Option.{option_map}
-use Rattle.std.specs.Map.{lookup_entry}
+use Rattle.std.specs.Map.{lookup_entry, set_value}
 use Rattle.std.specs.Cmp.{nat_eq_equiv}
 use Rattle.std.proofs.lemmas.Bool.{eqb-true}
 use Rattle.lru.specs.LruCache.{LruCache, lru_cache, promoted, put_entries}
@@ -37,6 +37,17 @@ promoted-found held e answer is found =
 
 pub nothing_new-form : (old new : List (ℕ × Stored)) → NothingNew old new → HaveForm old → HaveForm new
 nothing_new-form old new nothing form = λ e it there later. form e it (nothing e it there) later
+
+-- ---- One that is written over with what it was
+
+pub set-same : (held : List (ℕ × Stored)) (e : ℕ) (it : Stored) → held_at held e ≡ Some it → set_value (nat_eq e) held it ≡ held
+set-same [] e it is = refl
+set-same (p ∷ held) e it is = by_test (nat_eq e p.0) (λ later. set-same held e it later) is
+  where
+    by_test : (test : Bool) → (held_at held e ≡ Some it → set_value (nat_eq e) held it ≡ held) → cond test (Some p.1) (held_at held e) ≡ Some it
+        → cond test ((p.0, it) ∷ held) (p ∷ set_value (nat_eq e) held it) ≡ p ∷ held
+    by_test true rest same = let one : p.1 ≡ it = cc in ap (λ (v : Stored). (p.0, v) ∷ held) (sym one)
+    by_test false rest same = ap (λ (later : List (ℕ × Stored)). p ∷ later) (rest same)
 
 -- ---- One is put
 

@@ -20,7 +20,8 @@ use Rattle.chain_tree.specs.Told.{Stored}
 use Rattle.chain_tree.specs.declared.entry.Entry.{Entry}
 use Rattle.chain_tree.specs.Entries.{entry_at}
 use Rattle.node_store.specs.Stored.{with_ext, parts_in, beside, stored_in, stored_of, stored_at, put_first, all_stored, all_stored-length, known_by}
-use Rattle.node_store.specs.Held.{Holds, NothingNew, OnlyAdds, IsKept}
+use Rattle.node_store.specs.Held.{held_at, Holds, NothingNew, OnlyAdds, IsKept}
+use Rattle.node_store.proofs.HeldLemmas.{found-held}
 
 -- ---- Proposal ids by hashes
 
@@ -125,6 +126,17 @@ held-told None entries held hand e it P kept is holds so = tt
 held-told (Some image) entries held hand e it P kept is holds so =
     subst (λ (o : Option ℕ). IfSome (all_stored image 0 entries) (λ stored. IfSome o (λ place. IfSome (slice_get stored place) P))) (sym is)
     (told-at image entries e it P (all_stored image 0 entries) refl (kept e it holds) so)
+
+-- what is so of what is held for the current entry is so of what is known of it
+pub hand-told : (reads : Option Image) (entries : List Entry) (held : List (ℕ × Stored)) (hand : Option ℕ) (e : ℕ) (P : Stored → Type 0)
+    → IfSome reads (IsKept entries held) → hand ≡ Some e → IsSome (held_at held e) → IfSome (held_at held e) P
+    → IfSome (known_by reads entries) (λ stored. IfSome hand (λ place. IfSome (slice_get stored place) P))
+hand-told reads entries held hand e P kept is there so = by_held (held_at held e) refl there so
+  where
+    by_held : (found : Option Stored) → held_at held e ≡ found → IsSome found → IfSome found P
+        → IfSome (known_by reads entries) (λ stored. IfSome hand (λ place. IfSome (slice_get stored place) P))
+    by_held None none is_some holds = absurd cc
+    by_held (Some it) found is_some holds = held-told reads entries held hand e it P kept is (found-held held e it found) holds
 
 -- ---- What is held stays what LOG has
 

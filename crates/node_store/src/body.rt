@@ -8,6 +8,7 @@ ghost use Rattle.chain_defs.specs.Hashes.{transaction_hash};
 ghost use Rattle.cell_model.specs.ListBlocks.{ids_of, IsCanonical};
 ghost use Rattle.node_store.specs.Stored.{parts_in, stored_in};
 
+use cell_model::copied_ids;
 use log_file::{ext_form, parts};
 use mol_schema::BlockView;
 use outside::NoMemory;
@@ -15,19 +16,19 @@ use std::alloc::Global;
 use std::marker::Model;
 use view_hashes::{proposal_id, transaction_hash};
 
-/// The body of an entry whose block is canonical, with the proposal ids of its block. Clauses see the block and its
-/// ext; that of the genesis is empty.
+/// The body of an entry whose block is canonical, and the proposal ids of its block once they were asked for. Clauses see
+/// the block and its ext; that of the genesis is empty.
 #[derive(Drop)]
 pub struct KeptBody {
     bytes: Vec<u8>,
     /// The block is from here up to `end`, and the ext from there on.
     start: usize,
     end: usize,
-    ids: Vec<[u8; 10]>,
+    ids: Option<Vec<[u8; 10]>>,
 }
 
 impl Model for KeptBody {
-    ghost use Rattle.std.specs.Prelude.{◌≡◌, ◌-◌, ◌≤◌, length, take, drop};
+    ghost use Rattle.std.specs.Prelude.{◌≡◌, ◌-◌, ◌≤◌, length, take, drop, IfSome};
     ghost use Rattle.chain_defs.specs.Schema as schema;
     ghost use Rattle.chain_tree.specs.Told.{Stored};
     ghost use Rattle.cell_model.specs.ListBlocks.{ids_of, IsCanonical};
@@ -38,7 +39,7 @@ impl Model for KeptBody {
 
     ghost invariant = { λ body. (body.start ≤ body.end) × (body.end ≤ length body.bytes.items)
         × IsCanonical (take (body.end - body.start) (drop body.start body.bytes.items))
-        × (body.ids.items ≡ ids_of (schema.block.decoding (take (body.end - body.start) (drop body.start body.bytes.items)))) };
+        × IfSome body.ids (λ ids. ids.items ≡ ids_of (schema.block.decoding (take (body.end - body.start) (drop body.start body.bytes.items)))) };
 }
 
 /// The proposal ids of the transactions of a block after its first, in their order.
@@ -100,27 +101,26 @@ impl KeptBody {
             bytes,
             start: 0,
             end: block.len(),
-            ids,
+            ids: Some(ids),
         })
     }
 
     /// The body of the entry at a place, of its bytes. None where they are no body.
-    pub fn read(alloc: Global, place: u32, bytes: Vec<u8>) -> Result<Option<KeptBody>, NoMemory>
-        ensures { IfOk result (λ body. body ≡ stored_in place bytes.items) }
+    pub fn read(place: u32, bytes: Vec<u8>) -> Option<KeptBody>
+        ensures { result ≡ stored_in place bytes.items }
     {
         let Some((start, end)) = block_range(place, &bytes) else {
-            return Ok(None);
+            return None;
         };
-        let ids = match BlockView::read(&bytes[start..end]) {
-            Some(block) => proposal_ids(alloc, &block)?,
-            None => return Ok(None),
-        };
-        Ok(Some(KeptBody {
-            bytes,
-            start,
-            end,
-            ids,
-        }))
+        match BlockView::read(&bytes[start..end]) {
+            Some(_) => Some(KeptBody {
+                bytes,
+                start,
+                end,
+                ids: None,
+            }),
+            None => None,
+        }
     }
 
     /// The block.
@@ -137,10 +137,17 @@ impl KeptBody {
         &self.bytes[self.end..]
     }
 
-    /// The proposal ids of the block's transactions after the first.
-    pub(crate) fn ids(&self) -> &[[u8; 10]]
-        ensures { result.now ≡ ids_of self.now.block }
+    /// The proposal ids of the block's transactions after the first. Each of these is hashed for them at the first call.
+    pub(crate) fn ids(&mut self, alloc: Global) -> Result<Vec<[u8; 10]>, NoMemory>
+        ensures ids { IfOk result (λ ids. ids.items ≡ ids_of self.old.block) }
+        ensures same { self.new ≡ self.old }
     {
-        &self.ids
+        if let Some(ids) = &self.ids {
+            return copied_ids(alloc, ids);
+        }
+        let ids = proposal_ids(alloc, &self.block())?;
+        let answer = copied_ids(alloc, &ids)?;
+        self.ids = Some(ids);
+        Ok(answer)
     }
 }

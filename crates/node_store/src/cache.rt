@@ -2,6 +2,7 @@
 ghost use Rattle.std.specs.Prelude.{◌≡◌, ◌≤◌, ◌<◌, List, [], length, Option, Some, is_some, nat_eq, IfOk, IfSome, OnOk, OnErr, IsSome, IsTrue};
 ghost use Rattle.lru.specs.LruCache.{lru_cache, promoted, put_entries};
 ghost use Rattle.cell_defs.specs.Ext.{is_ext};
+ghost use Rattle.cell_model.specs.ListBlocks.{ids_of};
 ghost use Rattle.outside.specs.Image.{Image};
 ghost use Rattle.outside.specs.declared.disk.Damage.{Damage};
 ghost use Rattle.outside.specs.declared.disk.ReadStop.TheVariants.{Damaged};
@@ -77,6 +78,18 @@ impl Cache {
     {
         match self.bodies.peek(&e) {
             Some(body) => body,
+            None => unreachable!(),
+        }
+    }
+
+    /// The proposal ids of the body that is held for an entry.
+    pub(crate) fn ids(&mut self, alloc: Global, e: u32) -> Result<Vec<[u8; 10]>, NoMemory>
+        requires { IsSome (held_at self.old.held e) }
+        ensures ids { IfOk result (λ ids. IfSome (held_at self.old.held e) (λ it. ids.items ≡ ids_of it.block)) }
+        ensures same { self.new ≡ self.old }
+    {
+        match self.bodies.peek_mut(&e) {
+            Some(body) => body.ids(alloc),
             None => unreachable!(),
         }
     }

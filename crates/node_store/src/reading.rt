@@ -69,10 +69,9 @@ fn read_body<D: Disk>(
         Ok(bytes) => bytes,
         Err(stop) => return Err(stop),
     };
-    match KeptBody::read(alloc, place, bytes) {
-        Ok(Some(body)) => Ok(body),
-        Ok(None) => Err(damage_at(entry)),
-        Err(_) => Err(ReadStop::NoMemory),
+    match KeptBody::read(place, bytes) {
+        Some(body) => Ok(body),
+        None => Err(damage_at(entry)),
     }
 }
 

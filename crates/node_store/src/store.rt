@@ -14,7 +14,7 @@ use crate::cache::Cache;
 use crate::reading::load;
 use chain_tree::{Blocks, Tree};
 use mol_schema::BlockView;
-use outside::{Disk, ReadStop};
+use outside::{Disk, NoMemory, ReadStop};
 use std::alloc::Global;
 
 /// The kept blocks of a tree, as LOG has them. It borrows the disk, the tree of the entries, and a cache of what was
@@ -126,9 +126,9 @@ impl<'d, D: Disk> Blocks for Store<'d, D> {
         }
     }
 
-    fn ids(&self) -> &[[u8; 10]] {
+    fn ids(&mut self) -> Result<Vec<[u8; 10]>, NoMemory> {
         match self.hand {
-            Some(e) => self.cache.body(e).ids(),
+            Some(e) => self.cache.ids(self.alloc, e),
             None => unreachable!(),
         }
     }

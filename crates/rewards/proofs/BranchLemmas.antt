@@ -222,6 +222,13 @@ ids-there kept entries top height place ids indexes within at are =
 
 -- ---- The current block
 
+-- what is so of the current block is so of it still, where the same is known and the same is current
+pub held_still : (P : Stored → Type 0) {told now : Option (List Stored)} {hand later : Option ℕ} → now ≡ told → later ≡ hand
+    → IfSome told (λ all. IfSome hand (λ e. IfSome (slice_get all e) P)) → IfSome now (λ all. IfSome later (λ e. IfSome (slice_get all e) P))
+held_still P {told = told} {later = later} same same_hand is =
+    subst (λ (t : Option (List Stored)). IfSome t (λ all. IfSome later (λ e. IfSome (slice_get all e) P))) (sym same)
+    (subst (λ (h : Option ℕ). IfSome told (λ all. IfSome h (λ e. IfSome (slice_get all e) P))) (sym same_hand) is)
+
 -- what is so of the current block
 pub held : (P : Stored → Type 0) (stored : List Stored) (place : ℕ) (it : Stored) (told : Option (List Stored)) (hand : Option ℕ) → told ≡ Some stored
     → hand ≡ Some place → slice_get stored place ≡ Some it → IfSome told (λ all. IfSome hand (λ e. IfSome (slice_get all e) P)) → P it

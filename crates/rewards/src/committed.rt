@@ -58,8 +58,11 @@ fn add_at<B: Blocks>(
         Ok(()) => {}
         Err(stop) => return Err(stop),
     }
-    let ids = blocks.ids();
-    match add_all(committed, ids) {
+    let ids = match blocks.ids() {
+        Ok(ids) => ids,
+        Err(NoMemory) => return Err(ReadStop::NoMemory),
+    };
+    match add_all(committed, &ids) {
         Ok(()) => Ok(()),
         Err(_) => Err(ReadStop::NoMemory),
     }

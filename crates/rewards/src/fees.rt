@@ -24,7 +24,7 @@ use crate::places::place_at;
 use crate::starts::{Starts, is_started};
 use cell_model::fee_in;
 use chain_tree::{Blocks, Tree, damaged_at};
-use outside::ReadStop;
+use outside::{NoMemory, ReadStop};
 
 /// How many fees an ext has.
 fn fee_count(ext: &[u8]) -> u32
@@ -100,12 +100,15 @@ pub(crate) fn committed_at<B: Blocks>(
         Ok(()) => {}
         Err(stop) => return Err(stop),
     }
-    let ids = blocks.ids();
+    let ids = match blocks.ids() {
+        Ok(ids) => ids,
+        Err(NoMemory) => return Err(ReadStop::NoMemory),
+    };
     let ext = blocks.spent();
     if ids.len() > fee_count(ext) as usize {
         return Err(damaged_at(tree, blocks, place));
     }
-    Ok(committed(ids, ext))
+    Ok(committed(&ids, ext))
 }
 
 /// What they give to the proposer whose starts these are. Damaged as above.
@@ -130,10 +133,13 @@ pub(crate) fn proposed_at<B: Blocks>(
         Ok(()) => {}
         Err(stop) => return Err(stop),
     }
-    let ids = blocks.ids();
+    let ids = match blocks.ids() {
+        Ok(ids) => ids,
+        Err(NoMemory) => return Err(ReadStop::NoMemory),
+    };
     let ext = blocks.spent();
     if ids.len() > fee_count(ext) as usize {
         return Err(damaged_at(tree, blocks, place));
     }
-    Ok(proposed(starts, height, ids, ext))
+    Ok(proposed(starts, height, &ids, ext))
 }

@@ -27,17 +27,22 @@ fn tree_of(alloc: Global, bytes: &[u8]) -> Option<Tree> {
 }
 
 /// Of the current entry: the height, the length of the block, that of its ext and the count of its proposal ids.
-fn is_current<B: Blocks>(alloc: Global, blocks: &B, place: u32, row: &mut Row) -> Option<bool>
-    requires { B.in_hand blocks.now ≡ Some place }
+fn is_current<B: Blocks>(alloc: Global, blocks: &mut B, place: u32, row: &mut Row) -> Option<bool>
+    requires { B.in_hand blocks.old ≡ Some place }
+    ensures { B.count blocks.new ≡ B.count blocks.old }
 {
     let wanted = row.numbers(alloc)?;
+    let ids = match blocks.ids() {
+        Ok(ids) => ids.len(),
+        Err(_) => return None,
+    };
     let ext = if place == 0 { 0 } else { blocks.spent().len() };
     let block = blocks.block();
     Some(
         *wanted.first()? == block.header().number()
             && *wanted.get(1)? == block.bytes().len() as u64
             && *wanted.get(2)? == ext as u64
-            && *wanted.get(3)? == blocks.ids().len() as u64,
+            && *wanted.get(3)? == ids as u64,
     )
 }
 
