@@ -1,6 +1,6 @@
 // J18 to J30: the transactions of a block, one after the other.
 ghost use Rattle.std.specs.Prelude.{◌≡◌, ◌+◌, ◌-◌, ◌<◌, ◌^◌, ◌≤◌, ◌++◌, ◌∷◌, [], ℕ, nat_lt, pos, List, Some, Err, IfOk, OnOk, length, map};
-ghost use Rattle.std.specs.List.{filter};
+ghost use Rattle.std.specs.List.{All, filter};
 ghost use Rattle.chain_defs.specs.Schema.{OutPoint};
 ghost use Rattle.chain_defs.specs.Hashes.{transaction_hash};
 ghost use Rattle.chain_tree.specs.Told.{Stored, blocks_of};
@@ -10,7 +10,7 @@ ghost use Rattle.cell_defs.specs.Row.{row_after};
 ghost use Rattle.rule_defs.specs.Site.{Site};
 ghost use Rattle.tx_rules.specs.At.{IsAtParent, IsSiteOf};
 ghost use Rattle.chain_tree.specs.Blocks.{IsParent};
-ghost use Rattle.tx_rules.specs.Copying.{row_in};
+ghost use Rattle.tx_rules.specs.Copying.{ServesAgain, row_in};
 ghost use Rattle.verdict_defs.specs.Judged.{judged_transactions, judged_where};
 ghost use Rattle.rule_defs.specs.RuleNumber.{rule_number};
 ghost use Rattle.rule_defs.specs.declared.rule.Rule.{Rule};
@@ -26,13 +26,14 @@ use crate::context::Context;
 use crate::known::hash_of;
 use crate::spent::push_spent;
 use crate::stop::JudgeStop;
-use crate::transactions::{PassedTransaction, judge_transaction};
-use cell_model::{Cells, Ext};
+use crate::transactions::{PassedTransaction, Turn, judge_transaction};
+use cell_model::{Cells, Ext, Resolved};
 use chain_tree::Blocks;
 use mol_schema::{BlockView, TxView};
 use outside::{NoMemory, ReadStop};
 use proposal_window::Proposed;
 use std::alloc::Global;
+use std::mem;
 use tx_rules::{JudgedTx, Own, TxAt};
 use view_hashes::proposal_id;
 
@@ -45,7 +46,8 @@ pub(crate) struct Outcome {
     pub(crate) freed: u128,
 }
 
-/// What the transactions of a block so far leave: the cells that the next one sees, the cycles, and what they come to.
+/// What the transactions of a block so far leave: the cells that the next one sees, the cycles, what they come to, and the
+/// copies that the last one made of the cells of its deps.
 #[derive(Drop)]
 struct Progress<'a, C: Cells> {
     cells: BlockCells<'a, C>,
@@ -53,6 +55,7 @@ struct Progress<'a, C: Cells> {
     ext: Ext,
     interest: i128,
     freed: u128,
+    deps: Vec<Resolved>,
 }
 
 /// Puts a fee after those that are there.
@@ -89,6 +92,7 @@ impl<'a, C: Cells> Progress<'a, C> {
         ensures spent { IfOk result (λ progress. progress.ext.spent ≡ []) }
         ensures interest { IfOk result (λ progress. progress.interest ≡ pos 0) }
         ensures freed { IfOk result (λ progress. progress.freed ≡ 0) }
+        ensures deps { IfOk result (λ progress. progress.deps.items ≡ []) }
         ensures rows { IfOk result (λ progress. (height : ℕ) (o : OutPoint) → 0 < height
             → rows_in C.rows progress.cells o ≡ row_after (length at.now.entries) (events_of cellbase.now height 0) (C.rows cells.now) o) }
     {
@@ -104,6 +108,7 @@ impl<'a, C: Cells> Progress<'a, C> {
             },
             interest: 0,
             freed: 0,
+            deps: Vec::new(alloc),
         })
     }
 
@@ -147,6 +152,7 @@ impl<'a, C: Cells> Progress<'a, C> {
         requires hash { judged.now.hash ≡ transaction_hash judged.now.tx.now }
         requires few { AreFew place self.old.left self.old.interest self.old.freed }
         requires counts { B.count blocks.old ≡ length at.now.entries }
+        requires deps { All (ServesAgain (B.told blocks.old) at.now) self.old.deps.items }
         ensures read { HasRead B.told B.count B.loans_of B.faults B.damages blocks.old blocks.new (read_stop_of result) }
         ensures rule { (rule : Rule) → result ≡ Err (Broken rule) → IsTriedOnTransaction (rule_number rule) }
         ensures within { self.new.left ≤ self.old.left }
@@ -154,6 +160,7 @@ impl<'a, C: Cells> Progress<'a, C> {
         ensures fees { OnOk result (length self.new.ext.fees ≡ length self.old.ext.fees + 1) }
         ensures rows { OnOk result ((height : ℕ) (o : OutPoint) → 0 < height
             → rows_in C.rows self.new.cells o ≡ row_after (length at.now.entries) (events_of judged.now.tx.now height place) (rows_in C.rows self.old.cells) o) }
+        ensures deps { OnOk result (All (ServesAgain (B.told blocks.old) at.now) self.new.deps.items) }
 
         // At the site that its cells make.
         ensures exact { (stored : List Stored) (site : Site) → B.told blocks.old ≡ Some stored
@@ -161,14 +168,20 @@ impl<'a, C: Cells> Progress<'a, C> {
             → Answers (λ is _. AddsJudged (blocks_of stored) at.now.parent site is self.old self.new)
             (judged_where judged.now.proposed site self.old.left judged.now.tx.now) result }
     {
-        let passed = match judge_transaction(alloc, judged, at, &self.cells, blocks, self.left) {
+        let turn = Turn {
+            left: self.left,
+            before: mem::replace(&mut self.deps, Vec::new(alloc)),
+        };
+        let passed = match judge_transaction(alloc, judged, at, &self.cells, blocks, turn) {
             Ok(passed) => passed,
             Err(stop) => return Err(stop),
         };
         match self.take(judged.tx, &judged.hash, &passed, place, at.tree.len()) {
-            Ok(()) => Ok(()),
-            Err(_) => Err(JudgeStop::Read(ReadStop::NoMemory)),
+            Ok(()) => {}
+            Err(_) => return Err(JudgeStop::Read(ReadStop::NoMemory)),
         }
+        self.deps = passed.deps;
+        Ok(())
     }
 }
 

@@ -20,7 +20,7 @@ ghost use Rattle.block_judge.specs.Stops.{read_stop_of};
 
 use crate::context::Context;
 use crate::stop::JudgeStop;
-use crate::transactions::{PassedTransaction, judge_transaction};
+use crate::transactions::{PassedTransaction, Turn, judge_transaction};
 use cell_model::Cells;
 use chain_tree::Blocks;
 use mol_schema::TxView;
@@ -76,5 +76,9 @@ pub fn judge_appended<C: Cells, S: Cells, B: Blocks>(
         hash,
         proposed: true,
     };
-    judge_transaction(alloc, &judged, &at, so_far.cells, blocks, so_far.left)
+    let turn = Turn {
+        left: so_far.left,
+        before: Vec::new(alloc),
+    };
+    judge_transaction(alloc, &judged, &at, so_far.cells, blocks, turn)
 }

@@ -25,7 +25,7 @@ use crate::cellbase::forms_cellbase;
 use crate::context::Context;
 use crate::ending::judge_end;
 use crate::stop::JudgeStop;
-use crate::transactions::judge_transaction;
+use crate::transactions::{Turn, judge_transaction};
 use cell_model::{Cells, Ext};
 use chain_tree::Blocks;
 use mol_schema::{BlockView, TxView};
@@ -111,7 +111,11 @@ pub fn dry_run<C: Cells, B: Blocks>(
         hash: transaction_hash(tx),
         proposed: true,
     };
-    match judge_transaction(alloc, &judged, &at, context.cells, blocks, spec.max_cycles) {
+    let turn = Turn {
+        left: spec.max_cycles,
+        before: Vec::new(alloc),
+    };
+    match judge_transaction(alloc, &judged, &at, context.cells, blocks, turn) {
         Ok(passed) => Ok((passed.fee, passed.cycles)),
         Err(stop) => Err(stop),
     }

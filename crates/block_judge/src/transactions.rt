@@ -1,12 +1,13 @@
 // J18 to J30: one transaction.
 ghost use Rattle.std.specs.Prelude.{◌≡◌, ◌^◌, ◌<◌, ◌≤◌, true, List, Some, Err, IfOk, length};
-ghost use Rattle.std.specs.List.{sum_by};
+ghost use Rattle.std.specs.List.{All, sum_by};
 ghost use Rattle.chain_defs.specs.Hashes.{transaction_hash};
 ghost use Rattle.chain_tree.specs.Told.{Stored, blocks_of};
 ghost use Rattle.chain_tree.specs.Reading.{HasRead};
 ghost use Rattle.rule_defs.specs.Site.{Site};
 ghost use Rattle.rule_defs.specs.TransactionRules.{has_form};
 ghost use Rattle.tx_rules.specs.At.{IsAtParent, IsSiteOf, spends_rows};
+ghost use Rattle.tx_rules.specs.Copying.{ServesAgain};
 ghost use Rattle.verdict_defs.specs.Judged.{judged_where};
 ghost use Rattle.rule_defs.specs.RuleNumber.{rule_number};
 ghost use Rattle.rule_defs.specs.declared.rule.Rule.{Rule};
@@ -26,7 +27,7 @@ use std::alloc::Global;
 use tx_rules::{JudgedTx, TxAt, TxStop, resolve};
 
 /// A transaction that keeps its rules: its fee, the interest that it withdraws and what the cells occupy that it spends, in
-/// shannons; the cycles of its scripts, and the cells of its inputs.
+/// shannons; the cycles of its scripts, and the cells of its inputs and of its resolved deps.
 #[derive(Drop)]
 pub struct PassedTransaction {
     pub fee: u64,
@@ -34,6 +35,15 @@ pub struct PassedTransaction {
     pub freed: u128,
     pub cycles: u64,
     pub inputs: Vec<Resolved>,
+    pub deps: Vec<Resolved>,
+}
+
+/// What a transaction finds when it is its turn: the cycles that are left, and the copies that one before it at the same
+/// place made of the cells of its deps.
+#[derive(Drop)]
+pub(crate) struct Turn {
+    pub(crate) left: u64,
+    pub(crate) before: Vec<Resolved>,
 }
 
 /// What the cells of a transaction's inputs occupy, in shannons. It has below 2^32 of them.
@@ -67,14 +77,15 @@ pub(crate) fn judge_transaction<C: Cells, B: Blocks>(
     at: &TxAt<'_, '_, '_>,
     cells: &C,
     blocks: &mut B,
-    left: u64,
+    turn: Turn,
 ) -> Result<PassedTransaction, JudgeStop>
     requires hash { judged.now.hash ≡ transaction_hash judged.now.tx.now }
     requires placed { IsAtParent at.now }
-    requires left { left ≤ 2 ^ 40 }
+    requires left { turn.left ≤ 2 ^ 40 }
     requires counts { B.count blocks.old ≡ length at.now.entries }
+    requires before { All (ServesAgain (B.told blocks.old) at.now) turn.before.items }
     ensures read { HasRead B.told B.count B.loans_of B.faults B.damages blocks.old blocks.new (read_stop_of result) }
-    ensures fits { IfOk result (FitsWithin left) }
+    ensures fits { IfOk result (FitsWithin turn.left) }
     ensures rule { (rule : Rule) → result ≡ Err (Broken rule) → IsTriedOnTransaction (rule_number rule) }
     // J18 and J20, and the cells of its inputs, over any source of blocks.
     ensures by_rows { judged.now.proposed ≡ true → SaysByRows (has_form judged.now.tx.now) (spends_rows (C.rows cells.now) judged.now.tx.now) result }
@@ -82,9 +93,11 @@ pub(crate) fn judge_transaction<C: Cells, B: Blocks>(
     ensures alone { judged.now.proposed ≡ true → (rule : Rule) → result ≡ Err (Broken rule) → IsTriedAlone (rule_number rule) }
     // Over kept blocks that are known, at the site of the transaction.
     ensures exact { (stored : List Stored) (site : Site) → B.told blocks.old ≡ Some stored → IsSiteOf stored at.now (C.rows cells.now) site
-        → Answers (IsPassed (blocks_of stored) at.now.parent) (judged_where judged.now.proposed site left judged.now.tx.now) result }
+        → Answers (IsPassed (blocks_of stored) at.now.parent) (judged_where judged.now.proposed site turn.left judged.now.tx.now) result }
+    ensures again { IfOk result (λ passed. All (ServesAgain (B.told blocks.old) at.now) passed.deps.items) }
 {
-    let ok = match resolve(alloc, judged, at, cells, blocks) {
+    let Turn { left, before } = turn;
+    let ok = match resolve(alloc, judged, at, cells, blocks, before) {
         Ok(ok) => ok,
         Err(stop) => return Err(stopped(stop)),
     };
@@ -102,5 +115,6 @@ pub(crate) fn judge_transaction<C: Cells, B: Blocks>(
         freed: freed_with(judged.tx, &ok.resolved.inputs),
         cycles,
         inputs: ok.resolved.inputs,
+        deps: ok.resolved.deps,
     })
 }

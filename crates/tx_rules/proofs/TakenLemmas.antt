@@ -12,7 +12,7 @@ use Rattle.cell_model.specs.Copies.{ResolvedValue, IsCopyOf, CopiesOutput, Names
 use Rattle.cell_model.proofs.CopyLemmas.{named_output}
 use Rattle.rule_defs.specs.Site.{Site, Found}
 use Rattle.tx_rules.specs.At.{AtValue, IsSiteOf, AreSeen, found_row}
-use Rattle.tx_rules.specs.Copying.{IsFoundAt, IsBlockAt, IsCopyOfRow, CopiesItsRow, AreRowsCopied, HoldsOutput, row_in}
+use Rattle.tx_rules.specs.Copying.{IsFoundAt, IsBlockAt, IsCopyOfRow, CopiesItsRow, ServesAgain, AreRowsCopied, HoldsOutput, row_in}
 use Rattle.tx_rules.specs.Outcome.{Copies}
 use Rattle.tx_rules.proofs.SiteLemmas.{copied-of-kept}
 
@@ -222,3 +222,21 @@ pub taken-here : (told : Option (List Stored)) (at : AtValue) (rows : List (OutP
     → IfSome slot (IsCopyOfRow told at named)
 taken-here told at rows slots i named None taken here there = tt
 taken-here told at rows slots i named (Some copy) taken here there = taken i named copy here there
+
+-- ---- Copies that were made before
+
+-- each serves again
+pub copies-again : (told : Option (List Stored)) (at : AtValue) (rows : List (OutPoint × Row)) (copies : List ResolvedValue)
+    → AllZip (IsCopyOfRow told at) rows copies → All (ServesAgain told at) copies
+copies-again told at [] [] each = All-nil (ServesAgain told at)
+copies-again told at [] (c ∷ cs) each = absurd each
+copies-again told at (r ∷ rs) [] each = absurd each
+copies-again told at (r ∷ rs) (c ∷ cs) each =
+    All-cons (ServesAgain told at) c cs (subst (λ (named : OutPoint × Row). IsCopyOfRow told at named c) (sym each.0.row) each.0) (copies-again told at rs cs each.1)
+
+-- one is taken where it is that of the row there
+pub taken-again : (told : Option (List Stored)) (at : AtValue) (rows : List (OutPoint × Row)) (slots : List (Option ResolvedValue)) (i : ℕ) (named : OutPoint × Row)
+    (copy : ResolvedValue) → slice_get rows i ≡ Some named → row_in copy ≡ named → ServesAgain told at copy → AreRowsCopied told at rows slots
+    → AreRowsCopied told at rows (slice_set slots i (Some copy))
+taken-again told at rows slots i named copy here is again taken =
+    taken-one told at rows slots i named copy here (subst (λ (row : OutPoint × Row). IsCopyOfRow told at row copy) is again) taken

@@ -41,6 +41,10 @@ pub record IsCopyOfRow (told : Option (List Stored)) (at : AtValue) (named : Out
   pub copied : (stored : List Stored) (seen : OutPoint → Option Row) (site : Site) (found : Found) → told ≡ Some stored → IsSiteOf stored at seen site
       → IsFoundAt stored at.parent site found named → IsCopyOf found.cell copy
 
+-- A copy serves again wherever its row is named: it is that of its own row.
+abbrev pub ServesAgain : Option (List Stored) → AtValue → ResolvedValue → Type 0
+ServesAgain told at copy = IsCopyOfRow told at (row_in copy) copy
+
 -- each copy that is taken is that of the row at its place
 abbrev pub AreRowsCopied : Option (List Stored) → AtValue → List (OutPoint × Row) → List (Option ResolvedValue) → Type 0
 AreRowsCopied told at rows taken = (i : ℕ) (row : OutPoint × Row) (copy : ResolvedValue) → slice_get rows i ≡ Some row → slice_get taken i ≡ Some (Some copy)

@@ -11,8 +11,8 @@ ghost use Rattle.outside.specs.declared.disk.ReadStop.TheVariants.{DiskFault, Da
 ghost use Rattle.chain_tree.specs.Told.{Stored, blocks_of};
 ghost use Rattle.chain_tree.specs.Reading.{HasRead, stop_of};
 ghost use Rattle.rule_defs.specs.Site.{Site, Found};
-ghost use Rattle.tx_rules.specs.At.{IsAtParent, IsSiteOf, AreSeen, found_row};
-ghost use Rattle.tx_rules.specs.Copying.{IsFoundAt, IsBlockAt, IsCopyOfRow, CopiesItsRow, AreRowsCopied, row_in, HoldsOutput};
+ghost use Rattle.tx_rules.specs.At.{AtValue, IsAtParent, IsSiteOf, AreSeen, found_row};
+ghost use Rattle.tx_rules.specs.Copying.{IsFoundAt, IsBlockAt, IsCopyOfRow, CopiesItsRow, ServesAgain, AreRowsCopied, row_in, HoldsOutput};
 ghost use Rattle.tx_rules.specs.Outcome.{Copies};
 
 use crate::at::{Own, TxAt, damage_of};
@@ -179,14 +179,21 @@ struct Ordered<'r> {
     order: &'r [(u32, usize)],
 }
 
-/// The blocks of rows with the rows' places, those of one block side by side.
-fn by_block(alloc: Global, rows: &[(OutPoint, CellMeta)]) -> Result<Vec<(u32, usize)>, NoMemory>
+/// The blocks of rows of which no copy is taken, with the rows' places, those of one block side by side.
+fn by_block(
+    alloc: Global,
+    rows: &[(OutPoint, CellMeta)],
+    taken: &[Option<Resolved>],
+) -> Result<Vec<(u32, usize)>, NoMemory>
+    requires long { length taken.now ≡ length rows.now }
     ensures places { IfOk result (λ order. All (λ it. it.1 < length rows.now) order.items) }
 {
     let mut order = Vec::new(alloc);
     'rows: for i in 0..rows.len() {
-        let row = rows[i];
-        order.push((row.1.block, i))?;
+        if taken[i].is_none() {
+            let row = rows[i];
+            order.push((row.1.block, i))?;
+        }
     }
     order.sort_unstable();
     Ok(order)
@@ -209,6 +216,97 @@ fn none_taken(alloc: Global, count: usize) -> Result<Vec<Option<Resolved>>, NoMe
     'rows: for _ in 0..count {
         taken.push(None)?;
     }
+    Ok(taken)
+}
+
+/// Whether a copy is that of a row.
+fn is_of(row: &(OutPoint, CellMeta), copy: &Resolved) -> bool
+    ensures { IsTrue result → row_in copy.now ≡ row.now }
+{
+    row.0 == copy.out_point && row.1 == copy.meta
+}
+
+/// Takes a copy that was made before to a place, where it is that of the row there. Another one is let go.
+fn take_again(
+    rows: &[(OutPoint, CellMeta)],
+    i: usize,
+    copy: Resolved,
+    taken: &mut [Option<Resolved>],
+)
+    requires long { length taken.old ≡ length rows.now }
+    ensures long { length taken.new ≡ length rows.now }
+    ensures taken { (told : Option (List Stored)) (at : AtValue) → ServesAgain told at copy → AreRowsCopied told at rows.now taken.old → AreRowsCopied told at rows.now taken.new }
+{
+    if i < rows.len() && is_of(&rows[i], &copy) {
+        taken[i] = Some(copy);
+    }
+}
+
+/// Rows by the places of their cells, in order: the block, the transaction, the index, and the row's place. None where no
+/// copy was made before.
+fn by_cell(
+    alloc: Global,
+    rows: &[(OutPoint, CellMeta)],
+    before: &[Resolved],
+) -> Result<Vec<(u32, u32, u32, usize)>, NoMemory> {
+    let mut order = Vec::new(alloc);
+    if before.is_empty() {
+        return Ok(order);
+    }
+    'rows: for i in 0..rows.len() {
+        let row = rows[i];
+        order.push((row.1.block, row.1.tx, row.0.index, i))?;
+    }
+    order.sort_unstable();
+    Ok(order)
+}
+
+/// The place of the first row that may name the cell of a copy.
+fn place_of(order: &[(u32, u32, u32, usize)], copy: &Resolved) -> usize {
+    let first = (copy.meta.block, copy.meta.tx, copy.out_point.index, 0);
+    let found = match order.binary_search(&first) {
+        Ok(found) => found,
+        Err(after) => after,
+    };
+    if found < order.len() {
+        order[found].3
+    } else {
+        0
+    }
+}
+
+/// Takes the copies that were made before, each to the place of a row that it is the copy of. The others are let go.
+fn take_before(
+    rows: &[(OutPoint, CellMeta)],
+    order: &[(u32, u32, u32, usize)],
+    before: Vec<Resolved>,
+    taken: &mut [Option<Resolved>],
+)
+    requires long { length taken.old ≡ length rows.now }
+    ensures long { length taken.new ≡ length rows.now }
+    ensures taken { (told : Option (List Stored)) (at : AtValue) → All (ServesAgain told at) before.items → AreRowsCopied told at rows.now taken.old → AreRowsCopied told at rows.now taken.new }
+{
+    let mut before = before;
+    'copies: for _ in 0..before.len() {
+        if let Some(copy) = before.pop() {
+            let i = place_of(order, &copy);
+            take_again(rows, i, copy, taken);
+        }
+    }
+}
+
+/// A place for the copy of each row, with the copies that were made before and serve again.
+fn taken_before(
+    alloc: Global,
+    rows: &[(OutPoint, CellMeta)],
+    before: Vec<Resolved>,
+) -> Result<Vec<Option<Resolved>>, NoMemory>
+    ensures long { IfOk result (λ taken. length taken.items ≡ length rows.now) }
+    ensures taken { (told : Option (List Stored)) (at : AtValue) → All (ServesAgain told at) before.items → IfOk result (λ taken. AreRowsCopied told at rows.now taken.items) }
+{
+    let mut taken = none_taken(alloc, rows.len())?;
+    let cells = by_cell(alloc, rows, &before)?;
+    take_before(rows, &cells, before, &mut taken);
     Ok(taken)
 }
 
@@ -381,19 +479,23 @@ fn copy_each<B: Blocks>(
     Ok(copies)
 }
 
-/// Copies of the cells of rows, in their order. A kept block is read once, also where it made several of them.
+/// Copies of the cells of rows, in their order. A kept block is read once, also where it made several of them, and not
+/// for a copy that was made before: that of a row is taken, and the others are let go before anything is read.
 pub(crate) fn fetch_all<B: Blocks>(
     alloc: Global,
     at: &TxAt<'_, '_, '_>,
     blocks: &mut B,
     rows: &[(OutPoint, CellMeta)],
+    before: Vec<Resolved>,
 ) -> Result<Vec<Resolved>, ReadStop>
     requires placed { IsAtParent at.now }
     requires counts { B.count blocks.old ≡ length at.now.entries }
+    requires before { All (ServesAgain (B.told blocks.old) at.now) before.items }
     ensures read { HasRead B.told B.count B.loans_of B.faults B.damages blocks.old blocks.new (stop_of result) }
     ensures rows { IfOk result (λ copies. map row_in copies.items ≡ rows.now) }
     ensures outputs { IfOk result (λ copies. All HoldsOutput copies.items) }
     ensures of_rows { IfOk result (λ copies. All (CopiesItsRow (B.told blocks.old) at.now) copies.items) }
+    ensures again { IfOk result (λ copies. All (ServesAgain (B.told blocks.old) at.now) copies.items) }
     ensures copied { (stored : List Stored) (seen : OutPoint → Option Row) (site : Site) (founds : List Found) → B.told blocks.old ≡ Some stored
         → IsSiteOf stored at.now seen site → AreSeen site founds → rows.now ≡ map (found_row (blocks_of stored) at.now.parent) founds
         → IfOk result (λ copies. AllZip (Copies (blocks_of stored) at.now.parent) founds copies.items) }
@@ -401,10 +503,10 @@ pub(crate) fn fetch_all<B: Blocks>(
         → IsSiteOf stored at.now seen site → AreSeen site founds → rows.now ≡ map (found_row (blocks_of stored) at.now.parent) founds
         → (damage : Damage) → result ≡ Err (Damaged damage) → ⊥ }
 {
-    let Ok(order) = by_block(alloc, rows) else {
+    let Ok(mut taken) = taken_before(alloc, rows, before) else {
         return Err(ReadStop::NoMemory);
     };
-    let Ok(mut taken) = none_taken(alloc, rows.len()) else {
+    let Ok(order) = by_block(alloc, rows, &taken) else {
         return Err(ReadStop::NoMemory);
     };
     match take_several(alloc, at, blocks, rows, &order, &mut taken) {

@@ -18,7 +18,7 @@ ghost use Rattle.tx_rules.specs.At.{AtValue, IsAtParent, IsSiteOf, found_row, in
 ghost use Rattle.tx_rules.specs.Steps.{spending_rules, naming_rules, using_rules, finding_rules, paying_rules, AnswersBy, AnswersWith, Stops, StopsLater, IsLater, AreNamed, AreFound, AreCopied, Pays, ResolvesTo};
 ghost use Rattle.tx_rules.specs.declared.resolving.TxStop.TheVariants.{Read};
 ghost use Rattle.tx_rules.specs.Reading.{read_stop, read_stop_of};
-ghost use Rattle.tx_rules.specs.Copying.{row_in, CopiesItsRow, HoldsOutput};
+ghost use Rattle.tx_rules.specs.Copying.{row_in, CopiesItsRow, ServesAgain, HoldsOutput};
 ghost use Rattle.tx_rules.specs.Outcome.{Copies, FollowsRows, IsFormed, IsTried, rules_to_27};
 
 use crate::age::{are_mature, meets_each_since};
@@ -284,16 +284,19 @@ fn find<C: Cells, B: Blocks>(
     }
 }
 
-/// J26 and J27, over copies of the cells of its inputs; then copies of those of its resolved deps.
+/// J26 and J27, over copies of the cells of its inputs; then copies of those of its resolved deps, for which some may
+/// serve that were made before.
 fn copy_cells<B: Blocks>(
     alloc: Global,
     tx: &TxView<'_>,
     at: &TxAt<'_, '_, '_>,
     blocks: &mut B,
     finding: &Finding,
+    before: Vec<Resolved>,
 ) -> Result<Copying, TxStop>
     requires placed { IsAtParent at.now }
     requires counts { B.count blocks.old ≡ length at.now.entries }
+    requires before { All (ServesAgain (B.told blocks.old) at.now) before.items }
     requires each { length finding.now.spent.items ≡ length tx.now.raw.inputs }
     ensures read { HasRead B.told B.count B.loans_of B.faults B.damages blocks.old blocks.new (read_stop_of result) }
     ensures fits { IfOk result (λ it. nat_abs it.balance.interest < 2 ^ 96) }
@@ -305,8 +308,9 @@ fn copy_cells<B: Blocks>(
     ensures rows { IfOk result (λ it. map row_in it.inputs.items ≡ finding.now.spent.items) }
     ensures outputs { IfOk result (λ it. All HoldsOutput (it.inputs.items ++ it.deps.items)) }
     ensures of_rows { IfOk result (λ it. All (CopiesItsRow (B.told blocks.old) at.now) (it.inputs.items ++ it.deps.items)) }
+    ensures again { IfOk result (λ it. All (ServesAgain (B.told blocks.old) at.now) it.deps.items) }
 {
-    let inputs = match fetch_all(alloc, at, blocks, &finding.spent) {
+    let inputs = match fetch_all(alloc, at, blocks, &finding.spent, Vec::new(alloc)) {
         Ok(inputs) => inputs,
         Err(stop) => return Err(TxStop::Read(stop)),
     };
@@ -317,7 +321,7 @@ fn copy_cells<B: Blocks>(
             return Err(stop);
         }
     };
-    match fetch_all(alloc, at, blocks, &finding.named) {
+    match fetch_all(alloc, at, blocks, &finding.named, before) {
         Ok(deps) => Ok(Copying {
             inputs,
             deps,
@@ -327,20 +331,24 @@ fn copy_cells<B: Blocks>(
     }
 }
 
-/// Tries the rules on one transaction in their order.
+/// Tries the rules on one transaction in their order. Copies of deps that were made before, for a transaction at the same
+/// place and over the same blocks, serve again where the same cell is named: that one is not read.
 pub fn resolve<'a, C: Cells, B: Blocks>(
     alloc: Global,
     judged: &JudgedTx<'_, 'a>,
     at: &TxAt<'_, '_, '_>,
     cells: &C,
     blocks: &mut B,
+    before: Vec<Resolved>,
 ) -> Result<TxOk<'a>, TxStop>
     requires hash { judged.now.hash ≡ transaction_hash judged.now.tx.now }
     requires placed { IsAtParent at.now }
     requires counts { B.count blocks.old ≡ length at.now.entries }
+    requires before { All (ServesAgain (B.told blocks.old) at.now) before.items }
     ensures read { HasRead B.told B.count B.loans_of B.faults B.damages blocks.old blocks.new (read_stop_of result) }
     ensures formed { IfOk result (λ ok. IsFormed at.now.entries judged.now.tx.now ok.resolved) }
     ensures of_rows { IfOk result (λ ok. All (CopiesItsRow (B.told blocks.old) at.now) (ok.resolved.inputs ++ ok.resolved.deps)) }
+    ensures again { IfOk result (λ ok. All (ServesAgain (B.told blocks.old) at.now) ok.resolved.deps) }
     ensures tried { (rule : Rule) → result ≡ Err (TxStop.Broken rule) → IsTried judged.now.proposed (rule_number rule) }
     ensures by_rows { FollowsRows judged.now.proposed (C.rows cells.now) judged.now.tx.now result }
 
@@ -355,7 +363,7 @@ pub fn resolve<'a, C: Cells, B: Blocks>(
         Ok(found) => found,
         Err(stop) => return Err(stop),
     };
-    let copied = match copy_cells(alloc, judged.tx, at, blocks, &found) {
+    let copied = match copy_cells(alloc, judged.tx, at, blocks, &found, before) {
         Ok(copied) => copied,
         Err(stop) => return Err(stop),
     };

@@ -79,7 +79,7 @@ fn answer(
         hash: transaction_hash(tx),
         proposed: true,
     };
-    let resolved = resolve(alloc, &judged, at, state, blocks);
+    let resolved = resolve(alloc, &judged, at, state, blocks, Vec::new(alloc));
     text_of(alloc, &resolved)
 }
 

@@ -1,10 +1,13 @@
-use Rattle.std.proofs.Common.{◌≡◌, ℕ, Result, subst, ◌-◌, ◌≤◌, Some, Err, refl, ap, ◌∙◌, length, arith, rules}
+use Rattle.std.proofs.Common.{◌≡◌, ℕ, List, [], Option, Result, subst, sym, ◌-◌, ◌≤◌, Some, Err, refl, ap, ◌∙◌, length, arith, rules}
+use Rattle.std.specs.List.{All}
+use Rattle.std.proofs.lemmas.List.Elements.{All-nil, All-same}
 use Rattle.std.specs.Prelude.{IsOkAnd}
 use Rattle.std.specs.Int.{w128}
 use Rattle.std.proofs.lemmas.Int.{to_z-of_z}
 use Rattle.chain_defs.specs.Branch.{branch}
-use Rattle.chain_tree.specs.Told.{blocks_of}
+use Rattle.chain_tree.specs.Told.{Stored, blocks_of}
 use Rattle.tx_rules.specs.At.{AtValue}
+use Rattle.tx_rules.specs.Copying.{ServesAgain}
 use Rattle.rule_defs.specs.Site.{site_at}
 use Rattle.verdict_defs.specs.Judged.{Passed, judged_transactions}
 use Rattle.block_judge.specs.Answers.{AddsJudged, StopsAs}
@@ -20,6 +23,10 @@ use Rattle.block_judge.proofs.all_transactions.judge_transactions.Goals as goal
 pub judge_next-requires-clause-few : goal.judge_next-requires-clause-few
 judge_next-requires-clause-few g c =
     record { few = omega (arith, c.later-test.true, c.transactions_count-count.ensures.value); left_fits = c.later.invariant.left; moves = c.later.invariant.moves }
+
+pub judge_next-requires-clause-deps : goal.judge_next-requires-clause-deps
+judge_next-requires-clause-deps g c =
+    subst (λ (told : Option (List Stored)). All (ServesAgain told c.at) c.later.progress.deps.items) (sym c.later.invariant.read.told) c.later.invariant.deps
 
 pub returns-then-count-eq1 : goal.returns-then-count-eq1
 returns-then-count-eq1 g c =
@@ -59,6 +66,7 @@ later-init g c = record {
   within = omega (arith, c.requires.some);
   moves = can-move-none 1 c.in-Ok-after_cellbase.progress.interest c.in-Ok-after_cellbase.progress.freed c.in-Ok-after_cellbase.ensures.interest c.in-Ok-after_cellbase.ensures.freed;
   fees = omega (arith, ap length c.in-Ok-after_cellbase.ensures.fees);
+  deps = All-same _ c.in-Ok-after_cellbase.progress.deps.items [] c.in-Ok-after_cellbase.ensures.deps (All-nil _);
   rows = rows-after_more _ c.args.block.now 0 c.transactions_item-cellbase.result (g.C.Cells.rows c.args.context.now.cells.now) (g.C.Cells.rows c.args.context.now.cells.now) _
       (rows-after_none _ c.args.block.now (g.C.Cells.rows c.args.context.now.cells.now) (g.C.Cells.rows c.args.context.now.cells.now) (λ o. refl)) c.transactions_item-cellbase.ensures
       (λ height o above. c.in-Ok-after_cellbase.ensures.rows height o above);
@@ -75,6 +83,8 @@ later-preserved g c = record {
   within = omega (arith, c.later-test.true, c.transactions_count-count.ensures.value);
   moves = c.in-Ok-judge_next.ensures.moved;
   fees = omega (arith, c.in-Ok-judge_next.ensures.fees, c.later.invariant.fees);
+  deps =
+      subst (λ (told : Option (List Stored)). All (ServesAgain told c.at) c.judge_next.new.self.deps.items) c.later.invariant.read.told c.in-Ok-judge_next.ensures.deps;
   rows = rows-after_more _ c.args.block.now c.later.place c.transactions_item-tx.result (g.C.Cells.rows c.args.context.now.cells.now)
       (rows_in g.C.Cells.rows c.later.progress.cells) _
       c.later.invariant.rows c.transactions_item-tx.ensures (λ height o above. c.in-Ok-judge_next.ensures.rows height o above);

@@ -1,5 +1,6 @@
 use Rattle.std.proofs.Common.{Some, refl, ap, subst}
-use Rattle.std.specs.Prelude.{ℕ, Result, IfOk}
+use Rattle.std.proofs.lemmas.List.Elements.{All-nil, All-same}
+use Rattle.std.specs.Prelude.{[], ℕ, Result, IfOk}
 use Rattle.chain_defs.specs.Schema.{Block}
 use Rattle.chain_defs.specs.Branch.{branch}
 use Rattle.chain_tree.specs.Told.{blocks_of}
@@ -30,3 +31,6 @@ returns g c =
           (c.judge_transaction.ensures.exact stored site tells
           (site-next stored at c.args.so_far.now.timestamp c.args.so_far.now.transactions.now (g.C.Cells.rows c.args.context.now.cells.now) (g.S.Cells.rows c.args.so_far.now.cells.now) (ap Some c.so_far.ensures) sees.stands sees.rows_are));
     }
+
+pub judge_transaction-requires-clause-before : goal.judge_transaction-requires-clause-before
+judge_transaction-requires-clause-before g c = All-same _ c.new.result.items [] c.new.ensures.items (All-nil _)

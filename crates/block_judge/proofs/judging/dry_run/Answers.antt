@@ -1,5 +1,6 @@
 use Rattle.std.proofs.Common.{◌≤◌, ℕ, Result, None, refl, ap, ◌∙◌, subst}
-use Rattle.std.specs.Prelude.{IsOkAnd}
+use Rattle.std.proofs.lemmas.List.Elements.{All-nil, All-same}
+use Rattle.std.specs.Prelude.{[], IsOkAnd}
 use Rattle.chain_defs.specs.Specification.{Specification}
 use Rattle.chain_defs.specs.Branch.{branch}
 use Rattle.chain_tree.specs.Told.{blocks_of}
@@ -41,3 +42,6 @@ returns-in-Ok g c =
           (judged-unasked site _ c.args.tx.now ∙ ap (λ (s : Specification). judged_alone site s.max_cycles c.args.tx.now) c.spec.view_is)
           (c.in-Ok.ensures.exact stored site tells (site-alone stored at (g.C.Cells.rows c.args.context.now.cells.now) refl stands)));
     }
+
+pub judge_transaction-requires-clause-before : goal.judge_transaction-requires-clause-before
+judge_transaction-requires-clause-before g c = All-same _ c.new.result.items [] c.new.ensures.items (All-nil _)

@@ -1,11 +1,11 @@
-use Rattle.std.proofs.Common.{List, Option, Some, Err, length, ap, subst, sym, ◌∙◌}
+use Rattle.std.proofs.Common.{List, [], Option, Some, Err, length, ap, subst, sym, ◌∙◌}
 use Rattle.std.specs.List.{All, AllZip}
 use Rattle.std.proofs.lemmas.List.{length-map}
-use Rattle.std.proofs.lemmas.List.Elements.{All-append}
+use Rattle.std.proofs.lemmas.List.Elements.{All-append, All-nil, All-same}
 use Rattle.cell_model.specs.Copies.{ResolvedValue}
 use Rattle.chain_tree.specs.Told.{Stored, blocks_of}
 use Rattle.rule_defs.specs.Resolving.{inputs, deps}
-use Rattle.tx_rules.specs.Copying.{row_in, CopiesItsRow, HoldsOutput}
+use Rattle.tx_rules.specs.Copying.{row_in, CopiesItsRow, ServesAgain, HoldsOutput}
 use Rattle.tx_rules.specs.Outcome.{Copies}
 use Rattle.tx_rules.specs.Steps.{paying_rules}
 use Rattle.chain_tree.proofs.ReadLemmas.{read_on}
@@ -31,6 +31,7 @@ returns-in-Err g c = record {
   rows = tt;
   outputs = tt;
   of_rows = tt;
+  again = tt;
 }
 
 pub returns-in-Err-paid_by : goal.returns-in-Err-paid_by
@@ -46,6 +47,7 @@ returns-in-Err-paid_by g c = record {
   rows = tt;
   outputs = tt;
   of_rows = tt;
+  again = tt;
 }
 
 pub returns-in-Err-fetch_all : goal.returns-in-Err-fetch_all
@@ -60,6 +62,7 @@ returns-in-Err-fetch_all g c = record {
   rows = tt;
   outputs = tt;
   of_rows = tt;
+  again = tt;
 }
 
 pub returns-in-Ok-fetch_all : goal.returns-in-Ok-fetch_all
@@ -86,4 +89,10 @@ returns-in-Ok-fetch_all g c = record {
   of_rows =
       All-append (CopiesItsRow (g.B.Blocks.told c.args.blocks.now) c.args.at.now) c.in-Ok.inputs.items c.in-Ok-fetch_all.deps.items c.in-Ok.ensures.of_rows
       (subst (λ (told : Option (List Stored)). All (CopiesItsRow told c.args.at.now) c.in-Ok-fetch_all.deps.items) c.in-Ok.ensures.read.told c.in-Ok-fetch_all.ensures.of_rows);
+  again =
+      subst (λ (told : Option (List Stored)). All (ServesAgain told c.args.at.now) c.in-Ok-fetch_all.deps.items) c.in-Ok.ensures.read.told c.in-Ok-fetch_all.ensures.again;
 }
+
+pub fetch_all-requires-clause-before : goal.fetch_all-requires-clause-before
+fetch_all-requires-clause-before g c =
+    subst (λ (told : Option (List Stored)). All (ServesAgain told c.args.at.now) c.args.before.items) (sym c.in-Ok.ensures.read.told) c.requires.before

@@ -5,7 +5,7 @@ use Rattle.std.proofs.lemmas.Int.{to_z-of_z}
 use Rattle.chain_defs.specs.Schema.{CellInput}
 use Rattle.chain_tree.specs.Told.{Stored}
 use Rattle.tx_rules.specs.At.{find_row}
-use Rattle.tx_rules.specs.Copying.{CopiesItsRow}
+use Rattle.tx_rules.specs.Copying.{CopiesItsRow, ServesAgain}
 use Rattle.tx_rules.proofs.AllThere.{all_there-long}
 use Rattle.tx_rules.specs.Steps.{finding_rules, paying_rules}
 use Rattle.outside.proofs.Endings.{no_answer}
@@ -27,6 +27,7 @@ returns-in-Err g c = record {
   read = c.in-Err.ensures.read;
   formed = tt;
   of_rows = tt;
+  again = tt;
   tried = λ rule same. tried-of c.args.judged.now.proposed _ rule c.in-Err.ensures.stops same;
   by_rows = follows-on c.args.judged.now.proposed (g.C.Cells.rows c.args.cells.now) c.args.judged.now.tx.now c.in-Err.stop c.in-Err.ensures.by_rows;
   fits = tt;
@@ -39,6 +40,7 @@ returns-in-Err-copy_cells g c = record {
   read = read_on c.in-Ok.ensures.read c.in-Err-copy_cells.ensures.read;
   formed = tt;
   of_rows = tt;
+  again = tt;
   tried = λ rule same. tried-of c.args.judged.now.proposed _ rule (later-stops c.args.judged.now.proposed c.in-Err-copy_cells.stop c.in-Err-copy_cells.ensures.later) same;
   by_rows = follows-behind c.args.judged.now.proposed (g.C.Cells.rows c.args.cells.now) c.args.judged.now.tx.now c.in-Ok.found _ c.in-Ok.ensures.by_rows c.in-Err-copy_cells.ensures.later;
   fits = tt;
@@ -62,6 +64,9 @@ returns g c = record {
   of_rows =
       subst (λ (told : Option (List Stored)). All (CopiesItsRow told c.args.at.now) (c.in-Ok-copy_cells.copied.inputs.items ++ c.in-Ok-copy_cells.copied.deps.items))
       c.in-Ok.ensures.read.told c.in-Ok-copy_cells.ensures.of_rows;
+  again =
+      subst (λ (told : Option (List Stored)). All (ServesAgain told c.args.at.now) c.in-Ok-copy_cells.copied.deps.items)
+      c.in-Ok.ensures.read.told c.in-Ok-copy_cells.ensures.again;
   tried = λ rule same. absurd (no_answer _ _ same);
   by_rows = follows-behind c.args.judged.now.proposed (g.C.Cells.rows c.args.cells.now) c.args.judged.now.tx.now c.in-Ok.found _ c.in-Ok.ensures.by_rows tt;
   fits =
@@ -77,3 +82,7 @@ returns g c = record {
         },
       );
 }
+
+pub copy_cells-requires-clause-before : goal.copy_cells-requires-clause-before
+copy_cells-requires-clause-before g c =
+    subst (λ (told : Option (List Stored)). All (ServesAgain told c.args.at.now) c.args.before.items) (sym c.in-Ok.ensures.read.told) c.requires.before

@@ -23,28 +23,31 @@ returns-in-Err g c = record {
   moved = tt;
   fees = tt;
   rows = tt;
+  deps = tt;
   exact = λ stored site told is. c.in-Err.ensures.exact stored site told is;
 }
 
-pub returns : goal.returns
-returns g c = record {
+pub returns-in-Err-take : goal.returns-in-Err-take
+returns-in-Err-take g c = record {
   read = read_short c.in-Ok.ensures.read;
   rule = λ rule same. absurd (no_rule same);
   within = c.take.ensures.within;
   moved = tt;
   fees = tt;
   rows = tt;
+  deps = tt;
   exact = λ stored site told is. tt;
 }
 
-pub returns-in-Ok-take : goal.returns-in-Ok-take
-returns-in-Ok-take g c = record {
+pub returns : goal.returns
+returns g c = record {
   read = c.in-Ok.ensures.read;
   rule = λ rule same. absurd (no_error same);
   within = c.take.ensures.within;
   moved = c.in-Ok-take.ensures.moved;
   fees = ap length c.in-Ok-take.ensures.taken.fees_are ∙ length_push _ _;
   rows = search rules;
+  deps = c.in-Ok.ensures.again;
   exact = λ stored site told is.
       is-taken stored c.args.at.now _ site c.args.self.now.left c.args.judged.now.tx.now c.args.judged.now.proposed c.in-Ok.passed c.len.result _ _ c.requires.placed.parent is
       (c.len.ensures.len ∙ ap (λ at. length at.entries) c.at.view_is) (c.in-Ok.ensures.exact stored site told is) c.in-Ok-take.ensures.taken;
