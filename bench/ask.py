@@ -10,7 +10,7 @@ at: `header` has the height that was asked, `cell` and `transaction` are of tran
 open, with as many blocks in memory as it may have: how much more is resident once a first `transaction` was answered, for
 each transaction of the best branch. The
 status is 1 where `cell` or `header` takes more than 20 microseconds each, `transaction` more than 50 after the first, or the
-index more than 60 bytes a transaction and half a megabyte.
+index more than 60 bytes a transaction.
 """
 
 import argparse
@@ -29,8 +29,7 @@ sys.path.insert(0, os.path.join(HERE, '..', 'examples'))
 from encoding import ckbhash, fields_of  # noqa: E402
 
 MOST = {'header': 20.0, 'cell': 20.0, 'transaction': 50.0}
-# of the index: for each transaction, and what the reading of all blocks leaves beside it
-MOST_BYTES, BESIDE = 60, 1 << 19
+MOST_BYTES = 60
 # so many blocks a node holds
 HELD = 64
 
@@ -100,7 +99,7 @@ def measure(a, work):
         passed &= each <= most
     size, count = held(a, folder, kinds['first'][0]), count_of(a, folder, made)
     print('%d bytes more for %d transactions: %.1f each' % (size, count, size / count))
-    return 0 if passed and size <= MOST_BYTES * count + BESIDE else 1
+    return 0 if passed and size <= MOST_BYTES * count else 1
 
 
 def count_of(a, folder, made):
