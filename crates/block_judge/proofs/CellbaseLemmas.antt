@@ -6,7 +6,7 @@ use Rattle.std.proofs.lemmas.Bool.{or_left}
 use Rattle.std.proofs.lemmas.Option.{same_Some}
 use Rattle.chain_defs.specs.Schema.{OutPoint, CellOutput, Transaction, Block}
 use Rattle.chain_defs.specs.Hashes.{transaction_hash, are_distinct}
-use Rattle.cell_defs.specs.Cell.{Cell}
+use Rattle.chain_defs.specs.Cell.{Cell}
 use Rattle.chain_defs.proofs.WalkLemmas.{drop-there}
 use Rattle.rule_defs.specs.Cellbase.{is_cellbase, begins_with_cellbase, has_cellbase, is_well_formed_cellbase, is_first_well_formed, forms_cellbase}
 

@@ -7,10 +7,10 @@ use Rattle.std.proofs.lemmas.Bool.{ne_eqb}
 use Rattle.std.proofs.lemmas.Option.{slice_get_within}
 use Rattle.chain_defs.specs.Schema.{OutPoint, CellInput, CellOutput, RawTransaction, Transaction}
 use Rattle.chain_defs.specs.Hashes.{transaction_hash}
-use Rattle.cell_defs.specs.Cell.{data_of}
-use Rattle.cell_defs.specs.Events.{Event, Makes, Spends, names, same_out_point, last_naming, makes_from, makes_of, spends_of, events_of}
-use Rattle.cell_defs.specs.Row.{Row, row_of, row_left, row_or, row_after}
-use Rattle.cell_defs.proofs.EventLemmas.{last_naming-push, last_naming-append}
+use Rattle.chain_defs.specs.Cell.{data_of}
+use Rattle.chain_defs.specs.Events.{Event, Makes, Spends, names, same_out_point, last_naming, makes_from, makes_of, spends_of, events_of}
+use Rattle.chain_defs.specs.Row.{Row, row_of, row_left, row_or, row_after}
+use Rattle.chain_defs.proofs.EventLemmas.{last_naming-push, last_naming-append}
 use Rattle.tx_rules.proofs.AllThere.{take-push}
 use Rattle.block_judge.specs.Changes.{Changed, changed_or, change_at, with_changes}
 

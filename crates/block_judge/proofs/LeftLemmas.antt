@@ -7,9 +7,9 @@ use Rattle.chain_defs.specs.Schema.{OutPoint, Block}
 use Rattle.chain_defs.specs.First.{first_failing}
 use Rattle.chain_defs.specs.Branch.{branch}
 use Rattle.chain_tree.specs.Told.{Stored, blocks_of}
-use Rattle.cell_defs.specs.Cell.{Cell}
-use Rattle.cell_defs.specs.Events.{live_cell}
-use Rattle.cell_defs.specs.Ext.{Ext}
+use Rattle.chain_defs.specs.Cell.{Cell}
+use Rattle.chain_defs.specs.Events.{live_cell}
+use Rattle.chain_defs.specs.Ext.{Ext}
 use Rattle.rule_defs.specs.Cellbase.{forms_cellbase}
 use Rattle.rule_defs.specs.RewardRules.{end_rules}
 use Rattle.rule_defs.specs.RuleNumber.{rule_number}

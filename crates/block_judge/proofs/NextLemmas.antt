@@ -13,10 +13,10 @@ use Rattle.chain_defs.specs.Branch.{branch}
 use Rattle.chain_defs.specs.Hashes.{transaction_hash}
 use Rattle.chain_tree.specs.Told.{Stored, blocks_of}
 use Rattle.tx_rules.specs.At.{AtValue, IsSiteOf}
-use Rattle.cell_model.specs.declared.cells.Resolved.{Resolved}
+use Rattle.cell_state.specs.declared.cells.Resolved.{Resolved}
 use Rattle.tx_rules.specs.Copying.{ServesAgain, row_in}
-use Rattle.cell_defs.specs.Row.{Row}
-use Rattle.cell_defs.specs.Ext.{Ext}
+use Rattle.chain_defs.specs.Row.{Row}
+use Rattle.chain_defs.specs.Ext.{Ext}
 use Rattle.rule_defs.specs.Site.{Site, site_at}
 use Rattle.rule_defs.specs.TransactionRules.{form_rules, cell_rules}
 use Rattle.rule_defs.specs.Window.{earliest}

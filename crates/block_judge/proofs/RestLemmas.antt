@@ -9,7 +9,7 @@ use Rattle.chain_defs.specs.Specification.{Specification}
 use Rattle.chain_defs.specs.Branch.{branch}
 use Rattle.chain_defs.specs.First.{first_failing}
 use Rattle.chain_defs.proofs.FirstLemmas.{first_failing-none, first_failing-append-holds, first_failing-append-fails, finds_none}
-use Rattle.cell_defs.specs.Row.{Row}
+use Rattle.chain_defs.specs.Row.{Row}
 use Rattle.rule_defs.specs.Capacity.{fee, fees_from}
 use Rattle.verdict_defs.specs.Transactions.{transaction_rules, left_after, rules_from}
 use Rattle.rule_defs.specs.Site.{site_at}

@@ -21,9 +21,9 @@ use Rattle.chain_tree.specs.Entries.{entry_at}
 use Rattle.chain_tree.specs.Blocks.{IndexesBlocks}
 use Rattle.chain_tree.specs.Told.{Stored, blocks_of}
 use Rattle.chain_tree.proofs.BlockLemmas.{len-same}
-use Rattle.cell_defs.specs.Cell.{Cell, script_hash, data_hash}
-use Rattle.cell_defs.specs.Row.{Row, row_of}
-use Rattle.cell_model.specs.Copies.{ResolvedValue, ResolvedTxValue}
+use Rattle.chain_defs.specs.Cell.{Cell, script_hash, data_hash, occupied_by}
+use Rattle.chain_defs.specs.Row.{Row, row_of}
+use Rattle.cell_state.specs.Copies.{ResolvedValue, ResolvedTxValue}
 use Rattle.rule_defs.specs.Site.{Site, Found, all_there, height_at}
 use Rattle.rule_defs.specs.Resolving.{inputs, deps, heights}
 use Rattle.tx_rules.specs.At.{AtValue, IsSiteOf, place_of_height}
@@ -31,7 +31,7 @@ use Rattle.tx_rules.specs.Outcome.{Copies, IsFormed, IsResolved}
 use Rattle.tx_rules.proofs.BranchLemmas.{PlaceOfHeight, place-of-height}
 use Rattle.tx_rules.proofs.DepositLemmas.{heights-below, listed-below, EntryOfHeight, entry-of-height}
 use Rattle.verdict_defs.specs.Scene.{ShownCell, header_on, made_in, shown, scene_of}
-use Rattle.script_run.specs.Showing.{header_of, same_hash, has_hashes, cell_shown, cells_shown, headers_shown, is_whole, scene_with, scene_shown}
+use Rattle.script_run.specs.Showing.{header_of, same_hash, tells_output, cell_shown, cells_shown, headers_shown, is_whole, scene_with, scene_shown}
 
 bytes-same : (xs ys : List ℕ) → xs ≡ ys → bytes_eq xs ys ≡ true
 bytes-same xs ys same = (bytes_eq-Decides xs ys).1 same
@@ -179,19 +179,20 @@ made-header stored entries parent made hs indexes low =
 
 -- ---- Cells
 
-both-same : (a b c : Bool) → a ≡ true → b ≡ true → c ≡ true → (a && b && c) ≡ true
-both-same true true true x y z = refl
-both-same true true false x y z = z
-both-same true false c x y z = absurd (cc)
-both-same false b c x y z = absurd (cc)
+all-same : (a b c d : Bool) → a ≡ true → b ≡ true → c ≡ true → d ≡ true → (a && b && c && d) ≡ true
+all-same true true true true x y z w = refl
+all-same true true true false x y z w = w
+all-same true true false d x y z w = absurd (cc)
+all-same true false c d x y z w = absurd (cc)
+all-same false b c d x y z w = absurd (cc)
 
--- the row of a cell has the hashes of its output and its data
-own-hashes : (place : ℕ) (cell : Cell) → has_hashes (row_of place cell) cell.output cell.content ≡ true
-own-hashes place cell = both-same (bytes_eq (script_hash cell.output.lock) (script_hash cell.output.lock))
+-- the row of a cell tells of its output and its data
+own-row : (place : ℕ) (cell : Cell) → tells_output (row_of place cell) cell.output cell.content ≡ true
+own-row place cell = all-same (bytes_eq (script_hash cell.output.lock) (script_hash cell.output.lock))
     (same_hash (option_map script_hash cell.output.type_script) (option_map script_hash cell.output.type_script))
-    (bytes_eq (data_hash cell.content) (data_hash cell.content))
+    (bytes_eq (data_hash cell.content) (data_hash cell.content)) (occupied_by cell.output cell.content == occupied_by cell.output cell.content)
     (bytes-same (script_hash cell.output.lock) (script_hash cell.output.lock) refl) (by_type (option_map script_hash cell.output.type_script))
-    (bytes-same (data_hash cell.content) (data_hash cell.content) refl)
+    (bytes-same (data_hash cell.content) (data_hash cell.content) refl) (eq-eqb (occupied_by cell.output cell.content) (occupied_by cell.output cell.content) refl)
   where
     by_type : (hash : Option (List ℕ)) → same_hash hash hash ≡ true
     by_type None = refl
@@ -204,7 +205,7 @@ cell-there : (stored : List Stored) (at : AtValue) (rows : OutPoint → Option R
 unfolding cell_shown
 cell-there stored at rows site t found copy is low copies =
     ap (option_and_then as_shown) copies.bytes.output
-    ∙ ap (λ (b : Bool). if b then Some (record { output = found.cell.output; content = copy.content; header = header_of stored headers copy.row.block }) else None) hashes
+    ∙ ap (λ (b : Bool). if b then Some (record { output = found.cell.output; content = copy.content; header = header_of stored headers copy.row.block }) else None) tells
     ∙ ap (λ (content : List ℕ). Some (record { output = found.cell.output; content = content; header = header_of stored headers copy.row.block })) copies.bytes.content
     ∙ ap (λ (h : Option Header). Some (record { output = found.cell.output; content = found.cell.content; header = h })) header
   where
@@ -212,16 +213,16 @@ cell-there stored at rows site t found copy is low copies =
     headers = map (slice_index (branch_places (blocks_of stored) at.parent)) (heights site t)
 
     as_shown : CellOutput → Option ShownCell
-    as_shown output = if has_hashes copy.row output copy.content
+    as_shown output = if tells_output copy.row output copy.content
         then Some (record { output = output; content = copy.content; header = header_of stored headers copy.row.block }) else None
 
     its_row : copy.row ≡ row_of (place_of_height (blocks_of stored) at.parent found.cell.height) found.cell
     its_row = ap (λ (pair : OutPoint × Row). pair.1) copies.row
 
-    hashes : has_hashes copy.row found.cell.output copy.content ≡ true
-    hashes = ap (λ (row : Row). has_hashes row found.cell.output copy.content) its_row
-        ∙ ap (λ (content : List ℕ). has_hashes (row_of (place_of_height (blocks_of stored) at.parent found.cell.height) found.cell) found.cell.output content) copies.bytes.content
-        ∙ own-hashes (place_of_height (blocks_of stored) at.parent found.cell.height) found.cell
+    tells : tells_output copy.row found.cell.output copy.content ≡ true
+    tells = ap (λ (row : Row). tells_output row found.cell.output copy.content) its_row
+        ∙ ap (λ (content : List ℕ). tells_output (row_of (place_of_height (blocks_of stored) at.parent found.cell.height) found.cell) found.cell.output content) copies.bytes.content
+        ∙ own-row (place_of_height (blocks_of stored) at.parent found.cell.height) found.cell
 
     header : header_of stored headers copy.row.block ≡ made_in site t found.cell
     header = ap (λ (row : Row). header_of stored headers row.block) its_row

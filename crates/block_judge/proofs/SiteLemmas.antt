@@ -12,11 +12,11 @@ use Rattle.chain_defs.proofs.KeptLaws.{slice_get-below}
 use Rattle.chain_defs.proofs.BranchLaws.{branch-last}
 use Rattle.chain_tree.specs.Told.{Stored, blocks_of}
 use Rattle.chain_tree.proofs.BlockLemmas.{len-same}
-use Rattle.cell_defs.specs.Cell.{Cell, holds_its_own}
-use Rattle.cell_defs.specs.Events.{Event, Makes, Spends, last_naming, cell_left, cell_after, events, events_of, events_from, events_of_block, cell_seen}
-use Rattle.cell_defs.specs.Row.{Row, row_of, row_or, row_on, row_after, live_row, IsOutputOf}
-use Rattle.cell_defs.proofs.EventLemmas.{last_naming-append, made-last}
-use Rattle.cell_defs.proofs.OutputLaws.{IsMadeIn, made-in-block, cells-are-outputs, seen-cells-are-outputs}
+use Rattle.chain_defs.specs.Cell.{Cell, holds_its_own}
+use Rattle.chain_defs.specs.Events.{Event, Makes, Spends, last_naming, cell_left, cell_after, events, events_of, events_from, events_of_block, cell_seen}
+use Rattle.chain_defs.specs.Row.{Row, row_of, row_or, row_on, row_after, live_row, IsOutputOf}
+use Rattle.chain_defs.proofs.EventLemmas.{last_naming-append, made-last}
+use Rattle.chain_defs.proofs.OutputLaws.{IsMadeIn, made-in-block, cells-are-outputs, seen-cells-are-outputs}
 use Rattle.tx_rules.specs.At.{AtValue, IsSiteOf, IsMade, place_of_height}
 use Rattle.tx_rules.specs.Own.{of_transactions}
 use Rattle.tx_rules.proofs.AllThere.{take-push}

@@ -8,8 +8,8 @@ use Rattle.chain_defs.specs.First.{first_failing}
 use Rattle.chain_defs.proofs.FirstLemmas.{first_failing-append-fails, first_failing-append-holds, finds_none}
 use Rattle.outside.specs.declared.disk.ReadStop.TheVariants.{DiskFault, NoMemory, Damaged}
 use Rattle.chain_tree.specs.Told.{Stored}
-use Rattle.cell_defs.specs.Row.{Row}
-use Rattle.cell_model.specs.Copies.{ResolvedValue, ResolvedTxValue}
+use Rattle.chain_defs.specs.Row.{Row}
+use Rattle.cell_state.specs.Copies.{ResolvedValue, ResolvedTxValue}
 use Rattle.rule_defs.specs.Site.{Site, Found}
 use Rattle.rule_defs.specs.Resolving.{inputs}
 use Rattle.rule_defs.specs.Capacity.{fee, interest}

@@ -4,7 +4,7 @@ use Rattle.std.specs.List.{filter, filter_map}
 use Rattle.outside.specs.declared.disk.ReadStop.TheVariants.{DiskFault, NoMemory, Damaged}
 use Rattle.chain_defs.specs.Schema.{Block}
 use Rattle.chain_defs.specs.First.{first_failing}
-use Rattle.cell_defs.specs.Ext.{Ext}
+use Rattle.chain_defs.specs.Ext.{Ext}
 use Rattle.tx_rules.specs.At.{found_row}
 use Rattle.tx_rules.specs.Copying.{row_in}
 use Rattle.rule_defs.specs.Site.{Site}

@@ -4,8 +4,8 @@ use Rattle.chain_defs.specs.Schema.{OutPoint, Transaction, Block}
 use Rattle.chain_defs.specs.Specification.{Specification}
 use Rattle.chain_defs.specs.Branch.{branch}
 use Rattle.chain_tree.specs.Told.{Stored, blocks_of}
-use Rattle.cell_defs.specs.Events.{events_from}
-use Rattle.cell_defs.specs.Row.{Row, row_after}
+use Rattle.chain_defs.specs.Events.{events_from}
+use Rattle.chain_defs.specs.Row.{Row, row_after}
 use Rattle.rule_defs.specs.Site.{Site, site_at}
 use Rattle.tx_rules.specs.At.{AtValue}
 use Rattle.tx_rules.specs.Own.{of_transactions}

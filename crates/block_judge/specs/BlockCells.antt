@@ -1,7 +1,7 @@
 -- The cells that the next transaction of a block sees.
 use Rattle.std.specs.Prelude.{Option}
 use Rattle.chain_defs.specs.Schema.{OutPoint}
-use Rattle.cell_defs.specs.Row.{Row}
+use Rattle.chain_defs.specs.Row.{Row}
 use Rattle.block_judge.specs.declared.block_cells.BlockCells.{BlockCells}
 use Rattle.block_judge.specs.Changes.{with_changes}
 

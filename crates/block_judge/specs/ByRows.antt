@@ -2,8 +2,8 @@
 use Rattle.std.specs.Prelude.{◌≡◌, ◌⊎◌, ⊤, ◌<◌, Bool, true, false, Option, is_some, Result, Ok, Err}
 use Rattle.outside.specs.declared.disk.ReadStop.TheVariants.{DiskFault, NoMemory, Damaged}
 use Rattle.chain_defs.specs.Schema.{OutPoint}
-use Rattle.cell_defs.specs.Cell.{Cell}
-use Rattle.cell_defs.specs.Row.{Row}
+use Rattle.chain_defs.specs.Cell.{Cell}
+use Rattle.chain_defs.specs.Row.{Row}
 use Rattle.rule_defs.specs.RuleNumber.{rule_number}
 use Rattle.block_judge.specs.declared.stop.JudgeStop.{JudgeStop}
 use Rattle.block_judge.specs.declared.stop.JudgeStop.TheVariants.{Broken, Read}

@@ -3,7 +3,7 @@ use Rattle.std.specs.Prelude.{◌≡◌, List, map, Option}
 use Rattle.std.specs.List.{All}
 use Rattle.chain_defs.specs.Schema.{Transaction}
 use Rattle.chain_tree.specs.Told.{Stored}
-use Rattle.cell_model.specs.Copies.{ResolvedValue}
+use Rattle.cell_state.specs.Copies.{ResolvedValue}
 use Rattle.tx_rules.specs.At.{AtValue}
 use Rattle.tx_rules.specs.Copying.{CopiesItsRow, HoldsOutput}
 

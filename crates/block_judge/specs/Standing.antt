@@ -13,10 +13,10 @@ use Rattle.rule_defs.specs.RewardRules.{end_rules}
 use Rattle.chain_tree.specs.declared.entry.Entry.{Entry}
 use Rattle.chain_tree.specs.Blocks.{IndexesBlocks}
 use Rattle.chain_tree.specs.Told.{Stored, blocks_of}
-use Rattle.cell_defs.specs.Cell.{Cell, holds_its_own}
-use Rattle.cell_defs.specs.Events.{live_cell}
-use Rattle.cell_defs.specs.Row.{Row, live_row}
-use Rattle.cell_defs.specs.Ext.{Ext}
+use Rattle.chain_defs.specs.Cell.{Cell, holds_its_own}
+use Rattle.chain_defs.specs.Events.{live_cell}
+use Rattle.chain_defs.specs.Row.{Row, live_row}
+use Rattle.chain_defs.specs.Ext.{Ext}
 use Rattle.uncle_rules.specs.Embedded.{UnclesValue, IndexesUncles}
 use Rattle.rewards.specs.Own.{HaveOwnFees}
 use Rattle.block_judge.specs.declared.context.Context.{Context}

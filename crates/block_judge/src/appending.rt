@@ -21,7 +21,7 @@ ghost use Rattle.block_judge.specs.Stops.{read_stop_of};
 use crate::context::Context;
 use crate::stop::JudgeStop;
 use crate::transactions::{PassedTransaction, Turn, judge_transaction};
-use cell_model::Cells;
+use cell_state::Cells;
 use chain_tree::Blocks;
 use mol_schema::TxView;
 use std::alloc::Global;

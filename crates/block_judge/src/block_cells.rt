@@ -1,13 +1,13 @@
 // The cells that a transaction of a block sees.
 ghost use Rattle.std.specs.Prelude.{◌≡◌, ◌<◌, ℕ, OnOk};
 ghost use Rattle.chain_defs.specs.Schema as schema;
-ghost use Rattle.cell_defs.specs.Events.{events_of};
-ghost use Rattle.cell_defs.specs.Row.{row_after};
+ghost use Rattle.chain_defs.specs.Events.{events_of};
+ghost use Rattle.chain_defs.specs.Row.{row_after};
 ghost use Rattle.chain_defs.specs.Hashes.{transaction_hash};
 ghost use Rattle.block_judge.specs.BlockCells.{rows_in};
 
 use crate::changes::Changes;
-use cell_model::{CellMeta, Cells, OutPoint};
+use cell_state::{CellMeta, Cells, OutPoint};
 use mol_schema::TxView;
 use outside::NoMemory;
 use std::alloc::Global;

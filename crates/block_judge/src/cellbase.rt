@@ -1,14 +1,14 @@
 // J16 and J17: the cellbase of a block.
 ghost use Rattle.std.specs.Prelude.{◌≡◌, ◌<◌, ◌^◌, ◌==◌, IfOk, Option, not, drop, is_some, length, map};
-ghost use Rattle.std.specs.List.{list_all, list_any, range_with_len};
+ghost use Rattle.std.specs.List.{list_all, list_any};
 ghost use Rattle.chain_defs.specs.Schema.{OutPoint as an_out_point};
-ghost use Rattle.cell_defs.specs.Cell.{Cell};
+ghost use Rattle.chain_defs.specs.Cell.{Cell};
 ghost use Rattle.chain_defs.specs.Hashes.{transaction_hash, are_distinct};
 ghost use Rattle.rule_defs.specs.Cellbase as rules;
 ghost use Rattle.block_judge.specs.ByRows.{AgreeOnLive};
 
 use crate::known::{hash_at, hash_of};
-use cell_model::{Cells, OutPoint};
+use cell_state::{Cells, is_none_live};
 use mol_schema::{BlockView, CellbaseWitnessView, OutPointView, RawTxView, TxView};
 use outside::NoMemory;
 use std::alloc::Global;
@@ -122,23 +122,6 @@ fn has_plain_output(tx: &TxView<'_>) -> bool
     let raw = tx.raw();
     let outputs = raw.outputs_count();
     outputs <= 1 && raw.outputs_data_count() == outputs && has_no_types(&raw) && has_no_data(&raw)
-}
-
-/// Whether no cell is live with this hash and an index below a count.
-fn is_none_live<C: Cells>(hash: [u8; 32], count: usize, cells: &C) -> bool
-    requires { count < 2 ^ 32 }
-    ensures { result ≡ not (list_any (λ o. is_some (C.rows cells.now o)) (map (λ index. record { tx_hash = hash; index = index }) (range_with_len 0 count))) }
-{
-    'indexes: for i in 0..count {
-        let made = OutPoint {
-            tx_hash: hash,
-            index: i as u32,
-        };
-        if cells.get(&made).is_some() {
-            return false;
-        }
-    }
-    true
 }
 
 /// Whether the first witness is a canonical `CellbaseWitness`.

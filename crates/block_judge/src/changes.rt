@@ -1,13 +1,14 @@
 // What transactions make and spend, beside the cells that were there before.
-ghost use Rattle.std.specs.Prelude.{◌≡◌, ℕ, Option, Some, None, OnOk, if◌then◌else◌};
+ghost use Rattle.std.specs.Prelude.{◌≡◌, ◌<◌, ◌^◌, ℕ, length, Option, Some, None, OnOk, if◌then◌else◌};
 ghost use Rattle.chain_defs.specs.Schema as schema;
 ghost use Rattle.chain_defs.specs.Hashes.{transaction_hash};
-ghost use Rattle.cell_defs.specs.Events.{same_out_point, spends_of, makes_of};
-ghost use Rattle.cell_defs.specs.Row.{Row, row_after};
+ghost use Rattle.chain_defs.specs.Events.{same_out_point, spends_of, makes_of};
+ghost use Rattle.chain_defs.specs.Row.{Row, row_of, row_after};
 ghost use Rattle.block_judge.specs.Changes.{change_at, with_changes};
 
-use cell_model::{CellMeta, OutPoint, data_at, meta_of};
-use mol_schema::{OutPointView, TxView};
+use cell_state::{CellMeta, LastScript, OutPoint, data_at, meta_with, out_point_of};
+use chain_tree::ByDigest;
+use mol_schema::{OutputView, TxView};
 use outside::NoMemory;
 use std::alloc::Global;
 use std::collections::HashMap;
@@ -17,7 +18,8 @@ use std::marker::Model;
 /// `Changed` of the definitions.
 #[derive(Drop)]
 pub(crate) struct Changes {
-    map: HashMap<([u8; 32], u32), Option<CellMeta>>,
+    map: HashMap<([u8; 32], u32), Option<CellMeta>, ByDigest>,
+    last: LastScript,
 }
 
 impl Model for Changes {
@@ -28,25 +30,14 @@ impl Model for Changes {
     ghost view = { λ changes. changes.map.entries };
 }
 
-/// The out-point that stands in a transaction's bytes.
-fn out_point_of(o: &OutPointView<'_>) -> OutPoint
-    ensures { result ≡ o.now }
-{
-    let mut tx_hash = [0; 32];
-    tx_hash.copy_from_slice(o.tx_hash());
-    OutPoint {
-        tx_hash,
-        index: o.index(),
-    }
-}
-
 impl Changes {
     /// Where nothing was changed yet.
     pub(crate) fn new(alloc: Global) -> Changes
         ensures { (o : schema.OutPoint) → change_at result o ≡ None }
     {
         Changes {
-            map: HashMap::new(alloc),
+            map: HashMap::with_hasher(alloc, ByDigest),
+            last: LastScript::new(),
         }
     }
 
@@ -78,6 +69,16 @@ impl Changes {
         Ok(())
     }
 
+    /// The row of an output of the transaction at a place of the block, which has the place `e`.
+    fn row(&mut self, output: &OutputView<'_>, content: &[u8], place: u32, e: u32) -> CellMeta
+        requires fits { length content.now < 2 ^ 32 }
+        ensures same { self.new ≡ self.old }
+        ensures row { (height : ℕ) → result ≡ row_of e (record { output = output.now; content = content.now; height = height; transaction = place }) }
+    {
+        let lock_hash = self.last.hash_of(&output.lock());
+        meta_with(e, place, output, content, lock_hash)
+    }
+
     /// Takes the makes of the transaction at a place of the block. Their rows have the block's place `e`.
     pub(crate) fn make(
         &mut self,
@@ -96,7 +97,7 @@ impl Changes {
                 tx_hash: *hash,
                 index: i as u32,
             };
-            let row = meta_of(e, place, &raw.outputs_item(i), data_at(tx, i));
+            let row = self.row(&raw.outputs_item(i), data_at(tx, i), place, e);
             self.put(&o, Some(row))?;
         }
         Ok(())

@@ -1,7 +1,7 @@
 // What a block or a transaction is judged on.
 ghost use Rattle.std.specs.Prelude.{None};
 
-use cell_model::{CellMeta, Cells, OutPoint};
+use cell_state::{CellMeta, Cells, OutPoint};
 use chain_tree::Tree;
 use epochs::Spec;
 use uncle_rules::Uncles;

@@ -1,7 +1,7 @@
 // J28 to J30: the scripts of a transaction.
 ghost use Rattle.std.specs.Prelude.{◌≡◌, ◌^◌, ◌≤◌, List, Option, Some, Err, IfOk, length};
 ghost use Rattle.chain_defs.specs.Schema.{OutPoint};
-ghost use Rattle.cell_defs.specs.Row.{Row};
+ghost use Rattle.chain_defs.specs.Row.{Row};
 ghost use Rattle.chain_tree.specs.Told.{Stored, blocks_of};
 ghost use Rattle.chain_tree.specs.Reading.{HasRead};
 ghost use Rattle.rule_defs.specs.Site.{Site};
@@ -16,7 +16,7 @@ ghost use Rattle.block_judge.specs.Standing.{IsScriptRule};
 ghost use Rattle.block_judge.specs.Stops.{AnswersRunning, read_stop_of};
 
 use crate::stop::JudgeStop;
-use cell_model::ResolvedTx;
+use cell_state::ResolvedTx;
 use chain_tree::Blocks;
 use rule_defs::Rule;
 use script_run::{ScriptStop, run_groups};

@@ -3,7 +3,7 @@ ghost use Rattle.std.specs.Prelude.{◌≡◌, ◌++◌, ◌∷◌, [], nat_lt, 
 ghost use Rattle.std.specs.List.{filter};
 ghost use Rattle.tx_rules.specs.Copying.{row_in};
 
-use cell_model::{CellMeta, OutPoint, Resolved};
+use cell_state::{CellMeta, OutPoint, Resolved};
 use outside::NoMemory;
 
 /// Puts the row of an input after those that are there, if a kept block made it, of which there are `e`.

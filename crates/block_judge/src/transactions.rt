@@ -20,7 +20,7 @@ ghost use Rattle.block_judge.specs.Stops.{of_resolving, read_stop_of};
 
 use crate::scripts::run_scripts;
 use crate::stop::JudgeStop;
-use cell_model::{Cells, Resolved};
+use cell_state::{Cells, Resolved};
 use chain_tree::Blocks;
 use mol_schema::TxView;
 use std::alloc::Global;

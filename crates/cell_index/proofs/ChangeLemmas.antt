@@ -3,19 +3,19 @@ use Rattle.std.proofs.Common.{◌≡◌, ℕ, Bool, true, false, List, [], Optio
 use Rattle.std.specs.Prelude.{not, IsTrue, IsSome}
 use Rattle.std.specs.List.{find, list_any}
 use Rattle.chain_defs.specs.Schema.{OutPoint}
-use Rattle.cell_defs.specs.Cell.{Cell}
-use Rattle.cell_defs.specs.Events.{Event, Makes, Spends, names, last_naming}
-use Rattle.cell_defs.specs.Row.{Row, row_of, row_or, row_after, ListsRows}
-use Rattle.cell_defs.specs.Fit.{are_live, AllFit}
-use Rattle.cell_defs.specs.CellLaws.{makes}
-use Rattle.cell_defs.specs.Undo.{spent_of, without_made, with_rows, first_live, undone, first_clash}
-use Rattle.cell_defs.specs.UndoLaws.{is_spend, AreSpentOf, ComesBefore}
-use Rattle.cell_defs.specs.ByLock.{of_lock}
-use Rattle.cell_defs.proofs.ByLockLaws.{rising-apart}
-use Rattle.cell_defs.proofs.NamingLemmas.{true-false, unnamed-last, unnamed-made, named-last, last-made, first-fits}
-use Rattle.cell_defs.proofs.PutLemmas.{put_at, with_rows-at}
-use Rattle.cell_defs.proofs.SpentLaws.{spends-rows-once}
-use Rattle.cell_defs.proofs.BackLaws.{takes-back}
+use Rattle.chain_defs.specs.Cell.{Cell}
+use Rattle.chain_defs.specs.Events.{Event, Makes, Spends, names, last_naming}
+use Rattle.chain_defs.specs.Row.{Row, row_of, row_or, row_after, ListsRows}
+use Rattle.chain_defs.specs.Fit.{are_live, AllFit}
+use Rattle.chain_defs.specs.CellLaws.{makes}
+use Rattle.chain_defs.specs.Undo.{spent_of, without_made, with_rows, first_live, undone, first_clash}
+use Rattle.chain_defs.specs.UndoLaws.{is_spend, AreSpentOf, ComesBefore}
+use Rattle.chain_defs.specs.ByLock.{of_lock}
+use Rattle.chain_defs.proofs.ByLockLaws.{rising-apart}
+use Rattle.chain_defs.proofs.NamingLemmas.{true-false, unnamed-last, unnamed-made, named-last, last-made, first-fits}
+use Rattle.chain_defs.proofs.PutLemmas.{put_at, with_rows-at}
+use Rattle.chain_defs.proofs.SpentLaws.{spends-rows-once}
+use Rattle.chain_defs.proofs.BackLaws.{takes-back}
 use Rattle.std.proofs.lemmas.Slice.Eq.{bytes_eq-Decides}
 use Rattle.cell_index.specs.Index.{without_all, AreThere}
 use Rattle.cell_index.proofs.RowLists.{is_of, any-of, of-any, any-where-some, without_all-at, are-there, put-one, none-live, live-same}

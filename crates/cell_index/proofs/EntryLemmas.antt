@@ -17,11 +17,11 @@ use Rattle.std.proofs.lemmas.List.Sums.{sum_by-cons}
 use Rattle.std.proofs.lemmas.Slice.Eq.{bytes_eq-Decides}
 use Rattle.std.proofs.lemmas.Map.Entries.{sum_by-insert_entry, sum_by-remove_entry}
 use Rattle.chain_defs.specs.Schema.{OutPoint}
-use Rattle.cell_defs.specs.Events.{same_out_point}
-use Rattle.cell_defs.specs.Row.{Row}
-use Rattle.cell_defs.specs.Undo.{without, with_row}
-use Rattle.cell_defs.specs.ByLock.{of_lock}
-use Rattle.cell_defs.proofs.EventLemmas.{out_points-same}
+use Rattle.chain_defs.specs.Events.{same_out_point}
+use Rattle.chain_defs.specs.Row.{Row}
+use Rattle.chain_defs.specs.Undo.{without, with_row}
+use Rattle.chain_defs.specs.ByLock.{of_lock}
+use Rattle.chain_defs.proofs.EventLemmas.{out_points-same}
 use Rattle.cell_index.specs.Index.{Key, key_of, key_cmp, at, counts, holds, total_of, kept_of, IsOwn, IsTotalled}
 
 -- ---- Keys

@@ -8,9 +8,9 @@ use Rattle.chain_defs.specs.Kept.{block_at, parent_place}
 use Rattle.chain_defs.specs.Branch.{branch_places}
 use Rattle.chain_defs.proofs.KeptLaws.{slice_get-below}
 use Rattle.chain_tree.specs.Told.{Stored, blocks_of}
-use Rattle.cell_defs.specs.Events.{events_of_block}
-use Rattle.cell_defs.specs.Row.{Row, row_after, live_row, ListsRows}
-use Rattle.cell_defs.specs.ByLock.{of_lock}
+use Rattle.chain_defs.specs.Events.{events_of_block}
+use Rattle.chain_defs.specs.Row.{Row, row_after, live_row, ListsRows}
+use Rattle.chain_defs.specs.ByLock.{of_lock}
 use Rattle.cell_state.specs.Moves.{CanBeTakenBack}
 use Rattle.cell_state.proofs.PlaceLemmas.{branch-linked}
 use Rattle.cell_state.proofs.HeightLemmas.{rows-above}

@@ -1,9 +1,9 @@
 -- An index of rows that are listed.
 use Rattle.std.proofs.Common.{◌≡◌, List, Option, None, refl}
 use Rattle.chain_defs.specs.Schema.{OutPoint}
-use Rattle.cell_defs.specs.Row.{Row, ListsRows}
-use Rattle.cell_defs.specs.Undo.{with_rows, first_live}
-use Rattle.cell_defs.proofs.ByLockLaws.{rising-apart}
+use Rattle.chain_defs.specs.Row.{Row, ListsRows}
+use Rattle.chain_defs.specs.Undo.{with_rows, first_live}
+use Rattle.chain_defs.proofs.ByLockLaws.{rising-apart}
 use Rattle.cell_index.specs.Index.{IndexValue, Holds}
 use Rattle.cell_index.proofs.FollowLemmas.{holds-same}
 use Rattle.cell_index.proofs.RowLists.{none-live, rows-put}

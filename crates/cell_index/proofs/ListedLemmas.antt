@@ -21,11 +21,11 @@ use Rattle.std.proofs.lemmas.Option.{slice_get-get_or}
 use Rattle.std.proofs.lemmas.Map.Entries.{lookup_from_place}
 use Rattle.std.proofs.lemmas.Map.Keys.{IsDistinct-from_sorted, sorted_head, sorted_tail}
 use Rattle.chain_defs.specs.Schema.{OutPoint, Block}
-use Rattle.cell_defs.specs.Events.{same_out_point}
-use Rattle.cell_defs.specs.Row.{Row, live_row, out_point_cmp, IsRising, ListsRows}
-use Rattle.cell_defs.specs.ByLock.{of_lock, capacity_of, IsByLock}
-use Rattle.cell_defs.proofs.ByLockLaws.{here, there, cons-of, cons-rising, none-rises, lists-once}
-use Rattle.cell_defs.proofs.EventLemmas.{out_points-same}
+use Rattle.chain_defs.specs.Events.{same_out_point}
+use Rattle.chain_defs.specs.Row.{Row, live_row, out_point_cmp, IsRising, ListsRows}
+use Rattle.chain_defs.specs.ByLock.{of_lock, capacity_of, IsByLock}
+use Rattle.chain_defs.proofs.ByLockLaws.{here, there, cons-of, cons-rising, none-rises, lists-once}
+use Rattle.chain_defs.proofs.EventLemmas.{out_points-same}
 use Rattle.cell_index.specs.Index.{Key, key_of, key_cmp, IndexValue, at, counts, holds, total_of, IsOwn, IndexesBranch}
 use Rattle.cell_index.proofs.EntryLemmas.{key-is, key_cmp-total}
 

@@ -3,14 +3,14 @@ use Rattle.std.proofs.Common.{◌≡◌, suc, ⊎_elim, Bool, true, false, List,
 use Rattle.std.specs.Prelude.{◌↔◌, ◌||◌, IsSome}
 use Rattle.std.specs.List.{AllPairs, Contains, list_any}
 use Rattle.chain_defs.specs.Schema.{OutPoint}
-use Rattle.cell_defs.specs.Events.{same_out_point}
-use Rattle.cell_defs.specs.Row.{Row}
-use Rattle.cell_defs.specs.Undo.{without, with_row, with_rows, first_live}
-use Rattle.cell_defs.specs.ByLock.{of_lock}
-use Rattle.cell_defs.proofs.ByLockLaws.{here, there, cons-of, IsApart}
-use Rattle.cell_defs.proofs.EventLemmas.{out_points-same}
-use Rattle.cell_defs.proofs.NamingLemmas.{out_point-self}
-use Rattle.cell_defs.proofs.PutLemmas.{put_at, with_rows-at}
+use Rattle.chain_defs.specs.Events.{same_out_point}
+use Rattle.chain_defs.specs.Row.{Row}
+use Rattle.chain_defs.specs.Undo.{without, with_row, with_rows, first_live}
+use Rattle.chain_defs.specs.ByLock.{of_lock}
+use Rattle.chain_defs.proofs.ByLockLaws.{here, there, cons-of, IsApart}
+use Rattle.chain_defs.proofs.EventLemmas.{out_points-same}
+use Rattle.chain_defs.proofs.NamingLemmas.{out_point-self}
+use Rattle.chain_defs.proofs.PutLemmas.{put_at, with_rows-at}
 use Rattle.cell_index.specs.Index.{without_all, AreThere}
 
 -- whether a row is that of an out-point

@@ -1,7 +1,7 @@
 -- What it takes to follow from one place's branch to another's.
 use Rattle.std.specs.Prelude.{◌≡◌, ℕ, List, Some, slice_get}
 use Rattle.chain_defs.specs.Kept.{parent_place}
-use Rattle.cell_defs.specs.Row.{live_row}
+use Rattle.chain_defs.specs.Row.{live_row}
 use Rattle.cell_state.specs.Moves.{CanBeTakenBack, IsOnTheWay}
 use Rattle.chain_tree.specs.Told.{Stored, blocks_of}
 

@@ -9,9 +9,9 @@ use Rattle.std.specs.declared.cmp.Ordering.{Ordering}
 use Rattle.std.specs.Ordering.{nat_cmp, ordering_then}
 use Rattle.std.specs.Cmp.Lexicographic.{slice_cmp}
 use Rattle.chain_defs.specs.Schema.{OutPoint, Block}
-use Rattle.cell_defs.specs.Row.{Row, live_row}
-use Rattle.cell_defs.specs.Undo.{without}
-use Rattle.cell_defs.specs.ByLock.{of_lock}
+use Rattle.chain_defs.specs.Row.{Row, live_row}
+use Rattle.chain_defs.specs.Undo.{without}
+use Rattle.chain_defs.specs.ByLock.{of_lock}
 
 -- the hash of a lock, and an out-point
 abbrev pub Key : Type 0

@@ -2,17 +2,16 @@
 ghost use Rattle.std.specs.Prelude.{◌≡◌, ◌<◌, ◌^◌, ℕ, List, Option, Some, None, Err, length, slice_index, IfOk, IsSome};
 ghost use Rattle.chain_defs.specs.Schema as schema;
 ghost use Rattle.chain_defs.specs.Schema.{Block};
-ghost use Rattle.cell_defs.specs.Row.{Row, ListsRows};
-ghost use Rattle.cell_defs.specs.Undo.{without, with_row, with_rows, first_live};
-ghost use Rattle.cell_defs.specs.ByLock.{of_lock, capacity_of, IsByLock};
+ghost use Rattle.chain_defs.specs.Row.{Row, ListsRows};
+ghost use Rattle.chain_defs.specs.Undo.{without, with_row, with_rows, first_live};
+ghost use Rattle.chain_defs.specs.ByLock.{of_lock, capacity_of, IsByLock};
 ghost use Rattle.cell_state.specs.State.{rows};
 ghost use Rattle.cell_state.specs.Moves.{AreRowsOfBranch};
 ghost use Rattle.cell_index.specs.declared.stop.Stop.TheVariants.{Odd};
 ghost use Rattle.cell_index.specs.Index.{IndexValue, Holds, IndexesBranch, without_all, AreThere, key_of, total_of};
 
 use crate::stop::Stop;
-use cell_model::{CellMeta, OutPoint};
-use cell_state::State;
+use cell_state::{CellMeta, OutPoint, State};
 use outside::NoMemory;
 use std::alloc::Global;
 use std::collections::BTreeMap;
@@ -122,18 +121,19 @@ impl Index {
     {
         let lock = row.lock_hash;
         let key = key_by(lock, o);
-        if self.rows.contains_key(&key) {
-            return Err(Stop::Odd);
-        }
         let (count, capacity) = self.total(&lock);
         let Index {
             mut rows,
             mut totals,
         } = self;
         let _few = rows.len();
-        match rows.insert(key, row) {
-            Ok(_) => {}
+        // (one search: keys are long, and those of one lock begin alike)
+        let old = match rows.insert(key, row) {
+            Ok(old) => old,
             Err(_) => return Err(Stop::NoMemory),
+        };
+        if old.is_some() {
+            return Err(Stop::Odd);
         }
         match totals.insert(lock, (count + 1, capacity + u128::from(row.capacity))) {
             Ok(_) => {}

@@ -1,10 +1,10 @@
 -- What stands after a block was taken, or taken back.
 use Rattle.std.proofs.Common.{◌≡◌, ℕ, List, Option, Some, None, refl, sym, ap, ◌∙◌}
 use Rattle.chain_defs.specs.Schema.{OutPoint}
-use Rattle.cell_defs.specs.Events.{Event, Makes, Spends, last_naming}
-use Rattle.cell_defs.specs.Row.{Row, row_or, row_after}
+use Rattle.chain_defs.specs.Events.{Event, Makes, Spends, last_naming}
+use Rattle.chain_defs.specs.Row.{Row, row_or, row_after}
 use Rattle.cell_state.specs.Slots.{StateValue, at, rows, row_before, is_live, settled, AreSettled}
-use Rattle.cell_defs.specs.Fit.{live_by}
+use Rattle.chain_defs.specs.Fit.{live_by}
 use Rattle.cell_state.specs.Passes.{AreMarked, Settles}
 use Rattle.cell_state.specs.declared.slots.Slot.{Slot}
 use Rattle.cell_state.proofs.NamingLemmas.{row-after}

@@ -7,11 +7,11 @@ use Rattle.std.proofs.lemmas.Bool.{and_from, and_parts, lt-ltb, ltb-true, or_lef
 use Rattle.std.proofs.lemmas.Option.{same_Some}
 use Rattle.chain_defs.specs.Schema.{OutPoint, Block}
 use Rattle.chain_defs.specs.Branch.{branch, branch_places}
-use Rattle.cell_defs.specs.Cell.{Cell}
-use Rattle.cell_defs.specs.Events.{Event, Makes, Spends, same_out_point, last_naming, live_cell}
-use Rattle.cell_defs.specs.Row.{Row, row_of, row_on, row_or, row_after, live_row}
-use Rattle.cell_defs.specs.CellLaws.{makes}
-use Rattle.cell_defs.specs.Undo.{without, row_at, spent_of, with_row, with_rows, without_made, undone}
+use Rattle.chain_defs.specs.Cell.{Cell}
+use Rattle.chain_defs.specs.Events.{Event, Makes, Spends, same_out_point, last_naming, live_cell}
+use Rattle.chain_defs.specs.Row.{Row, row_of, row_on, row_or, row_after, live_row}
+use Rattle.chain_defs.specs.CellLaws.{makes}
+use Rattle.chain_defs.specs.Undo.{without, row_at, spent_of, with_row, with_rows, without_made, undone}
 use Rattle.cell_state.specs.Moves.{AreRowsBelow, is_below}
 use Rattle.cell_state.proofs.DistanceLemmas.{has, within-own}
 

@@ -5,8 +5,8 @@ use Rattle.std.proofs.lemmas.Option.{slice_get_within, slice_get_past, slice_get
 use Rattle.std.proofs.Math.Seq.{drop-cons}
 use Rattle.chain_defs.specs.Schema.{CellInput, CellOutput, Transaction, Block}
 use Rattle.chain_defs.specs.Hashes.{transaction_hash}
-use Rattle.cell_defs.specs.Cell.{data_of}
-use Rattle.cell_defs.specs.Events.{Event, Makes, Spends, spends_of, makes_from, events_of, events_from, events_of_block}
+use Rattle.chain_defs.specs.Cell.{data_of}
+use Rattle.chain_defs.specs.Events.{Event, Makes, Spends, spends_of, makes_from, events_of, events_from, events_of_block}
 use Rattle.cell_state.specs.Walk.{spends_at, left_at, events_left}
 
 -- ---- Lists

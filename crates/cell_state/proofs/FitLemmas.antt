@@ -7,9 +7,9 @@ use Rattle.std.proofs.lemmas.Option.{same_Some, slice_get-map}
 use Rattle.chain_defs.specs.Schema.{OutPoint, Block}
 use Rattle.chain_defs.specs.Kept.{block_at}
 use Rattle.chain_tree.specs.Told.{Stored, blocks_of}
-use Rattle.cell_defs.specs.Events.{Event}
-use Rattle.cell_defs.specs.Fit.{AllFit}
-use Rattle.cell_defs.proofs.FitLemmas.{fits-between}
+use Rattle.chain_defs.specs.Events.{Event}
+use Rattle.chain_defs.specs.Fit.{AllFit}
+use Rattle.chain_defs.proofs.FitLemmas.{fits-between}
 use Rattle.cell_state.specs.Fit.{IsFirstOdd}
 use Rattle.cell_state.specs.declared.odd.Odd.{Odd}
 use Rattle.outside.specs.declared.disk.ReadStop.{ReadStop}

@@ -6,9 +6,9 @@ use Rattle.chain_defs.specs.Kept.{place_of}
 use Rattle.chain_defs.specs.Branch.{branch}
 use Rattle.chain_defs.proofs.KeptLaws.{slice_get-below, place_of-below}
 use Rattle.chain_defs.proofs.BranchLaws.{branch-last}
-use Rattle.cell_defs.specs.Events.{Event, events_of_block, last_naming}
-use Rattle.cell_defs.specs.Row.{Row, row_or, row_after, live_row}
-use Rattle.cell_defs.proofs.RowLaws.{grows-by-a-block}
+use Rattle.chain_defs.specs.Events.{Event, events_of_block, last_naming}
+use Rattle.chain_defs.specs.Row.{Row, row_or, row_after, live_row}
+use Rattle.chain_defs.proofs.CellRowLaws.{grows-by-a-block}
 use Rattle.cell_state.specs.State.{StateValue, Grows, rows}
 use Rattle.cell_state.proofs.NamingLemmas.{row-after}
 

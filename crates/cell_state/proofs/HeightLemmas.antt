@@ -3,16 +3,16 @@ use Rattle.std.proofs.Common.{◌≡◌, ℕ, suc, ◌+◌, ◌<◌, Bool, true,
 use Rattle.std.specs.Option.{option_map}
 use Rattle.std.specs.List.{sum_by, list_any}
 use Rattle.std.proofs.lemmas.List.Folds.{list_any-append}
-use Rattle.cell_defs.specs.CellLaws.{makes}
+use Rattle.chain_defs.specs.CellLaws.{makes}
 use Rattle.std.proofs.lemmas.List.{map-append, take-map}
 use Rattle.std.proofs.lemmas.List.Sums.{sum_by-cons}
 use Rattle.std.proofs.lemmas.Option.{slice_get-map, same_Some, none-some}
 use Rattle.chain_defs.specs.Schema.{OutPoint, CellInput, CellOutput, Transaction, Block}
-use Rattle.cell_defs.specs.Events.{Event, Makes, Spends, names, last_naming, makes_from, spends_of, events_of, events_from, events_of_block}
-use Rattle.cell_defs.specs.Row.{Row, row_or, row_after}
+use Rattle.chain_defs.specs.Events.{Event, Makes, Spends, names, last_naming, makes_from, spends_of, events_of, events_from, events_of_block}
+use Rattle.chain_defs.specs.Row.{Row, row_or, row_after}
 use Rattle.cell_state.specs.Fit.{IsFirstOdd, odd_of}
 use Rattle.std.specs.Prelude.{not, IsTrue}
-use Rattle.cell_defs.specs.Fit.{live_by, live_after, fits, AllFit}
+use Rattle.chain_defs.specs.Fit.{live_by, live_after, fits, AllFit}
 use Rattle.cell_state.specs.declared.odd.Odd.{Odd}
 use Rattle.cell_state.specs.State.{outputs_of}
 use Rattle.cell_state.specs.Passes.{makes_in}

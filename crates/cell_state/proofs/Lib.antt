@@ -1,3 +1,7 @@
+pub mod CopyLemmas
+pub mod RowByteLemmas
+pub mod ExtLemmas
+pub mod ListBlockLemmas
 pub mod SlotLemmas
 pub mod EventLemmas
 pub mod NamingLemmas
@@ -18,3 +22,4 @@ pub mod ToldLemmas
 pub mod WayLemmas
 pub mod OnWayLemmas
 pub mod BelowLemmas
+pub mod HandLemmas

@@ -18,8 +18,8 @@ use Rattle.std.proofs.lemmas.Map.Made.{is_some-lookup}
 use Rattle.std.proofs.lemmas.Map.Steps.{length-le_from_keys}
 use Rattle.std.proofs.lemmas.Option.{slice_get-map, slice_get-get_or, slice_get_within, get_or_from_slice_get, none-some}
 use Rattle.chain_defs.specs.Schema.{OutPoint}
-use Rattle.cell_defs.specs.Events.{same_out_point}
-use Rattle.cell_defs.specs.Row.{Row, out_point_cmp, IsRising, ListsRows}
+use Rattle.chain_defs.specs.Events.{same_out_point}
+use Rattle.chain_defs.specs.Row.{Row, out_point_cmp, IsRising, ListsRows}
 use Rattle.cell_state.specs.Slots.{StateValue, at, rows, count, row_before, settled, same_key, key_of, AreSettled}
 use Rattle.cell_state.specs.Listing.{out_point_by, with_row, listed}
 use Rattle.cell_state.specs.declared.slots.Slot.{Slot}

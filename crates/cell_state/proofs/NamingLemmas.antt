@@ -1,9 +1,9 @@
 -- On the last of some events that names an out-point, and what those leave that fit.
 use Rattle.std.proofs.Common.{◌≡◌, ℕ, Bool, true, false, List, [], ◌∷◌, ◌++◌, Option, Some, None, is_some, if◌then◌else◌, refl, sym, ap, ◌∙◌}
 use Rattle.chain_defs.specs.Schema.{OutPoint}
-use Rattle.cell_defs.specs.Events.{Event, Makes, Spends, names, last_naming}
-use Rattle.cell_defs.specs.Row.{Row, row_or, row_after}
-use Rattle.cell_defs.specs.Fit.{are_live, live_by, live_after}
+use Rattle.chain_defs.specs.Events.{Event, Makes, Spends, names, last_naming}
+use Rattle.chain_defs.specs.Row.{Row, row_or, row_after}
+use Rattle.chain_defs.specs.Fit.{are_live, live_by, live_after}
 use Rattle.cell_state.specs.Slots.{StateValue, at, rows, row_before, is_live, settled, AreSettled}
 use Rattle.cell_state.specs.Passes.{AreMarked}
 use Rattle.cell_state.specs.declared.slots.Slot.{Slot}

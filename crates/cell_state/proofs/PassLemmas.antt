@@ -4,11 +4,11 @@ use Rattle.std.specs.Prelude.{not, IsTrue}
 use Rattle.std.proofs.lemmas.Bool.{not_from_false}
 use Rattle.std.proofs.lemmas.List.{append_assoc}
 use Rattle.chain_defs.specs.Schema.{OutPoint}
-use Rattle.cell_defs.specs.Cell.{Cell}
-use Rattle.cell_defs.specs.Events.{Event, Makes, Spends, same_out_point, out_point_of, names, last_naming}
-use Rattle.cell_defs.specs.Row.{Row, row_of, row_or, row_left}
+use Rattle.chain_defs.specs.Cell.{Cell}
+use Rattle.chain_defs.specs.Events.{Event, Makes, Spends, same_out_point, out_point_of, names, last_naming}
+use Rattle.chain_defs.specs.Row.{Row, row_of, row_or, row_left}
 use Rattle.cell_state.specs.Fit.{IsFirstOdd}
-use Rattle.cell_defs.specs.Fit.{are_live, live_by, live_after, fits, AllFit}
+use Rattle.chain_defs.specs.Fit.{are_live, live_by, live_after, fits, AllFit}
 use Rattle.cell_state.specs.declared.odd.Odd.TheVariants as odd
 use Rattle.cell_state.specs.Slots.{StateValue, at, rows, row_before, is_live, settled, AreSettled}
 use Rattle.cell_state.specs.Passes.{makes_in, spent_mark, made_mark, AreMarked, unmarked, unmarked_by, settled_made, settled_spent, Settles, HaveRowsAfter}
@@ -16,7 +16,7 @@ use Rattle.cell_state.specs.declared.slots.Slot.{Slot}
 use Rattle.cell_state.specs.declared.slots.Slot.TheVariants.{Live, Spent, Added, Gone}
 use Rattle.cell_state.proofs.SlotLemmas.{at-each}
 use Rattle.cell_state.proofs.NamingLemmas.{last-push, naming-nil, unnamed-front, row-after, live-marked}
-use Rattle.cell_defs.proofs.FitLemmas.{fit-none, fit-push}
+use Rattle.chain_defs.proofs.FitLemmas.{fit-none, fit-push}
 
 -- one more event is done
 parts-push : (all done : List Event) (event : Event) (left : List Event) → done ++ event ∷ left ≡ all → (done ++ event ∷ []) ++ left ≡ all

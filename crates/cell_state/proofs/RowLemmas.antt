@@ -9,11 +9,11 @@ use Rattle.chain_defs.specs.Kept.{block_at, place_of, parent_place}
 use Rattle.chain_defs.specs.Branch.{branch, branch_places}
 use Rattle.chain_defs.proofs.KeptLaws.{slice_get-below, place_of-below}
 use Rattle.chain_defs.proofs.BranchLaws.{branch-last, branch-push}
-use Rattle.cell_defs.specs.Cell.{Cell}
-use Rattle.cell_defs.specs.Events.{Event, Makes, Spends, events_of_block, events, last_naming, cell_left, cell_after, live_cell}
-use Rattle.cell_defs.specs.Row.{Row, row_of, row_on, row_or, row_after, live_row}
-use Rattle.cell_defs.proofs.JoinLemmas.{branch_places-push}
-use Rattle.cell_defs.proofs.RowLaws.{live_row-join}
+use Rattle.chain_defs.specs.Cell.{Cell}
+use Rattle.chain_defs.specs.Events.{Event, Makes, Spends, events_of_block, events, last_naming, cell_left, cell_after, live_cell}
+use Rattle.chain_defs.specs.Row.{Row, row_of, row_on, row_or, row_after, live_row}
+use Rattle.chain_defs.proofs.JoinLemmas.{branch_places-push}
+use Rattle.chain_defs.proofs.CellRowLaws.{live_row-join}
 
 pub row_after-same : (place : ℕ) (events : List Event) (one other : OutPoint → Option Row) (o : OutPoint) → one o ≡ other o
     → row_after place events one o ≡ row_after place events other o

@@ -5,7 +5,7 @@ use Rattle.std.proofs.lemmas.Bool.{and_parts}
 use Rattle.std.proofs.lemmas.Bool.Decides.{Decides-eqb}
 use Rattle.std.proofs.lemmas.Slice.Eq.{bytes_eq-Decides}
 use Rattle.chain_defs.specs.Schema.{OutPoint}
-use Rattle.cell_defs.specs.Events.{same_out_point}
+use Rattle.chain_defs.specs.Events.{same_out_point}
 use Rattle.cell_state.specs.Slots.{StateValue, at, most}
 use Rattle.cell_state.specs.declared.slots.Slot.{Slot}
 

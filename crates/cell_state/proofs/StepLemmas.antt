@@ -9,12 +9,12 @@ use Rattle.chain_defs.proofs.KeptLaws.{slice_get-below}
 use Rattle.chain_tree.specs.declared.entry.Entry.{Entry}
 use Rattle.chain_tree.specs.Blocks.{IndexesBlocks}
 use Rattle.chain_tree.proofs.BlockLemmas.{len-same}
-use Rattle.cell_defs.specs.Events.{events_of_block, live_cell}
-use Rattle.cell_defs.specs.Row.{Row, row_after, live_row}
-use Rattle.cell_defs.specs.Fit.{are_live, AllFit, BranchFits}
+use Rattle.chain_defs.specs.Events.{events_of_block, live_cell}
+use Rattle.chain_defs.specs.Row.{Row, row_after, live_row}
+use Rattle.chain_defs.specs.Fit.{are_live, AllFit, BranchFits}
 use Rattle.cell_state.proofs.PlaceLemmas.{branch-linked}
 use Rattle.cell_state.proofs.RowLemmas.{row_after-same, live_row-step}
-use Rattle.cell_defs.proofs.FitLemmas.{row-where-cell, all-same}
+use Rattle.chain_defs.proofs.FitLemmas.{row-where-cell, all-same}
 
 -- The rows are those of the branch that ends with the place of a height.
 abbrev pub AreRowsAt : List Block → ℕ → ℕ → (OutPoint → Option Row) → Type 0

@@ -3,10 +3,10 @@ use Rattle.std.proofs.Common.{◌≡◌, ℕ, List, Option, Some, sym, subst}
 use Rattle.std.specs.Prelude.{slice_get, IfSome}
 use Rattle.chain_defs.specs.Schema.{OutPoint, Block}
 use Rattle.chain_tree.specs.Told.{Stored}
-use Rattle.cell_defs.specs.Events.{events_of_block}
-use Rattle.cell_defs.specs.Row.{Row}
-use Rattle.cell_defs.specs.Ext.{Ext}
-use Rattle.cell_defs.specs.UndoLaws.{ComesBefore}
+use Rattle.chain_defs.specs.Events.{events_of_block}
+use Rattle.chain_defs.specs.Row.{Row}
+use Rattle.chain_defs.specs.Ext.{Ext}
+use Rattle.chain_defs.specs.UndoLaws.{ComesBefore}
 use Rattle.cell_state.specs.Moves.{CanBeTakenBack}
 
 pub told-it : (P : Stored → Type 0) (stored : List Stored) (place : ℕ) (it : Stored) (told : Option (List Stored)) (hand : Option ℕ) → told ≡ Some stored

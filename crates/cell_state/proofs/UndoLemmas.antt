@@ -7,13 +7,13 @@ use Rattle.std.proofs.lemmas.Option.{none-some}
 use Rattle.std.specs.List.{list_any}
 use Rattle.std.proofs.lemmas.List.Folds.{list_any-append}
 use Rattle.chain_defs.specs.Schema.{OutPoint, CellInput, CellOutput, Transaction, Block}
-use Rattle.cell_defs.specs.Events.{Event, Makes, Spends, same_out_point, names, last_naming, makes_from, spends_of, events_of, events_from, events_of_block}
-use Rattle.cell_defs.specs.Row.{Row}
-use Rattle.cell_defs.specs.CellLaws.{makes}
-use Rattle.cell_defs.specs.Undo.{without_made, with_row, first_live, undone, first_clash}
-use Rattle.cell_defs.specs.UndoLaws.{ComesBefore}
-use Rattle.cell_defs.proofs.BackLaws.{takes-back}
-use Rattle.cell_defs.proofs.PutLemmas.{put_at, with_rows-at}
+use Rattle.chain_defs.specs.Events.{Event, Makes, Spends, same_out_point, names, last_naming, makes_from, spends_of, events_of, events_from, events_of_block}
+use Rattle.chain_defs.specs.Row.{Row}
+use Rattle.chain_defs.specs.CellLaws.{makes}
+use Rattle.chain_defs.specs.Undo.{without_made, with_row, first_live, undone, first_clash}
+use Rattle.chain_defs.specs.UndoLaws.{ComesBefore}
+use Rattle.chain_defs.proofs.BackLaws.{takes-back}
+use Rattle.chain_defs.proofs.PutLemmas.{put_at, with_rows-at}
 use Rattle.cell_state.specs.Slots.{StateValue, at, rows, row_before, is_live, settled, AreSettled}
 use Rattle.cell_state.specs.Passes.{spent_mark, made_mark, unmarked, unmarked_by, settled_spent}
 use Rattle.cell_state.specs.Undo.{passed, is_at, row_written, AreThere}

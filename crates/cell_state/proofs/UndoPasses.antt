@@ -5,11 +5,11 @@ use Rattle.std.specs.Option.{option_map}
 use Rattle.std.specs.List.{list_any}
 use Rattle.std.proofs.Math.Seq.{drop-cons}
 use Rattle.chain_defs.specs.Schema.{OutPoint}
-use Rattle.cell_defs.specs.Cell.{Cell}
-use Rattle.cell_defs.specs.Events.{Makes, same_out_point}
-use Rattle.cell_defs.specs.Row.{Row}
-use Rattle.cell_defs.specs.CellLaws.{makes}
-use Rattle.cell_defs.specs.Undo.{with_row, first_live}
+use Rattle.chain_defs.specs.Cell.{Cell}
+use Rattle.chain_defs.specs.Events.{Makes, same_out_point}
+use Rattle.chain_defs.specs.Row.{Row}
+use Rattle.chain_defs.specs.CellLaws.{makes}
+use Rattle.chain_defs.specs.Undo.{with_row, first_live}
 use Rattle.cell_state.specs.Slots.{StateValue, at, rows, row_before, is_live}
 use Rattle.cell_state.specs.Passes.{made_mark}
 use Rattle.cell_state.specs.Undo.{passed, is_at, AreThere}

@@ -11,9 +11,9 @@ use Rattle.chain_tree.specs.Entries.{entry_at, IsTree}
 use Rattle.chain_tree.specs.Blocks.{IndexesBlocks}
 use Rattle.chain_tree.specs.Told.{Stored, blocks_of}
 use Rattle.chain_tree.proofs.BlockLemmas.{len-same}
-use Rattle.cell_defs.specs.Row.{Row, live_row}
-use Rattle.cell_defs.specs.Events.{events_of_block}
-use Rattle.cell_defs.specs.UndoLaws.{ComesBefore}
+use Rattle.chain_defs.specs.Row.{Row, live_row}
+use Rattle.chain_defs.specs.Events.{events_of_block}
+use Rattle.chain_defs.specs.UndoLaws.{ComesBefore}
 use Rattle.cell_state.specs.Moves.{CanBeTakenBack, CanGoDown, AreRowsOfBranch, is_on_branch, IsOnTheWay}
 
 pub parent-earlier : (entries : List Entry) (place : ℕ) (entry : Entry) → IsTree entries → 0 < place → entry_at entries place ≡ Some entry

@@ -1,8 +1,8 @@
 -- What is odd about events of which one does not fit (docs/RULES.md, "Cells").
 use Rattle.std.specs.Prelude.{◌≡◌, Bool, false, List, ◌∷◌, ◌++◌}
 use Rattle.chain_defs.specs.Schema.{OutPoint}
-use Rattle.cell_defs.specs.Events.{Event, Makes, Spends}
-use Rattle.cell_defs.specs.Fit.{fits, live_after, AllFit}
+use Rattle.chain_defs.specs.Events.{Event, Makes, Spends}
+use Rattle.chain_defs.specs.Fit.{fits, live_after, AllFit}
 use Rattle.cell_state.specs.declared.odd.Odd.{Odd}
 use Rattle.cell_state.specs.declared.odd.Odd.TheVariants.{NotLive, Live}
 

@@ -1,3 +1,5 @@
+pub mod Copies
+pub mod ListBlocks
 pub mod Fit
 pub mod State
 pub mod Slots

@@ -1,7 +1,7 @@
 -- The rows of slots as a list.
 use Rattle.std.specs.Prelude.{ℕ, List, [], ◌∷◌}
 use Rattle.chain_defs.specs.Schema.{OutPoint}
-use Rattle.cell_defs.specs.Row.{Row}
+use Rattle.chain_defs.specs.Row.{Row}
 use Rattle.cell_state.specs.declared.slots.Slot.{Slot}
 use Rattle.cell_state.specs.declared.slots.Slot.TheVariants.{Live, Spent, Added, Gone}
 

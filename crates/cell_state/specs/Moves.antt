@@ -5,11 +5,14 @@ use Rattle.chain_defs.specs.Schema.{OutPoint, Block}
 use Rattle.chain_defs.specs.Kept.{parent_place}
 use Rattle.chain_defs.specs.Branch.{branch_places}
 use Rattle.chain_tree.specs.Told.{Stored, blocks_of}
-use Rattle.cell_defs.specs.Events.{events_of_block}
-use Rattle.cell_defs.specs.Row.{Row, live_row}
-use Rattle.cell_defs.specs.Ext.{Ext, ext_bytes}
-use Rattle.cell_defs.specs.Fits.{FitsExt}
-use Rattle.cell_defs.specs.UndoLaws.{ComesBefore}
+use Rattle.chain_tree.specs.declared.entry.Entry.{Entry}
+use Rattle.chain_tree.specs.Damages.{IsAtRecord}
+use Rattle.outside.specs.declared.disk.Damage.{Damage}
+use Rattle.chain_defs.specs.Events.{events_of_block}
+use Rattle.chain_defs.specs.Row.{Row, live_row}
+use Rattle.chain_defs.specs.Ext.{Ext, ext_bytes}
+use Rattle.chain_defs.specs.Fits.{FitsExt}
+use Rattle.chain_defs.specs.UndoLaws.{ComesBefore}
 
 -- A block can be taken back with the bytes beside it: they are those of an ext that fits them, and its rows are what the block spends of the
 -- rows before it.
@@ -55,6 +58,10 @@ IsOnTheWay kept from to place = is_on_branch kept from place ≡ not (is_on_bran
 -- so is each of these
 abbrev pub AreOnTheWay : List Block → ℕ → ℕ → List ℕ → Type 0
 AreOnTheWay kept from to places = (i place : ℕ) → slice_get places i ≡ Some place → IsOnTheWay kept from to place
+
+-- Damage of the block that is in hand: it is one of these, and the damage is at its record.
+abbrev pub IsOfHand : List Entry → (ℕ → Type 0) → Damage → ℕ → Type 0
+IsOfHand entries Is damage place = Is place × IsAtRecord entries place damage
 
 -- The last places of a branch, its end first, and below them the next.
 pub record IsPathUp (kept : List Block) (end : ℕ) (places : List ℕ) (next : ℕ) : Type 0 where

@@ -1,10 +1,10 @@
 -- What the passes over a block's events do at an out-point.
 use Rattle.std.specs.Prelude.{◌≡◌, ℕ, suc, true, false, List, [], ◌∷◌, Option, Some, None, IsSome}
 use Rattle.chain_defs.specs.Schema.{OutPoint}
-use Rattle.cell_defs.specs.Cell.{Cell}
-use Rattle.cell_defs.specs.Events.{Event, Makes, Spends, last_naming}
-use Rattle.cell_defs.specs.Fit.{live_by}
-use Rattle.cell_defs.specs.Row.{Row, row_of, row_after}
+use Rattle.chain_defs.specs.Cell.{Cell}
+use Rattle.chain_defs.specs.Events.{Event, Makes, Spends, last_naming}
+use Rattle.chain_defs.specs.Fit.{live_by}
+use Rattle.chain_defs.specs.Row.{Row, row_of, row_after}
 use Rattle.cell_state.specs.declared.slots.Slot.{Slot}
 use Rattle.cell_state.specs.declared.slots.Slot.TheVariants.{Live, Spent, Added, Gone}
 use Rattle.cell_state.specs.Slots.{StateValue, at, row_before, is_live, settled}

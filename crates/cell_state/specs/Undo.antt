@@ -1,8 +1,8 @@
 -- What taking a block back does at an out-point, pass by pass.
 use Rattle.std.specs.Prelude.{◌≡◌, ℕ, Bool, List, [], ◌∷◌, Option, Some, None, is_some, if◌then◌else◌}
 use Rattle.chain_defs.specs.Schema.{OutPoint}
-use Rattle.cell_defs.specs.Events.{same_out_point}
-use Rattle.cell_defs.specs.Row.{Row}
+use Rattle.chain_defs.specs.Events.{same_out_point}
+use Rattle.chain_defs.specs.Row.{Row}
 use Rattle.cell_state.specs.declared.slots.Slot.{Slot}
 use Rattle.cell_state.specs.declared.slots.Slot.TheVariants.{Live, Spent, Added, Gone}
 use Rattle.cell_state.specs.Slots.{StateValue, at, is_live}

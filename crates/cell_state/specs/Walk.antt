@@ -1,8 +1,8 @@
 -- The events of a block that are still to come, as a list.
 use Rattle.std.specs.Prelude.{◌≡◌, ℕ, ◌+◌, Bool, ◌||◌, ◌==◌, List, [], ◌∷◌, ◌++◌, drop, Option, Some, None, slice_get, if◌then◌else◌}
 use Rattle.chain_defs.specs.Schema.{Transaction}
-use Rattle.cell_defs.specs.Cell.{Cell}
-use Rattle.cell_defs.specs.Events.{Event, Makes, Spends, spends_of, events_of, events_from}
+use Rattle.chain_defs.specs.Cell.{Cell}
+use Rattle.chain_defs.specs.Events.{Event, Makes, Spends, spends_of, events_of, events_from}
 use Rattle.cell_state.specs.declared.made.Made.{Made}
 use Rattle.cell_state.specs.declared.events.Event as walked
 use Rattle.cell_state.specs.declared.events.Event.TheVariants as variants

@@ -1,5 +1,5 @@
 // One kept block at a time: the cells of the genesis, and the events of a block after it.
-ghost use Rattle.std.specs.Prelude.{◌≡◌, ◌≤◌, ◌<◌, ◌+◌, ℕ, List, length, Some, None, Err, IfOk, OnOk, IsSome};
+ghost use Rattle.std.specs.Prelude.{◌≡◌, ◌≤◌, ◌<◌, ◌+◌, ℕ, List, length, Some, None, Err, IfOk, OnOk, IfSome, IsSome};
 ghost use Rattle.chain_defs.specs.Schema.{OutPoint, Block};
 ghost use Rattle.outside.specs.declared.disk.Damage.{Damage};
 ghost use Rattle.outside.specs.declared.disk.ReadStop.TheVariants.{Damaged};
@@ -7,12 +7,12 @@ ghost use Rattle.chain_defs.specs.Kept.{block_at};
 ghost use Rattle.chain_tree.specs.Blocks.{IndexesBlocks};
 ghost use Rattle.chain_tree.specs.Told.{Stored, blocks_of};
 ghost use Rattle.chain_tree.specs.Reading.{HasRead, stop_of};
-ghost use Rattle.cell_defs.specs.Events.{events_of_block};
-ghost use Rattle.cell_defs.specs.Row.{row_after};
-ghost use Rattle.cell_defs.specs.Fit.{are_live, AllFit};
+ghost use Rattle.chain_defs.specs.Events.{events_of_block};
+ghost use Rattle.chain_defs.specs.Row.{row_after};
+ghost use Rattle.chain_defs.specs.Fit.{are_live, AllFit};
 ghost use Rattle.cell_state.specs.State.{rows};
 ghost use Rattle.chain_tree.specs.Damages.{IsAtRecord};
-ghost use Rattle.cell_state.specs.Moves.{AreRowsBelow, AreRowsOfBranch};
+ghost use Rattle.cell_state.specs.Moves.{AreRowsBelow, AreRowsOfBranch, IsOfHand};
 
 use crate::{State, outputs_in};
 use chain_tree::{Blocks, Tree, damaged_at};
@@ -75,6 +75,7 @@ pub(crate) fn apply_at<B: Blocks, L: Ledger>(
     ensures at_record { IsSome (B.told blocks.old) → (damage : Damage) → result ≡ Err (Damaged damage) → IsAtRecord tree.now.entries place damage }
     ensures steps { OnOk result (steps.new ≡ steps.old + 1) }
     ensures most { steps.new ≤ steps.old + 1 }
+    ensures in_hand { (damage : Damage) → result ≡ Err (Damaged damage) → IfSome (B.in_hand blocks.new) (IsOfHand tree.now.entries (λ e. e ≡ place) damage) }
 {
     match blocks.bring(place) {
         Ok(()) => {}

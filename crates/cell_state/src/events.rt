@@ -2,13 +2,13 @@
 ghost use Rattle.std.specs.Prelude.{◌≡◌, ◌+◌, ◌<◌, ◌^◌, ℕ, length, map, IfSome, Some, slice_get};
 ghost use Rattle.std.specs.Option.{option_map};
 ghost use Rattle.chain_defs.specs.Hashes.{transaction_hash};
-ghost use Rattle.cell_defs.specs.Events.{events_of, events_of_block, out_point_of};
-ghost use Rattle.cell_defs.specs.Row.{row_of};
+ghost use Rattle.chain_defs.specs.Events.{events_of, events_of_block, out_point_of};
+ghost use Rattle.chain_defs.specs.Row.{row_of};
 ghost use Rattle.cell_state.specs.Walk.{height_of, spends_at, made_cell, value_of, IsNext};
 
 use crate::made::Made;
-use cell_model::{CellMeta, LastScript, OutPoint, data_at, meta_with};
-use mol_schema::{BlockView, OutPointView, TxView};
+use crate::{CellMeta, LastScript, OutPoint, data_at, meta_with, out_point_of};
+use mol_schema::{BlockView, TxView};
 use std::marker::Model;
 
 impl<'a> Made<'a> {
@@ -36,18 +36,6 @@ impl<'a> Event<'a> {
             Event::Makes(o, _) => *o,
             Event::Spends(o) => *o,
         }
-    }
-}
-
-/// An out-point as it stands in a transaction.
-fn out_point_at(view: &OutPointView<'_>) -> OutPoint
-    ensures { result ≡ view.now }
-{
-    let mut tx_hash = [0; 32];
-    tx_hash.copy_from_slice(view.tx_hash());
-    OutPoint {
-        tx_hash,
-        index: view.index(),
     }
 }
 
@@ -79,7 +67,7 @@ fn event_at<'a>(
     let spends = spends_count(tx, genesis, place);
     if index < spends {
         let input = raw.inputs_item(index);
-        return Some(Event::Spends(out_point_at(&input.previous_output())));
+        return Some(Event::Spends(out_point_of(&input.previous_output())));
     }
     let output = index - spends;
     if output >= raw.outputs_count() {
@@ -130,7 +118,7 @@ pub(crate) struct Events<'b, 'a> {
 impl<'b, 'a> Model for Events<'b, 'a> {
     ghost use Rattle.std.specs.Prelude.{◌≡◌, List, map};
     ghost use Rattle.chain_defs.specs.Hashes.{transaction_hash};
-    ghost use Rattle.cell_defs.specs.Events as events;
+    ghost use Rattle.chain_defs.specs.Events as events;
     ghost use Rattle.cell_state.specs.Walk.{height_of, events_left};
 
     ghost Value = { List events.Event };

@@ -1,13 +1,13 @@
 // The rows as a list, in order.
 ghost use Rattle.std.specs.Prelude.{◌≡◌, IfOk};
-ghost use Rattle.cell_defs.specs.Row.{ListsRows};
+ghost use Rattle.chain_defs.specs.Row.{ListsRows};
 ghost use Rattle.std.specs.List.{IsDistinct};
 ghost use Rattle.std.specs.Map.{keys_of};
 ghost use Rattle.cell_state.specs.Listing.{listed};
 ghost use Rattle.cell_state.specs.Slots.{rows, same_key, AreSettled};
 
 use crate::slots::{Slot, Slots};
-use cell_model::{CellMeta, OutPoint};
+use crate::{CellMeta, OutPoint};
 use outside::NoMemory;
 use std::alloc::Global;
 

@@ -1,5 +1,5 @@
 // From the rows of one place's branch to those of another's.
-ghost use Rattle.std.specs.Prelude.{◌≡◌, ◌≤◌, ◌<◌, ◌+◌, ℕ, List, length, Some, Err, IfOk, OnOk, IsSome, slice_get};
+ghost use Rattle.std.specs.Prelude.{◌≡◌, ◌≤◌, ◌<◌, ◌+◌, ℕ, List, length, Some, Err, IfOk, OnOk, IfSome, IsSome, slice_get};
 ghost use Rattle.chain_defs.specs.Schema.{Block};
 ghost use Rattle.outside.specs.declared.disk.Damage.{Damage};
 ghost use Rattle.outside.specs.declared.disk.ReadStop.TheVariants.{Damaged};
@@ -7,10 +7,10 @@ ghost use Rattle.chain_defs.specs.Branch.{distance};
 ghost use Rattle.chain_tree.specs.Blocks.{IndexesBlocks};
 ghost use Rattle.chain_tree.specs.Told.{Stored, blocks_of};
 ghost use Rattle.chain_tree.specs.Reading.{HasRead, stop_of};
-ghost use Rattle.cell_defs.specs.Fit.{BranchFits};
+ghost use Rattle.chain_defs.specs.Fit.{BranchFits};
 ghost use Rattle.cell_state.specs.State.{rows};
 ghost use Rattle.chain_tree.specs.Damages.{IsAtRecord};
-ghost use Rattle.cell_state.specs.Moves.{CanGoDown, AreRowsBelow, AreRowsOfBranch, IsPathUp, IsOnTheWay, AreOnTheWay};
+ghost use Rattle.cell_state.specs.Moves.{CanGoDown, AreRowsBelow, AreRowsOfBranch, IsPathUp, IsOnTheWay, AreOnTheWay, IsOfHand};
 
 use crate::State;
 use crate::applying::apply_at;
@@ -51,6 +51,8 @@ fn go_down<B: Blocks, L: Ledger>(
     ensures steps { (kept : List Block) → IndexesBlocks kept tree.now.entries
         → IfOk result (λ it. steps.new + length it.1.items ≡ steps.old + distance kept from to) }
     ensures most { (kept : List Block) → IndexesBlocks kept tree.now.entries → steps.new ≤ steps.old + distance kept from to }
+    ensures in_hand { (kept : List Block) → IndexesBlocks kept tree.now.entries → (damage : Damage) → result ≡ Err (Damaged damage)
+        → IfSome (B.in_hand blocks.new) (IsOfHand tree.now.entries (IsOnTheWay kept from to) damage) }
 {
     let mut up = Vec::new(alloc);
     let mut low = from;
@@ -81,7 +83,7 @@ fn go_down<B: Blocks, L: Ledger>(
 
 /// Goes from the live cells of the branch of one place to those of another's: down to their fork, a block taken back each
 /// step, and up from there, a block applied each step. Damaged, at its record, where the source finds a block on the way
-/// damaged, or its ext or its events do not fit the cells. Rows of blocks before a place that is after both stay so, whatever
+/// damaged, or its ext or its events do not fit the cells: that block is then still in hand, whatever the source is. Rows of blocks before a place that is after both stay so, whatever
 /// the source is. After an error the cells are gone.
 pub fn go_to<B: Blocks, L: Ledger>(
     alloc: Global,
@@ -107,6 +109,8 @@ pub fn go_to<B: Blocks, L: Ledger>(
     ensures steps { (kept : List Block) → IndexesBlocks kept tree.now.entries
         → OnOk result (steps.new ≡ steps.old + distance kept from to) }
     ensures most { (kept : List Block) → IndexesBlocks kept tree.now.entries → steps.new ≤ steps.old + distance kept from to }
+    ensures in_hand { (kept : List Block) → IndexesBlocks kept tree.now.entries → (damage : Damage) → result ≡ Err (Damaged damage)
+        → IfSome (B.in_hand blocks.new) (IsOfHand tree.now.entries (IsOnTheWay kept from to) damage) }
 {
     let mut state = state;
     let (_, up) = match go_down(alloc, &mut state, tree, blocks, from, to, steps) {

@@ -1,5 +1,5 @@
 // Why a block does not fit the live cells.
-use cell_model::OutPoint;
+use crate::OutPoint;
 
 /// Why a block does not fit the live cells: the first of its events that does not.
 #[derive(Clone, Copy)]

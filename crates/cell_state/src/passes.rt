@@ -3,10 +3,10 @@
 // are live in the end, or else `unmark` gives every slot back as it was.
 ghost use Rattle.std.specs.Prelude.{◌≡◌, ◌≤◌, ◌+◌, ◌<◌, ℕ, Some, false, IfErr, OnOk, OnErr, IsTrue, if◌then◌else◌};
 ghost use Rattle.chain_defs.specs.Schema as schema;
-ghost use Rattle.cell_defs.specs.Events.{same_out_point, last_naming};
-ghost use Rattle.cell_defs.specs.Row.{Row, row_of};
+ghost use Rattle.chain_defs.specs.Events.{same_out_point, last_naming};
+ghost use Rattle.chain_defs.specs.Row.{Row, row_of};
 ghost use Rattle.cell_state.specs.Fit.{IsFirstOdd};
-ghost use Rattle.cell_defs.specs.Fit.{are_live, AllFit};
+ghost use Rattle.chain_defs.specs.Fit.{are_live, AllFit};
 ghost use Rattle.cell_state.specs.declared.odd.Odd.TheVariants.{NotLive, Live};
 ghost use Rattle.cell_state.specs.Slots.{at, rows, is_live, AreSettled};
 ghost use Rattle.cell_state.specs.Walk.{made_cell};
@@ -16,7 +16,7 @@ use crate::events::{Event, Events};
 use crate::made::Made;
 use crate::odd::Odd;
 use crate::slots::{Slot, Slots};
-use cell_model::{LastScript, OutPoint};
+use crate::{LastScript, OutPoint};
 use outside::NoMemory;
 
 impl Slots {

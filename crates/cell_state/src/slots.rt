@@ -3,10 +3,10 @@ ghost use Rattle.std.specs.Prelude.{◌≡◌, ◌≤◌, ◌<◌, ◌+◌, ◌^
 ghost use Rattle.std.specs.List.{IsDistinct};
 ghost use Rattle.std.specs.Map.{keys_of};
 ghost use Rattle.chain_defs.specs.Schema as schema;
-ghost use Rattle.cell_defs.specs.Events.{same_out_point};
+ghost use Rattle.chain_defs.specs.Events.{same_out_point};
 ghost use Rattle.cell_state.specs.Slots.{at, count, same_key};
 
-use cell_model::{CellMeta, OutPoint};
+use crate::{CellMeta, OutPoint};
 use chain_tree::ByDigest;
 use outside::NoMemory;
 use std::alloc::Global;

@@ -3,19 +3,19 @@ ghost use Rattle.std.specs.Prelude.{◌≡◌, ◌≤◌, ◌<◌, ◌+◌, ◌^
 ghost use Rattle.std.specs.Option.{option_map};
 ghost use Rattle.chain_defs.specs.Schema as schema;
 ghost use Rattle.chain_defs.specs.Hashes.{transaction_hash};
-ghost use Rattle.cell_defs.specs.Events.{events_of_block, same_out_point};
-ghost use Rattle.cell_defs.specs.Row.{Row, row_after, ListsRows};
+ghost use Rattle.chain_defs.specs.Events.{events_of_block, same_out_point};
+ghost use Rattle.chain_defs.specs.Row.{Row, row_after, ListsRows};
 ghost use Rattle.cell_state.specs.Fit.{IsFirstOdd};
-ghost use Rattle.cell_defs.specs.Fit.{are_live, AllFit};
-ghost use Rattle.cell_defs.specs.Undo.{undone, first_clash};
-ghost use Rattle.cell_defs.specs.UndoLaws.{ComesBefore};
+ghost use Rattle.chain_defs.specs.Fit.{are_live, AllFit};
+ghost use Rattle.chain_defs.specs.Undo.{undone, first_clash};
+ghost use Rattle.chain_defs.specs.UndoLaws.{ComesBefore};
 ghost use Rattle.cell_state.specs.declared.odd.Odd.TheVariants.{Live};
 ghost use Rattle.cell_state.specs.State.{Grows, rows, count, outputs_of};
 
 use crate::events::Events;
 use crate::odd::Odd;
 use crate::slots::{Slot, Slots};
-use cell_model::{CellMeta, Cells, Ext, LastScript, OutPoint};
+use crate::{CellMeta, Cells, Ext, LastScript, OutPoint};
 use mol_schema::BlockView;
 use outside::{NoMemory, Steps};
 use std::alloc::Global;

@@ -1,18 +1,17 @@
 // One kept block that is taken back.
-ghost use Rattle.std.specs.Prelude.{◌≡◌, ◌≤◌, ◌<◌, ◌+◌, ℕ, List, length, Option, Some, Err, OnOk, IsSome, slice_get};
+ghost use Rattle.std.specs.Prelude.{◌≡◌, ◌≤◌, ◌<◌, ◌+◌, ℕ, List, length, Option, Some, Err, OnOk, IfSome, IsSome, slice_get};
 ghost use Rattle.std.specs.List.{list_all};
 ghost use Rattle.chain_defs.specs.Schema.{OutPoint as out_point};
 ghost use Rattle.outside.specs.declared.disk.Damage.{Damage};
 ghost use Rattle.outside.specs.declared.disk.ReadStop.TheVariants.{Damaged};
 ghost use Rattle.chain_tree.specs.Told.{Stored};
 ghost use Rattle.chain_tree.specs.Reading.{HasRead, stop_of};
-ghost use Rattle.cell_defs.specs.Row.{Row};
+ghost use Rattle.chain_defs.specs.Row.{Row};
 ghost use Rattle.cell_state.specs.State.{rows};
 ghost use Rattle.chain_tree.specs.Damages.{IsAtRecord};
-ghost use Rattle.cell_state.specs.Moves.{AreRowsBelow, CanBeTakenBack, is_below};
+ghost use Rattle.cell_state.specs.Moves.{AreRowsBelow, CanBeTakenBack, IsOfHand, is_below};
 
-use crate::State;
-use cell_model::{CellMeta, Ext, OutPoint};
+use crate::{CellMeta, Ext, OutPoint, State};
 use chain_tree::{Blocks, Tree, damaged_at};
 use outside::{ReadStop, Steps};
 use std::alloc::Global;
@@ -53,6 +52,7 @@ pub(crate) fn undo_at<B: Blocks, L: Ledger>(
     ensures at_record { IsSome (B.told blocks.old) → (damage : Damage) → result ≡ Err (Damaged damage) → IsAtRecord tree.now.entries place damage }
     ensures steps { OnOk result (steps.new ≡ steps.old + 1) }
     ensures most { steps.new ≤ steps.old + 1 }
+    ensures in_hand { (damage : Damage) → result ≡ Err (Damaged damage) → IfSome (B.in_hand blocks.new) (IsOfHand tree.now.entries (λ e. e ≡ place) damage) }
 {
     match blocks.bring(place) {
         Ok(()) => {}

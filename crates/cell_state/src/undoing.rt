@@ -7,10 +7,10 @@ ghost use Rattle.std.specs.Option.{option_map};
 ghost use Rattle.std.specs.List.{list_any};
 ghost use Rattle.chain_defs.specs.Schema as schema;
 ghost use Rattle.chain_defs.specs.Hashes.{transaction_hash};
-ghost use Rattle.cell_defs.specs.Events.{events_of_block, same_out_point};
-ghost use Rattle.cell_defs.specs.Row.{Row};
-ghost use Rattle.cell_defs.specs.CellLaws.{makes};
-ghost use Rattle.cell_defs.specs.Undo.{first_live, undone, first_clash};
+ghost use Rattle.chain_defs.specs.Events.{events_of_block, same_out_point};
+ghost use Rattle.chain_defs.specs.Row.{Row};
+ghost use Rattle.chain_defs.specs.CellLaws.{makes};
+ghost use Rattle.chain_defs.specs.Undo.{first_live, undone, first_clash};
 ghost use Rattle.cell_state.specs.declared.odd.Odd.TheVariants.{Live};
 ghost use Rattle.cell_state.specs.Slots.{at, rows, settled, AreSettled};
 ghost use Rattle.cell_state.specs.Passes.{spent_mark, made_mark, unmarked, settled_spent};
@@ -19,7 +19,7 @@ ghost use Rattle.cell_state.specs.Undo.{passed, is_at, row_written, AreThere};
 use crate::events::{Event, Events};
 use crate::odd::Odd;
 use crate::slots::{Slot, Slots};
-use cell_model::{CellMeta, OutPoint};
+use crate::{CellMeta, OutPoint};
 use mol_schema::BlockView;
 
 impl Slots {

@@ -17,3 +17,15 @@ pub mod Tip
 pub mod Hashes
 pub mod Median
 pub mod ForkLaws
+pub mod Cell
+pub mod Events
+pub mod Fit
+pub mod Row
+pub mod Ext
+pub mod CellLaws
+pub mod Fits
+pub mod FitLaws
+pub mod Undo
+pub mod UndoLaws
+pub mod LiveCells
+pub mod ByLock

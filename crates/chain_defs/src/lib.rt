@@ -11,17 +11,29 @@
 //!   bounds, for a chain whose epochs have one length.
 //! - `Hashes`, `Kept`, `Branch`, `Tip`, `Median`: the kept blocks of a chain by their places, parents, branches, the tip and
 //!   the median time.
+//! - `Cell`, `Events`, `Row`, `Ext`: what the blocks of a branch make and spend as a list of events, the live cells after it,
+//!   their rows, and the ext of a block with its bytes. `Fits`, `Fit`: what of canonical blocks fits them. `Undo`: which rows a
+//!   block spends of those before it, and what comes of putting them back over the rows after it. `LiveCells`, `ByLock`: the
+//!   live cells as a list, and those of one lock.
 //!
 //! What they are for is said by laws, as contracts of functions that do nothing: [`first_failing_laws`], [`epoch_laws`],
-//! [`since_laws`], [`kept_laws`], [`branch_laws`], [`tip_laws`], [`median_laws`] and [`forks`].
+//! [`since_laws`], [`kept_laws`], [`branch_laws`], [`tip_laws`], [`median_laws`] and [`forks`]; of cells [`block_events`],
+//! [`live_cells`], [`live_rows`], [`listed_cells`], [`bytes_of_exts`], [`canonical`], [`spent_rows`] and [`taking_back`].
 #![tactic(auto)]
 
+mod cells;
 mod chain;
+mod exts;
 mod first;
+mod fits;
 mod fork;
 mod time;
+mod undo;
 
+pub use cells::{block_events, listed_cells, live_cells, live_rows};
 pub use chain::{branch_laws, kept_laws, median_laws, tip_laws};
+pub use exts::bytes_of_exts;
 pub use first::first_failing_laws;
+pub use fits::canonical;
 pub use fork::forks;
 pub use time::{epoch_laws, occupied_examples, since_laws};

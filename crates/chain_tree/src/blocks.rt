@@ -1,7 +1,7 @@
 // Where the bytes of kept blocks come from: the trait that the rules on cells, proposals and uncles read them by.
 ghost use Rattle.std.specs.Prelude.{◌≡◌, ◌-◌, ◌^◌, ◌<◌, ◌≤◌, Option, Some, None, Err, List, ℕ, length, map, drop, slice_get, IfOk, OnOk, OnErr, IfSome, IsSome, IsTrue};
 ghost use Rattle.chain_defs.specs.Hashes.{proposal_id};
-ghost use Rattle.cell_defs.specs.Ext.{is_ext};
+ghost use Rattle.chain_defs.specs.Ext.{is_ext};
 ghost use Rattle.outside.specs.declared.disk.Area.TheVariants.{Log};
 ghost use Rattle.outside.specs.declared.disk.Damage.{Damage};
 ghost use Rattle.outside.specs.declared.disk.ReadStop.TheVariants.{DiskFault, Damaged};

@@ -29,6 +29,7 @@ pub fn damaged_at<B: Blocks>(tree: &Tree, blocks: &mut B, place: u32) -> ReadSto
     ensures read { HasRead B.told B.count B.loans_of B.faults B.damages blocks.old blocks.new (Some result) }
     ensures damage { (damage : disk.Damage) × (result ≡ Damaged damage) }
     ensures at_record { (damage : disk.Damage) → result ≡ Damaged damage → IsAtRecord tree.now.entries place damage }
+    ensures in_hand { B.in_hand blocks.new ≡ B.in_hand blocks.old }
 {
     let stop = ReadStop::Damaged(Damage {
         area: Area::Log,

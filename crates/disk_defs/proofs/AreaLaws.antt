@@ -5,7 +5,7 @@ use Rattle.std.proofs.lemmas.Bool.{eqb-true, eqb-false, eq-eqb, ne_eqb}
 use Rattle.std.proofs.lemmas.List.{length-append}
 use Rattle.chain_defs.specs.Schema.{Block}
 use Rattle.chain_defs.specs.Kept.{block_hash}
-use Rattle.cell_defs.specs.Row.{live_row}
+use Rattle.chain_defs.specs.Row.{live_row}
 use Rattle.outside.specs.declared.disk.Area.{Area}
 use Rattle.outside.specs.declared.disk.Area.TheVariants.{Log, SnapA, SnapB}
 use Rattle.disk_defs.specs.Snapshot.{Snapshot, snapshot_bytes, has_open_gate, Holds, area_of, IsOfBlocks, HoldsSound}

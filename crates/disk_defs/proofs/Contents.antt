@@ -14,7 +14,7 @@ use Rattle.chain_defs.specs.Schema.{Block, block}
 use Rattle.chain_defs.specs.Specification.{broken_specification_rule}
 use Rattle.rule_defs.specs.Genesis.{broken_by, broken_genesis_rule}
 use Rattle.chain_defs.specs.Kept.{block_list, blocks_of_item}
-use Rattle.cell_defs.specs.Ext.{count_at}
+use Rattle.chain_defs.specs.Ext.{count_at}
 use Rattle.disk_defs.specs.Log.{Record, LogContent, record_limit, records_of, magic, log_of, content_of_records, are_first, blocks_over, block_if, block_of_parts, block_of_record, body_of_parts, parts_of_body, is_of_edition, of_editions, of_blocks, at_most_one, first_epoch, may_be_later}
 use Rattle.disk_defs.specs.Rest.{EndsAt}
 use Rattle.disk_defs.specs.LogLaws.{GivesTheParts, SaysItsRecords, IsSaidBy, SaysByParts, AddsABlock, AddsAnEdition, EditionsAreKept, EpochIsTold, BeginsWell, grown, edited}

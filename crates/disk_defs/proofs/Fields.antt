@@ -6,10 +6,10 @@ use Rattle.std.proofs.lemmas.Nat.{from_le_bytes-to_le_bytes_4, from_le_bytes-to_
 use Rattle.std.proofs.lemmas.List.{take_at, drop_at, length-append}
 use Rattle.std.proofs.lemmas.List.Elements.{All-head, All-tail}
 use Rattle.chain_defs.specs.Schema.{OutPoint}
-use Rattle.cell_defs.specs.Row.{Row}
-use Rattle.cell_defs.specs.Ext.{row_bytes}
-use Rattle.cell_defs.specs.Fits.{FitsRow}
-use Rattle.cell_defs.proofs.TellLaws.{bytes-tell-rows, length-row}
+use Rattle.chain_defs.specs.Row.{Row}
+use Rattle.chain_defs.specs.Ext.{row_bytes}
+use Rattle.chain_defs.specs.Fits.{FitsRow}
+use Rattle.chain_defs.proofs.TellLaws.{bytes-tell-rows, length-row}
 use Rattle.disk_defs.specs.Snapshot.{Snapshot, body_bytes, snapshot_bytes}
 
 -- parts of one length are the same, and so are those after them

@@ -5,7 +5,7 @@ use Rattle.std.specs.Int.{w32, to_le_bytes, from_le_bytes}
 use Rattle.std.proofs.lemmas.Bool.{ltb-true, eqb-true, lt-ltb, eq-eqb, and_parts, and_from}
 use Rattle.std.proofs.lemmas.List.{append-nil, append_assoc, length-append, length-take-le, length-drop, take-take, take_at, drop_at, drop-drop, drop-take, get_or-take}
 use Rattle.std.proofs.lemmas.Nat.{from_le_bytes-to_le_bytes_4}
-use Rattle.cell_defs.specs.Ext.{count_at}
+use Rattle.chain_defs.specs.Ext.{count_at}
 use Rattle.disk_defs.specs.Log.{Record, record_at, record_bytes, all_record_bytes, records_within, records_of}
 use Rattle.disk_defs.specs.LogLaws.{HasFittingBody, ReadsTheRecords, KeepsTheRecords, EndsTheRecords}
 

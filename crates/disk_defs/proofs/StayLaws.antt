@@ -8,9 +8,9 @@ use Rattle.chain_defs.specs.Kept.{block_at, block_hash, parent_place}
 use Rattle.chain_defs.specs.Branch.{branch, branch_places, places_within}
 use Rattle.chain_defs.proofs.KeptLaws.{slice_get-before}
 use Rattle.chain_defs.proofs.BranchLaws.{parent_place-below, parent_place-push, branch-push}
-use Rattle.cell_defs.specs.Cell.{Cell}
-use Rattle.cell_defs.specs.Events.{live_cell}
-use Rattle.cell_defs.specs.Row.{row_of, row_on, live_row}
+use Rattle.chain_defs.specs.Cell.{Cell}
+use Rattle.chain_defs.specs.Events.{live_cell}
+use Rattle.chain_defs.specs.Row.{row_of, row_on, live_row}
 use Rattle.disk_defs.specs.Snapshot.{Snapshot}
 use Rattle.disk_defs.specs.SnapshotLaws.{StaysOfBlocks, StaysSound}
 

@@ -8,7 +8,7 @@ use Rattle.chain_defs.specs.Shape.{decoded}
 use Rattle.chain_defs.specs.Schema.{Block, block}
 use Rattle.chain_defs.specs.Kept.{block_hash, place_of, block_at, follows, kept_limit, blocks_of_item}
 use Rattle.chain_defs.specs.Specification.{Specification, specification_of, with_edition, broken_specification_rule}
-use Rattle.cell_defs.specs.Ext.{count_at, is_ext}
+use Rattle.chain_defs.specs.Ext.{count_at, is_ext}
 use Rattle.rule_defs.specs.Genesis.{broken_genesis_rule}
 
 -- ---- Records

@@ -4,9 +4,9 @@ use Rattle.std.specs.List.{All, concat}
 use Rattle.std.specs.Int.{w32, w64, to_le_bytes}
 use Rattle.chain_defs.specs.Schema.{OutPoint, Block}
 use Rattle.chain_defs.specs.Kept.{block_at, block_hash}
-use Rattle.cell_defs.specs.Row.{Row, live_row, IsRising, ListsRows}
-use Rattle.cell_defs.specs.Ext.{row_bytes}
-use Rattle.cell_defs.specs.Fits.{FitsRow}
+use Rattle.chain_defs.specs.Row.{Row, live_row, IsRising, ListsRows}
+use Rattle.chain_defs.specs.Ext.{row_bytes}
+use Rattle.chain_defs.specs.Fits.{FitsRow}
 use Rattle.outside.specs.declared.disk.Area.{Area}
 use Rattle.outside.specs.declared.disk.Area.TheVariants.{SnapA, SnapB}
 

@@ -2,8 +2,8 @@
 use Rattle.std.specs.Prelude.{◌≡◌, ◌≢◌, ℕ, ◌+◌, ◌%◌, ◌≤◌, true, false, List, [], ◌∷◌, ◌++◌, length, Option, Some}
 use Rattle.chain_defs.specs.Schema.{OutPoint, Block}
 use Rattle.chain_defs.specs.Kept.{block_at, block_hash}
-use Rattle.cell_defs.specs.Row.{Row, live_row, ListsRows}
-use Rattle.cell_defs.specs.Ext.{count_at}
+use Rattle.chain_defs.specs.Row.{Row, live_row, ListsRows}
+use Rattle.chain_defs.specs.Ext.{count_at}
 use Rattle.outside.specs.declared.disk.Area.{Area}
 use Rattle.outside.specs.declared.disk.Area.TheVariants.{Log, SnapA, SnapB}
 use Rattle.disk_defs.specs.Snapshot.{Snapshot, HasForm, snapshot_bytes, has_open_gate, Holds, area_of, IsOfBlocks, IsSoundArea}

@@ -1,1 +1,1 @@
-pub mod TraceLemmas
+pub mod CauseLemmas

@@ -5,10 +5,10 @@ ghost use Rattle.chain_tree.specs.Reading.{stop_of};
 ghost use Rattle.node_store.specs.Node.{IsOwnDiskWhereTold, LeavesAll};
 
 use crate::over_disk;
-use crate::transaction::Judged;
 use node_store::Node;
 use outside::{Disk, ReadStop};
 use std::alloc::Global;
+use transaction_page::Judged;
 
 /// The page of a transaction that was judged alone after the tip.
 pub fn page_of_transaction<D: Disk>(

@@ -3,14 +3,10 @@ ghost use Rattle.std.specs.Prelude.{◌≡◌, ◌<◌, ◌≤◌, length};
 ghost use Rattle.chain_tree.specs.Blocks.{IsParent};
 ghost use Rattle.chain_tree.specs.Reading.{HasRead, stop_of};
 
-use crate::canonical::explain_block_bytes;
 use crate::commitments::explain_commitment;
 use crate::header::explain_header;
 use crate::in_block::{OnParent, explain_transactions};
-use crate::page::Page;
 use crate::payment::{explain_dao, explain_payment};
-use crate::site::hash_from;
-use crate::transaction::push_rule;
 use crate::uncles::explain_uncles;
 use block_judge::Context;
 use cell_state::State;
@@ -20,6 +16,7 @@ use node_store::Kept;
 use outside::{ReadStop, Steps};
 use std::alloc::Global;
 use std::sync::ledger::Ledger;
+use transaction_page::{Page, explain_block_bytes, hash_from, push_rule};
 
 /// An item that was judged as a block: the rule that it breaks, and the group whose page is asked for.
 #[derive(Clone, Copy)]

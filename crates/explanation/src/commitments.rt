@@ -1,11 +1,11 @@
 // J11, J12 and J14: what the header of a block commits to; J16 and J17: its cellbase.
 ghost use Rattle.std.specs.Prelude.{◌<◌, ◌≤◌, length};
 
-use crate::page::Page;
-use crate::site::point_of;
 use block_rules::{proposals_hash, transactions_root, uncles_hash};
+use cell_state::out_point_of;
 use mol_schema::{BlockView, CellbaseWitnessView, RawTxView, TxView};
 use std::alloc::Global;
+use transaction_page::Page;
 
 /// Appends a place with the hashes that were found and are wanted.
 fn push_hashes(page: &mut Page, place: &str, found: &[u8], wanted: &[u8; 32]) {
@@ -50,7 +50,7 @@ fn is_cellbase(tx: &TxView<'_>) -> bool {
     if raw.inputs_count() != 1 {
         return false;
     }
-    let o = point_of(&raw.inputs_item(0).previous_output());
+    let o = out_point_of(&raw.inputs_item(0).previous_output());
     o.index == u32::MAX && o.tx_hash == [0u8; 32]
 }
 

@@ -1,11 +1,10 @@
 // J4 to J10 and J13: the header of a block, and its lengths.
 ghost use Rattle.std.specs.Prelude.{◌<◌, ◌≤◌, length};
 
-use crate::page::Page;
-use crate::site::{entry_at, median_of};
 use epochs::{Epoch, epoch_of, parts};
 use mol_schema::BlockView;
 use node_store::Kept;
+use transaction_page::{Page, entry_at, median_of};
 
 /// Appends a place with the numbers that were found and are wanted.
 fn push_numbers(page: &mut Page, place: &str, found: u64, wanted: u64) {

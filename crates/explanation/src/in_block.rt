@@ -4,16 +4,14 @@ ghost use Rattle.chain_defs.specs.Hashes.{transaction_hash as hash_of};
 ghost use Rattle.chain_tree.specs.Blocks.{IsParent};
 ghost use Rattle.chain_tree.specs.Reading.{HasRead, stop_of};
 
-use crate::page::Page;
-use crate::site::{OwnBlock, Site};
-use crate::transaction::{Judged, explain};
 use block_judge::{BlockCells, BlockSoFar, Context, JudgeStop, PassedTransaction, judge_appended};
-use cell_model::Cells;
+use cell_state::Cells;
 use chain_tree::Blocks;
 use mol_schema::{BlockView, TxView};
 use outside::{NoMemory, ReadStop};
 use proposal_window::Proposed;
 use std::alloc::Global;
+use transaction_page::{Judged, OwnBlock, Page, Site, explain};
 use view_hashes::{proposal_id, transaction_hash};
 
 /// A block on its kept parent that was judged: the rule that it breaks, and the group whose page is asked for.

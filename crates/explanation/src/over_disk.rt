@@ -6,15 +6,13 @@ ghost use Rattle.node_store.specs.Node.{LogHoldsKept, HasOnlyRead};
 ghost use Rattle.std.specs.Prelude.{length};
 
 use crate::block::{JudgedBlock, explain_item};
-use crate::page::Page;
-use crate::site::Site;
-use crate::transaction::{Judged, explain, push_rule};
 use cell_state::State;
 use chain_tree::Blocks;
 use node_store::{Cache, Kept, Store};
 use outside::{Disk, ReadStop, Steps};
 use std::alloc::Global;
 use std::sync::ledger::Ledger;
+use transaction_page::{Judged, Page, Site, explain, push_rule};
 
 /// The page of a transaction after the tip.
 pub(crate) fn transaction_on<D: Disk>(

@@ -4,7 +4,6 @@ ghost use Rattle.chain_tree.specs.Blocks.{IsParent};
 ghost use Rattle.chain_tree.specs.Reading.{HasRead, stop_of};
 
 use crate::in_block::Progress;
-use crate::page::Page;
 use block_judge::{lock_of, made_in};
 use chain_tree::{Blocks, Tree};
 use dao_math::{Dao, DaoMove, next_field};
@@ -13,6 +12,7 @@ use mol_schema::{BlockView, OutputView, ScriptView};
 use outside::ReadStop;
 use rewards::reward;
 use std::alloc::Global;
+use transaction_page::Page;
 use view_hashes::{occupied, script_hash};
 
 /// Appends an output of a cellbase.

@@ -3,13 +3,12 @@ ghost use Rattle.std.specs.Prelude.{◌≡◌, ◌<◌, ◌≤◌, length};
 ghost use Rattle.chain_tree.specs.Reading.{HasRead, stop_of};
 
 use crate::in_block::OnParent;
-use crate::page::Page;
-use crate::site::{entry_at, hash_from, is_on_branch};
 use blake2b_ckb::Hasher;
 use chain_tree::{Blocks, Tree};
 use epochs::{Spec, parts};
 use mol_schema::{BlockView, HeaderView, UncleView};
 use outside::ReadStop;
+use transaction_page::{Page, entry_at, hash_from, is_on_branch};
 use view_hashes::header_hash;
 
 /// What is wrong with an uncle.

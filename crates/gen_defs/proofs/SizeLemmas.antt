@@ -10,7 +10,7 @@ use Rattle.chain_defs.specs.Shape.{Encoding, are_bytes, parts, all_fit, struct, 
 use Rattle.chain_defs.specs.Schema.{byte32}
 use Rattle.chain_defs.proofs.MoleculeLaws.{length-dynvec}
 use Rattle.chain_defs.specs.CkbHash.{initial_state, absorb, blocks, ckbhash}
-use Rattle.cell_defs.proofs.HashLemmas.{hashes-have-32}
+use Rattle.chain_defs.proofs.HashLemmas.{hashes-have-32}
 
 -- an encoding of a value of its shape, of so many bytes
 pub record Fits (e : Encoding) (n : ℕ) : Type 0 where

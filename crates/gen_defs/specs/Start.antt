@@ -6,7 +6,7 @@ use Rattle.chain_defs.specs.Schema.{Script, CellInput, CellOutput, Transaction, 
 use Rattle.chain_defs.specs.Specification.{Specification}
 use Rattle.chain_defs.specs.Dao.{DaoField, field_bytes}
 use Rattle.chain_defs.specs.Hashes.{transaction_hash, transactions_root, proposals_hash, uncles_hash}
-use Rattle.cell_defs.specs.Cell.{by_data}
+use Rattle.chain_defs.specs.Cell.{by_data}
 use Rattle.rule_defs.specs.Cellbase.{null_index}
 use Rattle.machine_defs.specs.File.{elf_file}
 

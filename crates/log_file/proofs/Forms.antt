@@ -4,7 +4,7 @@ use Rattle.std.specs.Prelude.{◌&&◌}
 use Rattle.std.specs.Int.{w32, to_le_bytes}
 use Rattle.std.proofs.lemmas.Bool.{le-leb, lt-leb, and_from, and_left, and_right, ne_eqb, eq-eqb}
 use Rattle.std.proofs.lemmas.List.{take_rest, drop-drop, length-drop, length-take-le, take-append-drop}
-use Rattle.cell_defs.specs.Ext.{count_at, row_size, is_row, are_rows, is_ext}
+use Rattle.chain_defs.specs.Ext.{count_at, row_size, is_row, are_rows, is_ext}
 use Rattle.disk_defs.specs.Log.{parts_of_body, body_of_parts}
 
 abbrev made_parts : List ℕ → Option (List ℕ × List ℕ)

@@ -7,11 +7,11 @@ use Rattle.chain_defs.specs.Shape.{decoded}
 use Rattle.chain_defs.proofs.ShapeLaws.{IsEncoding-decoded}
 use Rattle.chain_defs.specs.Schema.{Block}
 use Rattle.chain_defs.specs.Schema as shapes
-use Rattle.cell_defs.specs.Ext.{is_ext}
+use Rattle.chain_defs.specs.Ext.{is_ext}
 use Rattle.chain_defs.specs.Kept.{kept_limit}
 use Rattle.chain_defs.proofs.KeptLaws.{slice_get-pushed}
 use Rattle.chain_defs.specs.First.{first_failing}
-use Rattle.cell_defs.specs.FitLaws.{IsCanonical, AreCanonical}
+use Rattle.chain_defs.specs.FitLaws.{IsCanonical, AreCanonical}
 use Rattle.chain_tree.specs.declared.entry.Entry.{Entry}
 use Rattle.chain_tree.specs.Blocks.{IndexesBlocks}
 use Rattle.chain_tree.specs.Told.{Stored, blocks_of}

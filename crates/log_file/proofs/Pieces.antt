@@ -9,7 +9,7 @@ use Rattle.std.proofs.Math.Seq.{take-add, take-append-add}
 use Rattle.std.proofs.lemmas.List.{take_at, take-append-le, take_rest, take-take, drop-drop, drop-take, get_or-take, length-take, length-drop}
 use borrow.Rule.Slice.PartMut.{put_mid, post_of}
 use Rattle.outside.specs.Image.{Image}
-use Rattle.cell_defs.specs.Ext.{count_at}
+use Rattle.chain_defs.specs.Ext.{count_at}
 use Rattle.chain_defs.specs.Schema.{Block}
 use Rattle.disk_defs.specs.Log.{Record, record_at, record_bytes, magic}
 use Rattle.disk_defs.proofs.Records.{record_length, IsRecordAt, parts_at, prefix_kept}

@@ -4,8 +4,8 @@ use Rattle.chain_defs.specs.Shape.{encoded, decoded}
 use Rattle.chain_defs.specs.Schema.{Block}
 use Rattle.chain_defs.specs.Schema as shapes
 use Rattle.chain_defs.specs.Kept.{place_of, kept_limit}
-use Rattle.cell_defs.specs.Ext.{is_ext}
-use Rattle.cell_defs.specs.FitLaws.{IsCanonical, AreCanonical}
+use Rattle.chain_defs.specs.Ext.{is_ext}
+use Rattle.chain_defs.specs.FitLaws.{IsCanonical, AreCanonical}
 use Rattle.chain_tree.specs.declared.entry.Entry.{Entry}
 use Rattle.chain_tree.specs.Blocks.{Describes, IndexesBlocks}
 use Rattle.chain_tree.specs.Told.{Stored, blocks_of}

@@ -35,17 +35,7 @@ fn entry_of(block: &BlockView<'_>, parent: u32, at: u64, len: u32) -> Entry
     ensures len { result.len ≡ len }
 {
     let header = block.header();
-    let mut dao = [0u8; 32];
-    dao.copy_from_slice(header.dao());
-    Entry {
-        hash: header_hash(&header),
-        parent,
-        number: header.number(),
-        timestamp: header.timestamp(),
-        dao,
-        at,
-        len,
-    }
+    Entry::of_header(&header, header_hash(&header), parent, at, len)
 }
 
 /// The entry of a block that may stand after those of a tree: its parent is there, its number is that one's plus 1,

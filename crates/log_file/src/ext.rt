@@ -2,7 +2,7 @@
 
 ghost use Rattle.std.specs.Prelude.{◌≡◌, ◌*◌, ◌==◌, length};
 ghost use Rattle.std.specs.List.{list_all};
-ghost use Rattle.cell_defs.specs.Ext as form;
+ghost use Rattle.chain_defs.specs.Ext as form;
 
 use crate::number::read_count;
 

@@ -5,7 +5,7 @@ ghost use Rattle.std.specs.Option.{option_map};
 ghost use Rattle.rule_defs.specs.Genesis as rules;
 ghost use Rattle.chain_defs.specs.Dao.{occupied_by_type, is_rated as dao_is_rated};
 ghost use Rattle.chain_defs.specs.Hashes.{transaction_hash};
-ghost use Rattle.cell_defs.specs.Cell as cells;
+ghost use Rattle.chain_defs.specs.Cell as cells;
 
 use crate::number::read_u64;
 use mol_schema::{BlockView, OutputView, RawTxView, TxView};

@@ -2,7 +2,7 @@
 
 ghost use Rattle.std.specs.Prelude.{◌≡◌, ◌+◌, ◌≤◌, length, slice_range};
 ghost use Rattle.std.specs.Int.{w32, to_le_bytes};
-ghost use Rattle.cell_defs.specs.Ext.{count_at};
+ghost use Rattle.chain_defs.specs.Ext.{count_at};
 ghost use Rattle.chain_defs.specs.Specification.{u64_field};
 
 /// The number that the four bytes from `at` on are.

@@ -3,7 +3,7 @@
 ghost use Rattle.std.specs.Prelude.{◌≡◌, ◌+◌, ◌<◌, ◌≤◌, ◌^◌, List, ℕ, Err, length, take, drop, slice_index, IfSome, IfOk, OnOk, IfErr};
 ghost use Rattle.outside.specs.Causes.{HasCause, CountsFault};
 ghost use Rattle.outside.specs.Disk.{IsAsBefore};
-ghost use Rattle.cell_defs.specs.Ext.{count_at};
+ghost use Rattle.chain_defs.specs.Ext.{count_at};
 ghost use Rattle.disk_defs.specs.Log.{record_at};
 ghost use Rattle.log_file.specs.Reading.{IsReading, IsAt};
 ghost use Rattle.log_file.specs.Stops.{IfDamage};

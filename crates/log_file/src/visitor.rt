@@ -1,7 +1,7 @@
 // Who is shown the blocks of a log.
 
 ghost use Rattle.std.specs.Prelude.{◌≡◌, ◌<◌, ◌++◌, ◌∷◌, [], List, length, IsTrue, OnOk};
-ghost use Rattle.cell_defs.specs.Ext.{is_ext};
+ghost use Rattle.chain_defs.specs.Ext.{is_ext};
 ghost use Rattle.chain_defs.specs.Kept.{kept_limit};
 ghost use Rattle.chain_tree.specs.Blocks.{Describes};
 ghost use Rattle.chain_tree.specs.Told.{Stored};

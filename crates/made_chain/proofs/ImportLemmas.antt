@@ -10,8 +10,8 @@ use Rattle.chain_defs.specs.Schema.{OutPoint, Block}
 use Rattle.chain_defs.specs.Branch.{branch}
 use Rattle.chain_defs.specs.Kept.{block_at}
 use Rattle.chain_defs.specs.Tip.{tip, tip_place, best_branch}
-use Rattle.cell_defs.specs.Events.{events}
-use Rattle.cell_defs.specs.Row.{Row, live_row, row_on, ListsRows}
+use Rattle.chain_defs.specs.Events.{events}
+use Rattle.chain_defs.specs.Row.{Row, live_row, row_on, ListsRows}
 use Rattle.chain_defs.proofs.FoldLemmas.{keep-push, verdicts-push}
 use Rattle.verdict_defs.specs.declared.verdict.Verdict.{Verdict}
 use Rattle.verdict_defs.specs.Verdict.{joins}
@@ -23,7 +23,7 @@ use Rattle.node_store.specs.Snapshot.{OthersReadBut}
 use Rattle.chain_defs.specs.Shape.{encoded}
 use Rattle.chain_defs.specs.Schema as schema
 use Rattle.gen_defs.specs.Start as start
-use Rattle.cell_defs.specs.LiveCells.{live_cells}
+use Rattle.chain_defs.specs.LiveCells.{live_cells}
 use Rattle.report_defs.specs.Simulation.{height_of, counts_over, generated_items, generated_counts}
 use Rattle.made_chain.proofs.LiveCells.{as-many-as-rows}
 

@@ -15,11 +15,11 @@ use Rattle.std.proofs.lemmas.Map.Made.{is_some-lookup}
 use Rattle.std.proofs.lemmas.Map.Steps.{length-le_from_keys}
 use Rattle.std.proofs.lemmas.Option.{slice_get-map, slice_get-get_or, slice_get_within, get_or_from_slice_get}
 use Rattle.chain_defs.specs.Schema.{OutPoint}
-use Rattle.cell_defs.specs.Cell.{Cell}
-use Rattle.cell_defs.specs.Events.{Event, same_out_point, cell_after}
-use Rattle.cell_defs.specs.LiveCells.{live_cells}
-use Rattle.cell_defs.proofs.LiveLaws.{lists-just-the-live, lists-each-once}
-use Rattle.cell_defs.specs.Row.{Row, out_point_cmp, IsRising, ListsRows}
+use Rattle.chain_defs.specs.Cell.{Cell}
+use Rattle.chain_defs.specs.Events.{Event, same_out_point, cell_after}
+use Rattle.chain_defs.specs.LiveCells.{live_cells}
+use Rattle.chain_defs.proofs.LiveLaws.{lists-just-the-live, lists-each-once}
+use Rattle.chain_defs.specs.Row.{Row, out_point_cmp, IsRising, ListsRows}
 use Rattle.cell_state.specs.Slots.{key_of, same_key}
 use Rattle.cell_state.proofs.SlotLemmas.{same-is}
 use Rattle.cell_state.proofs.HeightLemmas.{map-some}

@@ -8,13 +8,13 @@ use Rattle.std.proofs.lemmas.Result.{IfOk-weaker}
 use Rattle.chain_defs.specs.Shape.{encoded}
 use Rattle.chain_defs.specs.Schema as schema
 use Rattle.chain_defs.specs.Tip.{tip, best_branch}
-use Rattle.cell_defs.specs.Events.{events}
+use Rattle.chain_defs.specs.Events.{events}
 use Rattle.verdict_defs.specs.Verdict.{joins}
 use Rattle.verdict_defs.specs.Chain.{Chain, verdicts_over, chain_over, chain_of_genesis}
 use Rattle.gen_defs.specs.Start as start
 use Rattle.gen_defs.specs.Chain.{block_made, blocks_made}
 use Rattle.report_defs.specs.declared.counts.Counts.{Counts}
-use Rattle.cell_defs.specs.LiveCells.{live_cells}
+use Rattle.chain_defs.specs.LiveCells.{live_cells}
 use Rattle.report_defs.specs.Simulation.{height_of, counts_over, generated_items, AreSoakCounts}
 use Rattle.report_defs.specs.SoakLaws.{NamesNoLater, PrefixesReplay, GeneratedNameNoLater, JoinedAreCounted}
 use Rattle.made_chain.specs.Sessions.{items_in, IsKeptAfter}

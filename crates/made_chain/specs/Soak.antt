@@ -4,7 +4,8 @@ use Rattle.std.specs.List.{range_with_len}
 use Rattle.verdict_defs.specs.Chain.{Chain}
 use Rattle.made_chain.specs.declared.plan.Session.{Session}
 use Rattle.outside.specs.Image.{Image}
-use Rattle.outside_mem.specs.MemoryDisk.{Recording, reads, MayLeave, disk_faults}
+use Rattle.crashing.specs.declared.armed.Armed.{Armed}
+use Rattle.outside_mem.specs.MemoryDisk.{Recording, reads, MayLeave, IsPick, disk_faults}
 use Rattle.report_defs.specs.Simulation.{generated_items}
 use Rattle.made_chain.specs.declared.outcome.End.{End}
 use Rattle.made_chain.specs.declared.outcome.End.TheVariants.{Whole}
@@ -40,12 +41,12 @@ pub record IsPlayed (before : Chain) (items : List (List (List ℕ))) (size : �
 
 -- ---- All sessions are played
 
-module _ {D C : Type 0} (content_of : D → C) (reads_as : D → Option Image) (images : D → Image → Type 0) (faults : D → ℕ) (armed : D → Option ℕ) where
+module _ {D C : Type 0} (content_of : D → C) (reads_as : D → Option Image) (images : D → Image → Type 0) (faults : D → ℕ) (picks : D → ℕ → Image → Type 0) where
   -- These sessions were played, and the last of them is whole.
-  pub record EndWhole (sessions : List Session) (old new : D) (before after : ℕ) : Type 0 where
+  pub record EndWhole (sessions : List Session) (old new : Armed D) (before after : ℕ) : Type 0 where
     pub acked : List ℕ
     pub ends : List End
-    pub played : ArePlayed content_of reads_as images faults armed sessions acked ends old new before after
+    pub played : ArePlayed content_of reads_as images faults picks sessions acked ends old new before after
     pub whole : slice_get ends (length ends - 1) ≡ Some Whole
 
   -- Each session of a soak over these items was played, stopped as it is to be.
@@ -53,8 +54,8 @@ module _ {D C : Type 0} (content_of : D → C) (reads_as : D → Option Image) (
     pub sessions : List Session
     pub items_are : map items_of sessions ≡ replicate (4 * length items + 2) items
     pub stops_are : map stop_of sessions ≡ stops_of seed (length items)
-    pub old : D
-    pub new : D
+    pub old : Armed D
+    pub new : Armed D
     pub before : ℕ
     pub after : ℕ
     pub ended : EndWhole sessions old new before after
@@ -62,4 +63,4 @@ module _ {D C : Type 0} (content_of : D → C) (reads_as : D → Option Image) (
 -- So it was over a disk in memory, with the blocks of a seed, so many of them.
 abbrev pub IsSoakedInMemory : ℕ → ℕ → Type 0
 IsSoakedInMemory seed count =
-    IsSoaked (λ (disk : Recording). disk.steps) (λ disk. Some (reads disk.steps)) (λ disk. MayLeave disk.steps) disk_faults (λ disk. disk.plan.armed) seed (generated_items seed count)
+    IsSoaked (λ (disk : Recording). disk.steps) (λ disk. Some (reads disk.steps)) (λ disk. MayLeave disk.steps) disk_faults (λ disk. IsPick disk.steps) seed (generated_items seed count)

@@ -2,11 +2,11 @@
 ghost use Rattle.std.specs.Prelude.{◌≡◌, ◌<◌, ◌≤◌, length, map, IfOk, IsSome, if◌then◌else◌};
 ghost use Rattle.std.specs.List.{filter};
 ghost use Rattle.chain_defs.specs.Tip as tips;
-ghost use Rattle.cell_defs.specs.Events.{events};
+ghost use Rattle.chain_defs.specs.Events.{events};
 ghost use Rattle.verdict_defs.specs.Verdict as rules;
 ghost use Rattle.verdict_defs.specs.Chain.{verdict_over, chain_after, verdicts_over, chain_over, chain_of_genesis};
 ghost use Rattle.node_store.specs.Node.{IsOwnDiskWhereTold, IsOnlyImage, IsSoundNode, IsSoundWhereTold};
-ghost use Rattle.cell_defs.specs.LiveCells.{live_cells};
+ghost use Rattle.chain_defs.specs.LiveCells.{live_cells};
 ghost use Rattle.report_defs.specs.Simulation.{height_of, counts_over, generated_counts};
 
 use chain_gen::{Made, make};

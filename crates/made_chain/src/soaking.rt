@@ -10,8 +10,9 @@ ghost use Rattle.made_chain.specs.Soak.{stop_of, stops_of, IsPlayed, EndWhole, I
 use crate::counting::{SIZE_BOUND, counted, open_new};
 use crate::{End, Session, play};
 use chain_gen::{Made, make};
+use crashing::{Armed, Crashing};
 use node_store::{HELD, Judging, Node};
-use outside::{Crashing, Disk, NoMemory, Steps};
+use outside::{Disk, NoMemory, Steps};
 use outside_mem::MemDisk;
 use report_defs::{Counts, soak_laws};
 use std::alloc::Global;
@@ -95,17 +96,17 @@ fn last_is_whole(ends: &[End]) -> bool
 /// Plays sessions, of which the last must be whole and give so many verdicts.
 fn play_all<D: Crashing, J: Judging, L: Ledger>(
     alloc: Global,
-    disk: &mut D,
+    disk: &mut Armed<D>,
     judge: &J,
     sessions: &[Session],
     size: u64,
     steps: &mut Steps<L>,
 ) -> Result<(), NoMemory>
-    requires store { HasSoundImage (D.reads_as disk.old) (D.images disk.old) }
+    requires store { HasSoundImage (D.reads_as disk.old.disk) (D.images disk.old.disk) }
     requires short { All IsShort sessions.now }
-    ensures kept { (chain : Chain) → IsOnlyImage chain (D.reads_as disk.old) (D.images disk.old)
-        → OnOk result ((kept : Chain) × IsPlayed chain (map items_of sessions.now) size kept × IsOnlyImage kept (D.reads_as disk.new) (D.images disk.new)) }
-    ensures ended { OnOk result (EndWhole D.content_of D.reads_as D.images D.faults D.armed sessions.now disk.old disk.new steps.old steps.new) }
+    ensures kept { (chain : Chain) → IsOnlyImage chain (D.reads_as disk.old.disk) (D.images disk.old.disk)
+        → OnOk result ((kept : Chain) × IsPlayed chain (map items_of sessions.now) size kept × IsOnlyImage kept (D.reads_as disk.new.disk) (D.images disk.new.disk)) }
+    ensures ended { OnOk result (EndWhole D.content_of D.reads_as D.images D.faults D.picks sessions.now disk.old disk.new steps.old steps.new) }
 {
     let played = match play(alloc, disk, judge, sessions, steps) {
         Ok(played) => played,
@@ -145,17 +146,17 @@ fn open_kept<D: Disk, L: Ledger>(
 /// beside the genesis.
 fn soak_on<D: Crashing, J: Judging, L: Ledger>(
     alloc: Global,
-    disk: &mut D,
+    disk: &mut Armed<D>,
     judge: &J,
     seed: u64,
     made: &Made,
     steps: &mut Steps<L>,
 ) -> Result<Counts, NoMemory>
-    requires told { IsSome (D.reads_as disk.old) }
+    requires told { IsSome (D.reads_as disk.old.disk) }
     requires count { length made.now.blocks.items ≤ 100 }
     ensures counts { IfOk result (λ counts. NamesNoLater (items_in made.now.blocks.items)
         → counts ≡ counts_over (chain_of_genesis made.now.spec.items made.now.genesis.items) (items_in made.now.blocks.items)) }
-    ensures soaked { IfOk result (λ _. IsSoaked D.content_of D.reads_as D.images D.faults D.armed seed (items_in made.now.blocks.items)) }
+    ensures soaked { IfOk result (λ _. IsSoaked D.content_of D.reads_as D.images D.faults D.picks seed (items_in made.now.blocks.items)) }
 {
     soak_laws();
     let sessions = sessions_over(alloc, seed, &made.blocks)?;
@@ -195,7 +196,7 @@ fn soak_made<J: Judging, L: Ledger>(
 {
     soak_laws();
     let made = make(alloc, seed, count)?;
-    let mut disk = MemDisk::new(alloc, Vec::new(alloc));
+    let mut disk = Armed::new(MemDisk::new(alloc, Vec::new(alloc)));
     let mut steps = Steps::<L>::new(blank);
     soak_on(alloc, &mut disk, judge, seed, &made, &mut steps)
 }

@@ -13,7 +13,7 @@ use Rattle.chain_defs.specs.Branch.{branch}
 use Rattle.chain_defs.specs.Tip.{tip_place, best_branch}
 use Rattle.chain_defs.proofs.KeptLaws.{place_of-below}
 use Rattle.rule_defs.specs.Header.{has_version, parent_of, header_rules}
-use Rattle.cell_defs.specs.Row.{Row, live_row}
+use Rattle.chain_defs.specs.Row.{Row, live_row}
 use Rattle.cell_state.specs.State.{StateValue, rows}
 use Rattle.chain_tree.specs.declared.entry.Entry.{Entry}
 use Rattle.chain_tree.specs.Blocks.{IndexesBlocks}

@@ -10,13 +10,13 @@ use Rattle.chain_defs.specs.Kept.{block_at, parent_place, kept_limit}
 use Rattle.chain_defs.specs.Branch.{places_within, branch_places, branch, IsBranch}
 use Rattle.chain_defs.proofs.KeptLaws.{slice_get-below}
 use Rattle.chain_defs.proofs.BranchLaws.{places_on, parent_place-below, IsBranch-branch}
-use Rattle.cell_defs.specs.Cell.{Cell}
-use Rattle.cell_defs.specs.Events.{live_cell}
-use Rattle.cell_defs.specs.Row.{Row, row_of, row_on, live_row}
-use Rattle.cell_defs.proofs.OutputLaws.{cells-are-outputs}
-use Rattle.cell_defs.specs.Fits.{FitsRow}
-use Rattle.cell_defs.specs.FitLaws.{AreCanonical}
-use Rattle.cell_defs.proofs.ShapeLemmas.{rows-of-outputs-fit}
+use Rattle.chain_defs.specs.Cell.{Cell}
+use Rattle.chain_defs.specs.Events.{live_cell}
+use Rattle.chain_defs.specs.Row.{Row, row_of, row_on, live_row}
+use Rattle.chain_defs.proofs.OutputLaws.{cells-are-outputs}
+use Rattle.chain_defs.specs.Fits.{FitsRow}
+use Rattle.chain_defs.specs.FitLaws.{AreCanonical}
+use Rattle.chain_defs.proofs.ShapeLemmas.{rows-of-outputs-fit}
 use Rattle.chain_tree.specs.declared.entry.Entry.{Entry}
 use Rattle.chain_tree.specs.Entries.{entry_at}
 use Rattle.chain_tree.specs.Blocks.{IndexesBlocks}

@@ -9,12 +9,12 @@ use Rattle.chain_defs.specs.Schema.{Block, block}
 use Rattle.chain_defs.proofs.ShapeLaws.{IsEncoding-decoded}
 use Rattle.chain_defs.specs.Specification.{Specification}
 use Rattle.chain_defs.specs.Kept.{block_list, blocks_of_item}
-use Rattle.cell_defs.specs.Ext.{is_ext}
+use Rattle.chain_defs.specs.Ext.{is_ext}
 use Rattle.disk_defs.proofs.Contents.{says_by_parts}
 use Rattle.disk_defs.specs.Log.{Record, LogContent, records_of, of_blocks, magic, log_of, content_of_records, blocks_over, block_of_record, block_of_parts, block_if, may_stand_on, parts_of_body}
 use Rattle.verdict_defs.specs.Chain.{Chain}
 use Rattle.verdict_defs.specs.Verdict.{verdict, joins, kept_after}
-use Rattle.cell_defs.specs.FitLaws.{IsCanonical, AreCanonical}
+use Rattle.chain_defs.specs.FitLaws.{IsCanonical, AreCanonical}
 use Rattle.node_store.specs.ReorgLaws.{KeptAreCanonical, StoredAreCanonical}
 
 -- ---- Items

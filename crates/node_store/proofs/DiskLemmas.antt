@@ -15,7 +15,7 @@ use Rattle.store_defs.specs.EditionLaws.{AllStandBefore, edited_chain}
 use Rattle.store_defs.proofs.EditedLemmas.{stands_after_an_edition}
 use Rattle.store_defs.specs.JoinLaws.{record_over}
 use Rattle.disk_defs.specs.Rest.{IsAtRest, IsBeforeOrAfter, IsSettled, HasAppended}
-use Rattle.cell_defs.specs.Ext.{is_ext}
+use Rattle.chain_defs.specs.Ext.{is_ext}
 use Rattle.store_defs.specs.Store.{ext_over, StandsFor}
 use Rattle.disk_defs.proofs.Contents.{says_its_records}
 use Rattle.store_defs.proofs.StoreLemmas.{stands_as_it_says, stands_after_an_item}

@@ -8,7 +8,7 @@ use Rattle.chain_tree.specs.Blocks.{IndexesBlocks, IsParent}
 use Rattle.chain_tree.specs.Told.{Stored, blocks_of}
 use Rattle.chain_tree.proofs.BlockLemmas.{len-same}
 use Rattle.uncle_rules.specs.Embedded.{UnclesValue}
-use Rattle.cell_defs.specs.Fit.{BranchFits}
+use Rattle.chain_defs.specs.Fit.{BranchFits}
 use Rattle.verdict_defs.specs.Chain.{Chain}
 use Rattle.store_defs.specs.Store.{IsJoined}
 use Rattle.store_defs.proofs.FitLaws.{what-joins-fits}

@@ -10,19 +10,19 @@ use Rattle.chain_defs.specs.Kept.{place_of}
 use Rattle.chain_defs.specs.Branch.{branch}
 use Rattle.chain_defs.proofs.KeptLaws.{slice_get-take, place_of-below}
 use Rattle.chain_defs.proofs.BranchLaws.{parent_place-below}
-use Rattle.cell_defs.specs.Events.{events_of_block}
-use Rattle.cell_defs.specs.Row.{Row, live_row}
+use Rattle.chain_defs.specs.Events.{events_of_block}
+use Rattle.chain_defs.specs.Row.{Row, live_row}
 use Rattle.rule_defs.specs.Capacity.{fees_from}
-use Rattle.cell_defs.specs.Undo.{spent_of}
+use Rattle.chain_defs.specs.Undo.{spent_of}
 use Rattle.verdict_defs.specs.Ext.{ext_of}
 use Rattle.verdict_defs.specs.Laws.{MayJoin}
 use Rattle.store_defs.specs.Store.{first_of}
 use Rattle.store_defs.proofs.RuleLemmas.{transactions-unbroken, fees-fit}
 use Rattle.store_defs.proofs.ExtLaws.{exts-hold-spent-rows}
-use Rattle.cell_defs.specs.Fits.{FitsRow, FitsExt}
-use Rattle.cell_defs.specs.FitLaws.{IsCanonical, AreCanonical}
-use Rattle.cell_defs.proofs.ShapeLemmas.{few-transactions}
-use Rattle.cell_defs.proofs.CountLemmas.{inputs-are-few}
+use Rattle.chain_defs.specs.Fits.{FitsRow, FitsExt}
+use Rattle.chain_defs.specs.FitLaws.{IsCanonical, AreCanonical}
+use Rattle.chain_defs.proofs.ShapeLemmas.{few-transactions}
+use Rattle.chain_defs.proofs.CountLemmas.{inputs-are-few}
 use Rattle.node_store.specs.ReorgLaws.{ExtsFit, JoinedExtsFit}
 use Rattle.node_store.proofs.BranchLemmas.{row-fits}
 use Rattle.node_store.proofs.SpentLemmas.{spent-are-of, few-spent}

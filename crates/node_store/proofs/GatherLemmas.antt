@@ -10,7 +10,7 @@ use Rattle.chain_defs.specs.Schema.{Block}
 use Rattle.chain_defs.specs.Dao.{is_rated}
 use Rattle.chain_defs.specs.Kept.{block_at, kept_limit}
 use Rattle.chain_defs.proofs.KeptLaws.{slice_get-below, slice_get-before, slice_get-push, slice_get-pushed}
-use Rattle.cell_defs.specs.Ext.{count_at, row_size, are_rows, is_ext}
+use Rattle.chain_defs.specs.Ext.{count_at, row_size, are_rows, is_ext}
 use Rattle.cell_state.specs.State.{StateValue, rows}
 use Rattle.cell_state.specs.Moves.{AreRowsOfBranch}
 use Rattle.cell_state.proofs.RowLemmas.{live_row-genesis}

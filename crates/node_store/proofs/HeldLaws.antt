@@ -17,10 +17,10 @@ use Rattle.chain_defs.specs.Specification.{Specification}
 use Rattle.chain_defs.specs.Kept.{block_at, block_hash}
 use Rattle.chain_defs.specs.Branch.{branch, branch_places}
 use Rattle.chain_defs.proofs.BranchLaws.{IsBranch-branch}
-use Rattle.cell_defs.specs.Cell.{Cell, occupied_by, holds_its_own, data_of}
-use Rattle.cell_defs.specs.Events.{live_cell}
-use Rattle.cell_defs.specs.Row.{row_of, row_on, live_row, IsOutputOf}
-use Rattle.cell_defs.proofs.OutputLaws.{cells-are-outputs}
+use Rattle.chain_defs.specs.Cell.{Cell, occupied_by, holds_its_own, data_of}
+use Rattle.chain_defs.specs.Events.{live_cell}
+use Rattle.chain_defs.specs.Row.{row_of, row_on, live_row, IsOutputOf}
+use Rattle.chain_defs.proofs.OutputLaws.{cells-are-outputs}
 use Rattle.chain_defs.proofs.WalkLemmas.{every-at}
 use Rattle.rule_defs.specs.Cellbase.{has_plain_output, lock_named, forms_cellbase}
 use Rattle.rule_defs.specs.Reward.{part}
@@ -33,8 +33,8 @@ use Rattle.store_defs.specs.Store.{IsJoined}
 use Rattle.store_defs.proofs.JoinedLemmas.{is_kept_of_joined}
 use Rattle.store_defs.proofs.RuleLemmas.{forms-unbroken, transactions-unbroken, hold-from, reward-unbroken, capacity-good}
 use Rattle.store_defs.proofs.TypedLaws.{outputs-hold, genesis-holds, first-formed, formed-plain, rest-at}
-use Rattle.cell_defs.specs.FitLaws.{IsCanonical, AreCanonical}
-use Rattle.cell_defs.proofs.ShapeLemmas.{table-parts, vec-fits, raw_fields}
+use Rattle.chain_defs.specs.FitLaws.{IsCanonical, AreCanonical}
+use Rattle.chain_defs.proofs.ShapeLemmas.{table-parts, vec-fits, raw_fields}
 use Rattle.node_store.specs.ReorgLaws.{CellsHoldTheirOwn, IsKeptRow, RowsAreKept, SnapshotRowsAreKept}
 use Rattle.node_store.proofs.BranchLemmas.{at-height}
 

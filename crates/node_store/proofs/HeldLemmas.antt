@@ -8,7 +8,7 @@ use Rattle.std.proofs.lemmas.Bool.{eqb-true}
 use Rattle.lru.specs.LruCache.{LruCache, lru_cache, promoted, put_entries}
 use Rattle.lru.proofs.CallerLemmas.{Contains-promoted, Contains-put_entries, Contains-lookup, Contains-lookup_entry, lookup-put_entries}
 use Rattle.lru.proofs.Pairs.{lookup-lookup_entry}
-use Rattle.cell_defs.specs.Ext.{is_ext}
+use Rattle.chain_defs.specs.Ext.{is_ext}
 use Rattle.chain_tree.specs.Told.{Stored}
 use Rattle.node_store.specs.Held.{held_at, Holds, NothingNew, OnlyAdds, HaveForm}
 

@@ -5,8 +5,8 @@ use Rattle.std.proofs.lemmas.List.{length_push}
 use Rattle.chain_defs.specs.Shape.{decoded}
 use Rattle.chain_defs.specs.Schema.{Block, block}
 use Rattle.chain_defs.specs.Kept.{block_hash, kept_limit}
-use Rattle.cell_defs.specs.Ext.{ext_bytes, is_ext, count_at}
-use Rattle.cell_model.specs.ListBlocks.{IsExtFor}
+use Rattle.chain_defs.specs.Ext.{ext_bytes, is_ext, count_at}
+use Rattle.cell_state.specs.ListBlocks.{IsExtFor}
 use Rattle.verdict_defs.specs.Ext.{ext_of}
 use Rattle.verdict_defs.specs.Verdict.{joins}
 use Rattle.verdict_defs.specs.Chain.{Chain, chain_after, verdict_over}

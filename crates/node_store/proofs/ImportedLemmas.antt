@@ -9,7 +9,7 @@ use Rattle.outside.proofs.Moments.{leaves_also, leaves_then}
 use Rattle.outside.specs.Disk.{OthersRead, LeavesOnly, IsAsBefore, ComesBy, AreaKept}
 use Rattle.chain_defs.specs.Shape.{decoded}
 use Rattle.chain_defs.specs.Schema.{Block, block}
-use Rattle.cell_defs.specs.Ext.{ext_bytes}
+use Rattle.chain_defs.specs.Ext.{ext_bytes}
 use Rattle.cell_state.specs.State.{StateValue, rows}
 use Rattle.verdict_defs.specs.Chain.{Chain, chain_after, verdict_over}
 use Rattle.verdict_defs.specs.Verdict.{joins}

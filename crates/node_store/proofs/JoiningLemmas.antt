@@ -17,14 +17,14 @@ use Rattle.chain_defs.proofs.BranchLaws.{branch-last}
 use Rattle.chain_defs.proofs.TipLaws.{tip_place-there, tip_place-below, tip_place-push}
 use Rattle.chain_defs.specs.Dao.{is_rated}
 use Rattle.rule_defs.specs.Header.{parent_of}
-use Rattle.cell_defs.specs.Ext.{count_at}
-use Rattle.cell_defs.specs.Events.{events_of_block, live_cell}
-use Rattle.cell_defs.specs.Row.{Row, live_row}
-use Rattle.cell_defs.specs.Fit.{are_live, AllFit}
-use Rattle.cell_model.specs.ListBlocks.{IsExtFor}
+use Rattle.chain_defs.specs.Ext.{count_at}
+use Rattle.chain_defs.specs.Events.{events_of_block, live_cell}
+use Rattle.chain_defs.specs.Row.{Row, live_row}
+use Rattle.chain_defs.specs.Fit.{are_live, AllFit}
+use Rattle.cell_state.specs.ListBlocks.{IsExtFor}
 use Rattle.cell_state.specs.State.{StateValue, rows, Grows}
 use Rattle.cell_state.proofs.RowLemmas.{live_row-prefix}
-use Rattle.cell_defs.proofs.FitLemmas.{row-where-cell, all-same}
+use Rattle.chain_defs.proofs.FitLemmas.{row-where-cell, all-same}
 use Rattle.chain_tree.specs.declared.entry.Entry.{Entry}
 use Rattle.chain_tree.specs.Entries.{entry_at, place_of_hash, FollowsParent}
 use Rattle.chain_tree.specs.Blocks.{Describes, IndexesBlocks}
@@ -38,7 +38,7 @@ use Rattle.verdict_defs.specs.Laws.{MayJoin}
 use Rattle.verdict_defs.proofs.VerdictLaws.{parent_of-branch}
 use Rattle.store_defs.proofs.FitLaws.{what-joins-fits}
 use Rattle.node_store.specs.declared.decision.Joining.{Joining}
-use Rattle.cell_defs.specs.FitLaws.{AreCanonical}
+use Rattle.chain_defs.specs.FitLaws.{AreCanonical}
 use Rattle.cell_state.specs.Moves.{AreRowsOfBranch}
 use Rattle.node_store.specs.declared.decision.Decision.TheVariants.{Joins, Stays}
 use Rattle.node_store.specs.declared.decision.Decision.{Decision}

@@ -2,7 +2,7 @@
 use Rattle.std.proofs.Common.{◌≡◌, ℕ, ◌+◌, ◌<◌, ◌≤◌, List, [], ◌∷◌, ◌++◌, length, Option, ap, ◌∙◌, arith}
 use Rattle.std.proofs.lemmas.List.{length_push}
 use Rattle.chain_defs.specs.Schema.{OutPoint, Block}
-use Rattle.cell_defs.specs.Row.{Row, live_row}
+use Rattle.chain_defs.specs.Row.{Row, live_row}
 use Rattle.chain_tree.specs.declared.entry.Entry.{Entry}
 use Rattle.chain_tree.specs.Blocks.{IndexesBlocks}
 use Rattle.chain_tree.proofs.BlockLemmas.{len-same}

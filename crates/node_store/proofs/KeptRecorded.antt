@@ -8,8 +8,8 @@ use Rattle.chain_defs.proofs.RowLaws.{block-check}
 use Rattle.chain_defs.specs.Specification.{Specification}
 use Rattle.chain_tree.specs.declared.entry.Entry.{Entry}
 use Rattle.chain_tree.specs.Told.{Stored, blocks_of}
-use Rattle.cell_model.specs.ListBlocks.{stored_from}
-use Rattle.cell_model.proofs.ListLemmas.{stored_from-push, decoding-is}
+use Rattle.cell_state.specs.ListBlocks.{stored_from}
+use Rattle.cell_state.proofs.ListBlockLemmas.{stored_from-push, decoding-is}
 use Rattle.node_store.specs.Kept.{RecordedValue, KeptValue, kept_of, exts_of, paired, stored_of}
 
 -- blocks and exts of a list are its own, one beside the other

@@ -16,14 +16,14 @@ use Rattle.chain_defs.specs.Schema.{OutPoint, Block}
 use Rattle.chain_defs.specs.Kept.{block_at, block_hash}
 use Rattle.chain_defs.specs.Branch.{distance}
 use Rattle.chain_defs.specs.Tip.{tip_place}
-use Rattle.cell_defs.specs.Ext.{count_at}
-use Rattle.cell_defs.specs.Row.{Row}
+use Rattle.chain_defs.specs.Ext.{count_at}
+use Rattle.chain_defs.specs.Row.{Row}
 use Rattle.cell_state.specs.State.{StateValue, rows}
 use Rattle.chain_tree.specs.declared.entry.Entry.{Entry}
 use Rattle.chain_tree.specs.Blocks.{IndexesBlocks}
 use Rattle.chain_defs.proofs.KeptLaws.{slice_get-below}
 use Rattle.chain_tree.proofs.BlockLemmas.{len-same, described}
-use Rattle.cell_defs.specs.FitLaws.{AreCanonical}
+use Rattle.chain_defs.specs.FitLaws.{AreCanonical}
 use Rattle.verdict_defs.specs.Chain.{Chain}
 use Rattle.cell_state.specs.Moves.{AreRowsOfBranch}
 use Rattle.node_store.specs.ReorgLaws.{IsKeptRow}

@@ -10,7 +10,7 @@ use Rattle.chain_defs.specs.Shape.{encoded, decoded}
 use Rattle.chain_defs.specs.Schema.{Block, block}
 use Rattle.chain_defs.specs.Kept.{block_list}
 use Rattle.chain_defs.proofs.KeptLaws.{slice_get-pushed}
-use Rattle.cell_defs.specs.Ext.{is_ext}
+use Rattle.chain_defs.specs.Ext.{is_ext}
 use Rattle.rule_defs.specs.Genesis.{broken_genesis_rule}
 use Rattle.outside.specs.Image.{Image}
 use Rattle.disk_defs.specs.Log.{Record, LogContent, record_at, record_bytes, all_record_bytes, records_of, end_of_log, parts_of_body, may_stand_on, block_if, block_of_parts, block_of_record, blocks_over, is_of_edition, of_blocks, content_of_records}

@@ -9,7 +9,7 @@ use Rattle.chain_defs.proofs.ShapeLaws.{IsEncoding-decoded}
 use Rattle.chain_defs.specs.Kept.{block_at}
 use Rattle.chain_defs.proofs.KeptLaws.{slice_get-pushed, slice_get-before}
 use Rattle.chain_defs.specs.Specification.{Specification}
-use Rattle.cell_defs.specs.FitLaws.{IsCanonical, AreCanonical}
+use Rattle.chain_defs.specs.FitLaws.{IsCanonical, AreCanonical}
 use Rattle.chain_tree.specs.declared.entry.Entry.{Entry}
 use Rattle.chain_tree.specs.Told.{Stored}
 use Rattle.uncle_rules.specs.Embedded.{UnclesValue}

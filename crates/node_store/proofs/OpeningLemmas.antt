@@ -10,13 +10,13 @@ use Rattle.chain_defs.specs.Shape.{Encoding, encoded, decoded, dynvec, fixvec}
 use Rattle.chain_defs.specs.Schema.{header, uncle_block, transaction, proposal_short_id, Block, block}
 use Rattle.chain_defs.proofs.ShapeLaws.{decoded-is}
 use Rattle.chain_defs.proofs.RowLaws.{block-check}
-use Rattle.cell_defs.specs.FitLaws.{IsCanonical}
-use Rattle.cell_defs.proofs.ShapeLemmas.{table-parts}
+use Rattle.chain_defs.specs.FitLaws.{IsCanonical}
+use Rattle.chain_defs.proofs.ShapeLemmas.{table-parts}
 use Rattle.chain_defs.specs.Dao.{is_rated}
 use Rattle.chain_defs.specs.Specification.{Specification}
 use Rattle.chain_defs.specs.Kept.{block_at}
 use Rattle.chain_defs.proofs.KeptLaws.{slice_get-below}
-use Rattle.cell_defs.specs.Ext.{count_at}
+use Rattle.chain_defs.specs.Ext.{count_at}
 use Rattle.chain_tree.specs.declared.entry.Entry.{Entry}
 use Rattle.chain_tree.specs.Blocks.{AreRated}
 use Rattle.chain_tree.specs.Told.{Stored, blocks_of}

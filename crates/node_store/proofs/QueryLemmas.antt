@@ -18,12 +18,12 @@ use Rattle.chain_tree.specs.Damages.{IsOfBlock}
 use Rattle.chain_tree.specs.Blocks.{IndexesBlocks}
 use Rattle.chain_tree.specs.Told.{Stored, blocks_of}
 use Rattle.chain_tree.proofs.BlockLemmas.{len-same}
-use Rattle.cell_defs.specs.Cell.{Cell}
-use Rattle.cell_defs.specs.Events.{live_cell, cell_after, events, last_naming}
-use Rattle.cell_defs.specs.Row.{Row, row_of, row_on, live_row, IsOutputOf}
-use Rattle.cell_defs.proofs.OutputLaws.{cells-are-outputs}
-use Rattle.cell_model.specs.Copies.{NamesOutput}
-use Rattle.cell_model.proofs.CopyLemmas.{in-hand}
+use Rattle.chain_defs.specs.Cell.{Cell}
+use Rattle.chain_defs.specs.Events.{live_cell, cell_after, events, last_naming}
+use Rattle.chain_defs.specs.Row.{Row, row_of, row_on, live_row, IsOutputOf}
+use Rattle.chain_defs.proofs.OutputLaws.{cells-are-outputs}
+use Rattle.cell_state.specs.Copies.{NamesOutput}
+use Rattle.cell_state.proofs.CopyLemmas.{in-hand}
 use Rattle.node_store.proofs.BranchLemmas.{PlaceOfHeight, place-of-height, branch-long, branch-block, number-on-branch}
 use Rattle.node_store.specs.Kept.{AreRowsOfTip, AreRowsOfKept}
 use Rattle.node_store.specs.Queries.{LiveValue, IsLiveRow, IsLiveCell}

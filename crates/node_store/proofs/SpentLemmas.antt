@@ -5,11 +5,11 @@ use Rattle.std.specs.List.{All}
 use Rattle.std.proofs.lemmas.List.{append-nil, length-append}
 use Rattle.std.proofs.lemmas.List.Elements.{All-nil, All-cons, All-append}
 use Rattle.chain_defs.specs.Schema.{OutPoint, CellInput, Transaction, Block}
-use Rattle.cell_defs.specs.Events.{Event, Makes, Spends, same_out_point, out_point_of, makes_of, spends_of, events_of, events_from, events_of_block}
-use Rattle.cell_defs.specs.Row.{Row}
-use Rattle.cell_defs.specs.Undo.{without, row_at, row_spent, spent_of}
+use Rattle.chain_defs.specs.Events.{Event, Makes, Spends, same_out_point, out_point_of, makes_of, spends_of, events_of, events_from, events_of_block}
+use Rattle.chain_defs.specs.Row.{Row}
+use Rattle.chain_defs.specs.Undo.{without, row_at, row_spent, spent_of}
 use Rattle.store_defs.proofs.SpentLemmas.{left, spent-append, spent-nil, makes-none}
-use Rattle.cell_defs.specs.FitLaws.{inputs_of}
+use Rattle.chain_defs.specs.FitLaws.{inputs_of}
 
 -- ---- Each is one of those before
 

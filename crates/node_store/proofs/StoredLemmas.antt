@@ -7,9 +7,9 @@ use Rattle.std.proofs.lemmas.List.{length-take-le, length-drop}
 use Rattle.chain_defs.specs.Shape.{decoded}
 use Rattle.chain_defs.specs.Schema.{Transaction, Block, block}
 use Rattle.chain_defs.specs.Hashes.{transaction_hash, proposal_id}
-use Rattle.cell_model.specs.ListBlocks.{IsCanonical}
-use Rattle.cell_model.proofs.ListLemmas.{decoding-is}
-use Rattle.cell_defs.specs.Ext.{count_at, is_ext}
+use Rattle.cell_state.specs.ListBlocks.{IsCanonical}
+use Rattle.cell_state.proofs.ListBlockLemmas.{decoding-is}
+use Rattle.chain_defs.specs.Ext.{count_at, is_ext}
 use Rattle.outside.specs.Image.{Image}
 use Rattle.outside.specs.declared.disk.Area.TheVariants.{Log}
 use Rattle.outside.specs.declared.disk.Damage.{Damage}

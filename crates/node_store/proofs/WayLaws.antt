@@ -8,8 +8,8 @@ use Rattle.chain_defs.specs.Kept.{block_at, place_of, parent_place}
 use Rattle.chain_defs.specs.Branch.{branch}
 use Rattle.chain_defs.proofs.BranchLaws.{parent_place-below}
 use Rattle.chain_tree.specs.Told.{Stored}
-use Rattle.cell_defs.specs.Ext.{Ext, ext_bytes}
-use Rattle.cell_defs.specs.Row.{live_row}
+use Rattle.chain_defs.specs.Ext.{Ext, ext_bytes}
+use Rattle.chain_defs.specs.Row.{live_row}
 use Rattle.verdict_defs.specs.Ext.{ext_of}
 use Rattle.store_defs.specs.Store.{first_of, own_ext, ext_on}
 use Rattle.store_defs.proofs.KeptLaws.{kept-exts-take-back}

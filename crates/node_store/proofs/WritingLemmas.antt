@@ -1,7 +1,7 @@
 -- What is put after a log for a block: the bytes of its ext, and its record.
 use Rattle.std.proofs.Common.{◌≡◌, ℕ, ◌<◌, ◌≤◌, ◌^◌, List, length, ap, ◌∙◌, arith}
 use Rattle.std.proofs.lemmas.Nat.{from_le_bytes-to_le_bytes_4}
-use Rattle.cell_defs.specs.Ext.{Ext, ext_bytes, count_at}
+use Rattle.chain_defs.specs.Ext.{Ext, ext_bytes, count_at}
 use Rattle.disk_defs.specs.Log.{Record}
 use Rattle.disk_defs.proofs.Records.{record_length}
 use Rattle.log_file.specs.Pieces.{after_gate}

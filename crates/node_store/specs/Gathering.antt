@@ -4,9 +4,9 @@ use Rattle.chain_defs.specs.Schema.{OutPoint, Block}
 use Rattle.chain_defs.specs.Dao.{is_rated}
 use Rattle.chain_defs.specs.Specification.{Specification}
 use Rattle.chain_defs.specs.Kept.{block_at}
-use Rattle.cell_defs.specs.Ext.{count_at}
-use Rattle.cell_defs.specs.Events.{events_of_block}
-use Rattle.cell_defs.specs.Row.{row_after}
+use Rattle.chain_defs.specs.Ext.{count_at}
+use Rattle.chain_defs.specs.Events.{events_of_block}
+use Rattle.chain_defs.specs.Row.{row_after}
 use Rattle.cell_state.specs.State.{StateValue, rows}
 use Rattle.chain_tree.specs.declared.entry.Entry.{Entry}
 use Rattle.chain_tree.specs.Told.{Stored, blocks_of}

@@ -1,7 +1,7 @@
 -- What a cache holds: kept blocks with their exts, each for an entry that is named by its place.
 use Rattle.std.specs.Prelude.{◌≡◌, ◌⊎◌, ℕ, ◌<◌, List, Contains, Option, Some, None, IsTrue, IsSome, IfSome, slice_get, nat_eq}
 use Rattle.std.specs.Map.{lookup}
-use Rattle.cell_defs.specs.Ext.{is_ext}
+use Rattle.chain_defs.specs.Ext.{is_ext}
 use Rattle.outside.specs.Image.{Image}
 use Rattle.chain_tree.specs.Told.{Stored}
 use Rattle.chain_tree.specs.Reading.{Findings}

@@ -9,7 +9,7 @@ use Rattle.chain_defs.specs.Shape.{decoded}
 use Rattle.chain_defs.specs.Schema.{Block, block}
 use Rattle.chain_defs.specs.Kept.{place_of}
 use Rattle.chain_defs.specs.Tip.{tip_place}
-use Rattle.cell_defs.specs.Ext.{Ext, ext_bytes, is_ext, count_at}
+use Rattle.chain_defs.specs.Ext.{Ext, ext_bytes, is_ext, count_at}
 use Rattle.cell_state.specs.State.{StateValue, rows}
 use Rattle.verdict_defs.specs.declared.verdict.Verdict.{Verdict}
 use Rattle.verdict_defs.specs.Verdict.{joins}

@@ -6,13 +6,13 @@ use Rattle.chain_defs.specs.Tip.{tip_place}
 use Rattle.chain_tree.specs.declared.entry.Entry.{Entry}
 use Rattle.chain_tree.specs.Blocks.{IndexesBlocks, AreRated}
 use Rattle.chain_tree.specs.Told.{Stored, blocks_of}
-use Rattle.cell_defs.specs.Ext.{count_at}
-use Rattle.cell_defs.specs.Row.{Row}
+use Rattle.chain_defs.specs.Ext.{count_at}
+use Rattle.chain_defs.specs.Row.{Row}
 use Rattle.cell_state.specs.State.{rows}
 use Rattle.uncle_rules.specs.Embedded.{UnclesValue, IndexesUncles}
 use Rattle.chain_defs.specs.Specification.{Specification}
 use Rattle.verdict_defs.specs.Chain.{Chain}
-use Rattle.cell_defs.specs.FitLaws.{AreCanonical}
+use Rattle.chain_defs.specs.FitLaws.{AreCanonical}
 use Rattle.cell_state.specs.Moves.{AreRowsOfBranch, AreRowsBelow}
 use Rattle.store_defs.specs.Store.{AreJoined}
 

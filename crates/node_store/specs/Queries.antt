@@ -4,10 +4,10 @@ use Rattle.chain_defs.specs.Shape.{encoded, IsEncoding}
 use Rattle.chain_defs.specs.Schema.{OutPoint, Block, block, header}
 use Rattle.chain_defs.specs.Kept.{block_at, block_hash}
 use Rattle.chain_defs.specs.Tip.{tip_place, best_branch}
-use Rattle.cell_defs.specs.Cell.{Cell}
-use Rattle.cell_defs.specs.Events.{live_cell}
-use Rattle.cell_defs.specs.Row.{Row, row_on}
-use Rattle.cell_model.specs.Copies.{ResolvedValue, IsCopyOf}
+use Rattle.chain_defs.specs.Cell.{Cell}
+use Rattle.chain_defs.specs.Events.{live_cell}
+use Rattle.chain_defs.specs.Row.{Row, row_on}
+use Rattle.cell_state.specs.Copies.{ResolvedValue, IsCopyOf}
 
 -- a header, and the hash of its block
 pub record HeaderValue : Type 0 where

@@ -4,12 +4,12 @@ use Rattle.std.specs.List.{All}
 use Rattle.chain_defs.specs.Schema.{OutPoint, Block}
 use Rattle.chain_defs.specs.Kept.{block_at, parent_place}
 use Rattle.chain_defs.specs.Branch.{branch}
-use Rattle.cell_defs.specs.Cell.{Cell, holds_its_own}
-use Rattle.cell_defs.specs.Events.{live_cell}
-use Rattle.cell_defs.specs.Row.{Row, live_row}
+use Rattle.chain_defs.specs.Cell.{Cell, holds_its_own}
+use Rattle.chain_defs.specs.Events.{live_cell}
+use Rattle.chain_defs.specs.Row.{Row, live_row}
 use Rattle.chain_tree.specs.Told.{Stored, blocks_of}
-use Rattle.cell_defs.specs.Fits.{FitsExt}
-use Rattle.cell_defs.specs.FitLaws.{IsCanonical, AreCanonical}
+use Rattle.chain_defs.specs.Fits.{FitsExt}
+use Rattle.chain_defs.specs.FitLaws.{IsCanonical, AreCanonical}
 use Rattle.verdict_defs.specs.Ext.{ext_of}
 use Rattle.verdict_defs.specs.Chain.{Chain, chain_of_genesis, chain_after}
 use Rattle.verdict_defs.specs.Laws.{MayJoin}

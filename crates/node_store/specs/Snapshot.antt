@@ -9,7 +9,7 @@ use Rattle.outside.specs.Image.{Image, content, with_content}
 use Rattle.outside.specs.Disk.{OthersRead, LeavesOnly}
 use Rattle.chain_defs.specs.Schema.{Block}
 use Rattle.chain_defs.specs.Tip.{tip_place}
-use Rattle.cell_defs.specs.Ext.{count_at}
+use Rattle.chain_defs.specs.Ext.{count_at}
 use Rattle.disk_defs.specs.Log.{Record}
 use Rattle.disk_defs.specs.Rest.{IsSettled}
 use Rattle.log_file.specs.Pieces.{block_record}

@@ -4,7 +4,7 @@ use Rattle.std.specs.Option.{option_map, option_and_then}
 use Rattle.std.proofs.Common.{refl, ap}
 use Rattle.chain_defs.specs.Shape.{encoded, decoded}
 use Rattle.chain_defs.specs.Schema.{Block, block}
-use Rattle.cell_defs.specs.Ext.{is_ext}
+use Rattle.chain_defs.specs.Ext.{is_ext}
 use Rattle.outside.specs.Image.{Image}
 use Rattle.disk_defs.specs.Log.{Record, parts_of_body}
 use Rattle.disk_defs.specs.LogLaws.{HasFittingBody}

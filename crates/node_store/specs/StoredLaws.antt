@@ -2,7 +2,7 @@
 use Rattle.std.specs.Prelude.{◌≡◌, ◌↔◌, ℕ, ◌+◌, ◌<◌, true, false, List, [], ◌∷◌, ◌++◌, map, length, drop, Some}
 use Rattle.chain_defs.specs.Shape.{encoded, decoded}
 use Rattle.chain_defs.specs.Schema.{block}
-use Rattle.cell_defs.specs.Ext.{is_ext}
+use Rattle.chain_defs.specs.Ext.{is_ext}
 use Rattle.outside.specs.Image.{Image}
 use Rattle.disk_defs.specs.Log.{Record, LogContent, records_of, is_of_edition, of_blocks, end_of_log, content_of_records}
 use Rattle.disk_defs.specs.LogLaws.{HasFittingBody}

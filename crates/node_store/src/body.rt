@@ -5,10 +5,10 @@ ghost use Rattle.chain_defs.specs.Shape.{decoded};
 ghost use Rattle.chain_defs.specs.Schema as schema;
 ghost use Rattle.chain_defs.specs.Schema.{Block};
 ghost use Rattle.chain_defs.specs.Hashes.{transaction_hash};
-ghost use Rattle.cell_model.specs.ListBlocks.{ids_of, IsCanonical};
+ghost use Rattle.cell_state.specs.ListBlocks.{ids_of, IsCanonical};
 ghost use Rattle.node_store.specs.Stored.{parts_in, stored_in};
 
-use cell_model::copied_ids;
+use cell_state::copied_ids;
 use log_file::{ext_form, parts};
 use mol_schema::BlockView;
 use outside::NoMemory;
@@ -31,7 +31,7 @@ impl Model for KeptBody {
     ghost use Rattle.std.specs.Prelude.{◌≡◌, ◌-◌, ◌≤◌, length, take, drop, IfSome};
     ghost use Rattle.chain_defs.specs.Schema as schema;
     ghost use Rattle.chain_tree.specs.Told.{Stored};
-    ghost use Rattle.cell_model.specs.ListBlocks.{ids_of, IsCanonical};
+    ghost use Rattle.cell_state.specs.ListBlocks.{ids_of, IsCanonical};
 
     ghost Value = { Stored };
 

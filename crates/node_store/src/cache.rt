@@ -1,8 +1,8 @@
 // Bodies in memory, those that were used last.
 ghost use Rattle.std.specs.Prelude.{◌≡◌, ◌≤◌, ◌<◌, List, [], length, Option, Some, is_some, nat_eq, IfOk, IfSome, OnOk, OnErr, IsSome, IsTrue};
 ghost use Rattle.lru.specs.LruCache.{lru_cache, promoted, put_entries};
-ghost use Rattle.cell_defs.specs.Ext.{is_ext};
-ghost use Rattle.cell_model.specs.ListBlocks.{ids_of};
+ghost use Rattle.chain_defs.specs.Ext.{is_ext};
+ghost use Rattle.cell_state.specs.ListBlocks.{ids_of};
 ghost use Rattle.outside.specs.Image.{Image};
 ghost use Rattle.outside.specs.declared.disk.Damage.{Damage};
 ghost use Rattle.outside.specs.declared.disk.ReadStop.TheVariants.{Damaged};

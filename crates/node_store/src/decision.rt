@@ -1,5 +1,5 @@
 // What is to become of an item.
-use cell_model::Ext;
+use cell_state::Ext;
 use chain_tree::Entry;
 use verdict_defs::Verdict;
 

@@ -1,6 +1,6 @@
 // What is kept of the blocks of a log, gathered as they are read.
 ghost use Rattle.std.specs.Prelude.{◌≡◌, ◌<◌, ◌≤◌, [], true, length, IfOk, IfErr, IsOk, OnOk};
-ghost use Rattle.cell_defs.specs.Ext.{count_at, is_ext};
+ghost use Rattle.chain_defs.specs.Ext.{count_at, is_ext};
 ghost use Rattle.cell_state.specs.State.{rows};
 ghost use Rattle.chain_tree.specs.Blocks.{Describes, AreRated};
 ghost use Rattle.log_file.specs.Grammar.{AreBlocks};

@@ -9,7 +9,7 @@ ghost use Rattle.chain_defs.specs.Hashes.{transaction_hash};
 ghost use Rattle.chain_defs.specs.Schema as schema;
 ghost use Rattle.chain_defs.specs.Schema.{Block};
 ghost use Rattle.chain_defs.specs.Shape.{decoded};
-ghost use Rattle.cell_defs.specs.Ext.{ext_bytes, is_ext, count_at};
+ghost use Rattle.chain_defs.specs.Ext.{ext_bytes, is_ext, count_at};
 ghost use Rattle.cell_state.specs.State.{rows};
 ghost use Rattle.snapshots.specs.Writing.{HasAnyArea};
 ghost use Rattle.store_defs.specs.Store.{AreJoined};
@@ -23,7 +23,7 @@ ghost use Rattle.node_store.specs.declared.decision.Decision.TheVariants.{Joins}
 
 use crate::node::Node;
 use crate::{Cache, Joining, KeptBody};
-use cell_model::Ext;
+use cell_state::Ext;
 use log_file::{Body, append, next_rec};
 use outside::{Disk, NoMemory, ReadStop, Steps};
 use std::alloc::Global;

@@ -18,8 +18,7 @@ ghost use Rattle.node_store.specs.Judging.{IsReadyItem, IsDecided, MayWantMemory
 ghost use Rattle.node_store.specs.Queries.{IsHeaderAt, IsBlockAt, IsLiveCell, IsFetched};
 
 use crate::{Cache, Decision, Fetched, HeaderAt, Judging, Kept, Store};
-use cell_model::OutPoint;
-use cell_state::State;
+use cell_state::{OutPoint, State};
 use outside::{Disk, ReadStop, Steps};
 use std::alloc::Global;
 use std::sync::ledger::Ledger;

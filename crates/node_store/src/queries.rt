@@ -17,8 +17,7 @@ ghost use Rattle.node_store.specs.Kept.{stored_of, AreRowsOfTip, AreRowsOfKept};
 ghost use Rattle.node_store.specs.Queries.{IsHeaderAt, IsBlockAt, IsLiveCell, IsFetched};
 
 use crate::kept::Kept;
-use cell_model::{CellMeta, Cells, OutPoint, Resolved, fetch};
-use cell_state::State;
+use cell_state::{CellMeta, Cells, OutPoint, Resolved, State, fetch};
 use chain_tree::Blocks;
 use dao_math::{Dao, max_withdraw};
 use mol_schema::BlockView;

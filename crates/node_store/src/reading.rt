@@ -4,7 +4,7 @@ ghost use Rattle.outside.specs.Causes.{CountsFault};
 ghost use Rattle.outside.specs.declared.disk.Area.TheVariants.{Log as log_area};
 ghost use Rattle.outside.specs.declared.disk.Damage.{Damage};
 ghost use Rattle.outside.specs.declared.disk.ReadStop.TheVariants.{DiskFault as disk_fault, Damaged as damaged};
-ghost use Rattle.cell_defs.specs.Ext.{is_ext};
+ghost use Rattle.chain_defs.specs.Ext.{is_ext};
 ghost use Rattle.chain_tree.specs.Entries.{entry_at};
 ghost use Rattle.node_store.specs.Stored.{body_at, stored_of, stored_at};
 ghost use Rattle.node_store.specs.Held.{held_at, IsKept};

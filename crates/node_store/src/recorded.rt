@@ -16,7 +16,7 @@ pub struct Recorded {
 
 impl Model for Recorded {
     ghost use Rattle.std.specs.Prelude.{◌≡◌, length, map};
-    ghost use Rattle.cell_model.specs.ListBlocks.{stored_from};
+    ghost use Rattle.cell_state.specs.ListBlocks.{stored_from};
     ghost use Rattle.node_store.specs.Kept.{RecordedValue};
 
     ghost Value = { RecordedValue };

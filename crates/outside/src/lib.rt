@@ -3,12 +3,10 @@
 //!
 //! A layer above is generic over `Source`, `Sink` and `Disk` and learns of them by these clauses alone:
 //! content only where the object tells it, and a failure only where its count of faults rose (`HasCause`).
-//! A `Crashing` disk can be made to fail from a call on, and left as a crash leaves it.
 //! `read_full` and `write_all` carry the loops over short reads and short writes, `write_durably` a write and
 //! the sync after it. Streams and files of the machine are left to `outside_os`, forms in memory to `outside_mem`.
 #![tactic(auto)]
 
-mod crashing;
 mod disk;
 mod durable;
 mod fault;
@@ -16,7 +14,6 @@ mod laws;
 mod steps;
 mod stream;
 
-pub use crashing::Crashing;
 pub use disk::{Area, Damage, Disk, ReadStop, WriteStop};
 pub use durable::write_durably;
 pub use fault::{Failed, NoMemory};

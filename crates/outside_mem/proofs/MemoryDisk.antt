@@ -1,5 +1,5 @@
 -- What the steps of a disk in memory leave, from above and from below.
-use Rattle.std.proofs.Common.{◌≡◌, inl, inr, ⊎_elim, ℕ, ◌+◌, ◌≤◌, List, [], ◌∷◌, ◌++◌, Bool, true, false, Some, Result, Ok, Err, map, reverse, length, take, refl, sym, ◌∙◌, ap, subst, arith, if◌then◌else◌}
+use Rattle.std.proofs.Common.{◌≡◌, inl, inr, ℕ, ◌+◌, ◌≤◌, List, [], ◌∷◌, ◌++◌, Bool, true, false, Some, Result, Ok, Err, map, reverse, length, take, refl, sym, ◌∙◌, ap, subst, arith, if◌then◌else◌}
 use Rattle.std.specs.Prelude.{nat_le, OnOk, OnErr}
 use Rattle.std.proofs.lemmas.Bool.Decides.{nat_tests}
 use Rattle.std.proofs.lemmas.List.{map-append, reverse-append}
@@ -31,7 +31,7 @@ reads_leave (Shortened area len left ∷ earlier) =
 reads_leave (Synced area ∷ earlier) = (reads_leave earlier, refl)
 reads_leave (Crashed left ∷ earlier) = refl
 
-leaves : (steps : List Step) (image : Image) → MayLeave steps image → Leaves steps image
+pub leaves : (steps : List Step) (image : Image) → MayLeave steps image → Leaves steps image
 leaves steps image (inl now) = subst (Leaves steps) (sym now) (reads_leave steps)
 leaves steps image (inr left) = left
 

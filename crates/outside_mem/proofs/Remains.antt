@@ -1,6 +1,6 @@
 -- What is stored of each area stands for the steps, and a crash may leave each long enough prefix of it, with other bytes in
 -- its writes.
-use Rattle.std.proofs.Common.{◌≡◌, ◌⊎◌, inl, inr, ℕ, ◌+◌, ◌<◌, ◌≤◌, max, List, [], ◌∷◌, ◌++◌, Bool, true, false, length, take, drop, slice_set, refl, sym, ◌∙◌, ap, subst, arith, if◌then◌else◌, length-append, length-drop}
+use Rattle.std.proofs.Common.{◌≡◌, ◌⊎◌, inl, inr, ℕ, ◌+◌, ◌%◌, ◌<◌, ◌≤◌, min, max, List, [], ◌∷◌, ◌++◌, Bool, true, false, length, take, drop, slice_set, refl, sym, ◌∙◌, ap, subst, arith, if◌then◌else◌, length-append, length-drop}
 use Rattle.std.specs.Prelude.{nat_le}
 use Rattle.std.proofs.lemmas.Bool.Decides.{nat_tests}
 use Rattle.std.proofs.lemmas.List.{take_all, length-take-le}
@@ -11,9 +11,9 @@ use Rattle.outside.specs.Disk.{written, write_area, Torn, Cut, ComesBy, AreaKept
 use Rattle.outside.proofs.Torn.{torn_same, cut_same, tears_to_the_written}
 use Rattle.outside_mem.specs.declared.history.Recorded.{Recorded}
 use Rattle.outside_mem.specs.Stored.{Stored, Parts, part, with_part, shown, image_of, nothing, after_write, after_cut, IsSettled}
-use Rattle.outside_mem.specs.MemoryDisk.{Step, Wrote, Shortened, Synced, Crashed, empty, reads, Leaves, step_of, steps_of}
+use Rattle.outside_mem.specs.MemoryDisk.{Step, Wrote, Shortened, Synced, Crashed, empty, reads, Leaves, IsPick, step_of, steps_of}
 use Rattle.outside_mem.specs.Remains.{LeftBy, LeavesIn, HoldsIn, Holds, MayTear}
-use Rattle.outside_mem.proofs.MemoryDisk.{steps_of-push}
+use Rattle.outside_mem.proofs.MemoryDisk.{steps_of-push, leaves}
 use Rattle.outside_mem.proofs.OtherBytes.{torn_both, torn_again, cut_both, torn_prefix, cut_front, take_take, shown_written}
 
 -- ---- Images by their areas
@@ -87,7 +87,48 @@ leaves_each (Shortened other len left ∷ earlier) image each = comes_by earlier
 leaves_each (Synced other ∷ earlier) image each = (leaves_each earlier image (λ area. (each area).1), (each other).0 refl)
 leaves_each (Crashed left ∷ earlier) image each = same_image image left each
 
+-- and the other way
+step_leaves : (steps : List Step) (area other : Area) (relation : List ℕ → List ℕ → Type 0) (before image : Image) → LeavesIn area steps (content area before)
+    → InArea other relation before image → LeftBy area other relation (LeavesIn area steps) (content area image)
+step_leaves steps area other relation before image left (bytes, step, is) = elim (same_or_kept area other bytes before) [
+  | inl same ↦ inr (
+    same,
+    (
+      content area before,
+      left,
+      subst (λ (a : Area). relation (content a before) (content a image)) same
+          (subst (relation (content other before)) (sym (ap (content other) is ∙ own other bytes before)) step),
+    ),
+  )
+  | inr kept ↦ inl (subst (LeavesIn area steps) (sym (ap (content area) is ∙ kept)) left)
+]
+
+each_leaves : (steps : List Step) (image : Image) → Leaves steps image → (area : Area) → LeavesIn area steps (content area image)
+each_leaves [] image left area = ap (content area) left ∙ empty_in area
+each_leaves (Wrote other at piece lost ∷ earlier) image (before, left, step) area =
+    step_leaves earlier area other (Torn at (length piece + lost)) before image (each_leaves earlier before left area) step
+each_leaves (Shortened other len more ∷ earlier) image (before, left, step) area =
+    step_leaves earlier area other (Cut len) before image (each_leaves earlier before left area) step
+each_leaves (Synced other ∷ earlier) image (left, same) area =
+    (λ is. subst (λ (a : Area). content a image ≡ content a (reads earlier)) is same, each_leaves earlier image left area)
+each_leaves (Crashed now ∷ earlier) image is area = ap (content area) is
+
 -- ---- Each step keeps what is stored
+
+no_less_written : (area other : Area) (at size least : ℕ) (left : List ℕ → Type 0) → ((bytes : List ℕ) → left bytes → least ≤ length bytes)
+    → (bytes : List ℕ) → LeftBy area other (Torn at size) left bytes → least ≤ length bytes
+no_less_written area other at size least left none bytes (inl is) = none bytes is
+no_less_written area other at size least left none bytes (inr (same, (before, was, torn))) = omega (arith, none before was, torn.no_shorter)
+
+no_less_cut : (area other : Area) (len least : ℕ) (left : List ℕ → Type 0) → ((bytes : List ℕ) → left bytes → least ≤ length bytes)
+    → (bytes : List ℕ) → LeftBy area other (Cut len) left bytes → min least len ≤ length bytes
+no_less_cut area other len least left none bytes (inl is) = omega (arith, none bytes is)
+no_less_cut area other len least left none bytes (inr (same, (before, was, cut))) = omega (arith, none before was, cut.no_shorter)
+
+no_less_beside : (area other : Area) (relation : List ℕ → List ℕ → Type 0) (least : ℕ) (left : List ℕ → Type 0) → (other ≡ area → ⊥)
+    → ((bytes : List ℕ) → left bytes → least ≤ length bytes) → (bytes : List ℕ) → LeftBy area other relation left bytes → least ≤ length bytes
+no_less_beside area other relation least left apart none bytes (inl is) = none bytes is
+no_less_beside area other relation least left apart none bytes (inr by) = absurd (apart by.0)
 
 written_long : (at len : ℕ) (piece bytes : List ℕ) → at ≤ len → len ≤ length bytes → max len (at + length piece) ≤ length (written at piece bytes)
 written_long at len piece bytes in_shown within = omega (
@@ -128,6 +169,7 @@ hold_write area steps stored at piece lost in_shown holds = record {
       torn_prefix at (length piece + lost) kept stored.bytes (written at piece stored.bytes) (tears_to_the_written at lost piece stored.bytes (omega (arith, in_shown, holds.within))),
     ),
   );
+  no_less = no_less_written area area at (length piece + lost) stored.least (LeavesIn area steps) holds.no_less;
 }
 
 hold_cut : (area : Area) (steps : List Step) (stored : Stored) (len left : ℕ) → HoldsIn area steps stored
@@ -137,6 +179,7 @@ hold_cut area steps stored len left holds = record {
   at_least = omega (arith, holds.at_least);
   within = omega (arith, holds.within);
   leaves = λ kept enough. inr (refl, (take (max stored.least kept) stored.bytes, holds.leaves (max stored.least kept) (omega arith), cut_front len stored.least kept stored.bytes enough));
+  no_less = no_less_cut area area len stored.least (LeavesIn area steps) holds.no_less;
 }
 
 -- what a step in one area does to what is stored of another
@@ -150,6 +193,7 @@ frame_write area steps at piece lost other stored apart kept holds = record {
   at_least = holds.at_least;
   within = holds.within;
   leaves = λ n enough. inl (holds.leaves n enough);
+  no_less = no_less_written other area at (length piece + lost) stored.least (LeavesIn other steps) holds.no_less;
 }
 
 frame_cut : (area : Area) (steps : List Step) (len left : ℕ) → Frames area steps (Shortened area len left)
@@ -158,6 +202,7 @@ frame_cut area steps len left other stored apart kept holds = record {
   at_least = holds.at_least;
   within = holds.within;
   leaves = λ n enough. inl (holds.leaves n enough);
+  no_less = no_less_beside other area (Cut len) stored.least (LeavesIn other steps) apart holds.no_less;
 }
 
 hold_all : (steps : List Step) (step : Step) (area : Area) (parts : Parts) (stored : Stored) → Holds steps parts → HoldsIn area (step ∷ steps) stored → Frames area steps step
@@ -196,6 +241,7 @@ hold_nothing area is = record {
   at_least = omega arith;
   within = omega arith;
   leaves = λ kept enough. take_all kept [] (omega arith);
+  no_less = λ bytes is. omega arith;
 }
 
 pub starts : Holds [] no_parts
@@ -215,6 +261,29 @@ pub crash_leaves : (steps : List Step) (parts : Parts) → ((area : Area) → Le
     → Leaves steps (image_of parts)
 crash_leaves steps parts left settled =
     leaves_each steps (image_of parts) (λ area. subst (LeavesIn area steps) (sym (shown_of area parts ∙ all_shown (part area parts) (settled area))) (left area))
+
+-- what a crash leaves by its choice
+pub crash_picks : (steps : List Step) (old new : Parts) (pick : ℕ) → Holds steps old → Leaves steps (image_of new) → ((area : Area) → IsSettled (part area new))
+    → ((area : Area) → pick % 4 ≡ 0 → (part area new).bytes ≡ shown (part area old)) → ((area : Area) → pick % 4 ≡ 1 → length (part area new).bytes ≡ (part area old).least)
+    → IsPick steps pick (image_of new)
+crash_picks steps old new pick holds left settled as_read least = record {
+  among = inr left;
+  as_read = λ none. same_image (image_of new) (reads steps) (λ area. whole area ∙ as_read area none ∙ (holds area).as_read);
+  least = λ one area image may.
+      let size : length (content area (image_of new)) ≡ (part area old).least = ap length (whole area) ∙ least area one in
+      omega (arith, size, (holds area).no_less (content area image) (each_leaves steps image (leaves steps image may) area));
+}
+  where
+    whole : (area : Area) → content area (image_of new) ≡ (part area new).bytes
+    whole area = shown_of area new ∙ all_shown (part area new) (settled area)
+
+-- where no call was made
+pub empty_picks : (steps : List Step) (pick : ℕ) → steps ≡ [] → IsPick steps pick (reads steps)
+empty_picks steps pick none = subst (λ (l : List Step). IsPick l pick (reads l)) (sym none) (record {
+  among = inl refl;
+  as_read = λ zero. refl;
+  least = λ one area image may. omega (arith, ap length (empty_in area));
+})
 
 -- ---- Other bytes in a write
 

@@ -1,43 +1,28 @@
 -- What contracts see of the forms in memory (docs/DECISIONS.md, "The outside").
-use Rattle.std.specs.Prelude.{ℕ, ◌+◌, ◌-◌, ◌==◌, ◌||◌, Bool, false, List, Option, Some, None, option_map, if◌then◌else◌}
+use Rattle.std.specs.Prelude.{ℕ, ◌+◌, ◌==◌, Bool, List, if◌then◌else◌}
 use Rattle.std.specs.List.{list_any}
 use Rattle.outside.specs.Causes.{counted, up_to_last}
 
--- the numbers of the calls that fail; where a disk is armed, how many more calls that change it are let through before
--- every call fails; how many calls were made, and how many of them failed for one of the two
+-- the numbers of the calls that fail, how many calls were made, and how many of them failed for that
 pub record Plan : Type 0 where
   pub failing : List ℕ
-  pub armed : Option ℕ
   pub calls : ℕ
   pub failed : ℕ
 
--- no call was made yet, and nothing is armed; a stream stays so
+-- no call was made yet
 abbrev pub fresh_plan : List ℕ → Plan
-fresh_plan failing = record { failing = failing; armed = None; calls = 0; failed = 0 }
+fresh_plan failing = record { failing = failing; calls = 0; failed = 0 }
 
--- all calls that an arm lets through were made
-abbrev pub is_spent : Option ℕ → Bool
-is_spent None = false
-is_spent (Some pass) = pass == 0
-
--- the number of the next call is listed, or the arm is spent
+-- the number of the next call is listed
 abbrev pub fails_next : Plan → Bool
-fails_next plan = list_any (λ number. number == plan.calls) plan.failing || is_spent plan.armed
-
-abbrev pub armed_with : Option ℕ → Plan → Plan
-armed_with pass plan = record { failing = plan.failing; armed = pass; calls = plan.calls; failed = plan.failed }
+fails_next plan = list_any (λ number. number == plan.calls) plan.failing
 
 abbrev pub after_call : Plan → Plan
 after_call plan = record {
   failing = plan.failing;
-  armed = plan.armed;
   calls = counted plan.calls;
   failed = if fails_next plan then counted plan.failed else plan.failed;
 }
-
--- after a call of `write`, `cut` or `sync`, whatever it answered
-abbrev pub after_change : Plan → Plan
-after_change plan = armed_with (option_map (λ pass. pass - 1) plan.armed) (after_call plan)
 
 -- a `MemSource`: the bytes left
 pub record Reading : Type 0 where

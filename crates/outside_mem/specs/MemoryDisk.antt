@@ -1,5 +1,5 @@
 -- What contracts see of a `MemDisk`: the calls that changed it, and what follows from them (docs/DECISIONS.md, "The outside").
-use Rattle.std.specs.Prelude.{◌≡◌, ◌⊎◌, ◌↔◌, ℕ, ◌+◌, ◌-◌, ◌≤◌, nat_le, List, [], ◌∷◌, length, map, reverse, Some, if◌then◌else◌}
+use Rattle.std.specs.Prelude.{◌≡◌, ◌⊎◌, ◌↔◌, ℕ, ◌+◌, ◌-◌, ◌%◌, ◌≤◌, nat_le, List, [], ◌∷◌, length, map, reverse, Some, if◌then◌else◌}
 use Rattle.std.proofs.Common.{inl, inr, sym, ap, subst}
 use Rattle.std.proofs.Math.Nat.{lt_irrefl, le_refl}
 use Rattle.outside.specs.declared.disk.Area.{Area}
@@ -78,6 +78,17 @@ FailsInPart step old new = (new ≡ old) ⊎ ((made : Step) × (new ≡ made ∷
 -- a failed write of so many bytes that made one step, which wrote some bytes and was to write others
 abbrev pub WritesInPart : Area → ℕ → ℕ → List Step → List Step → Type 0
 WritesInPart area at size old new = (made : List ℕ) × (lost : ℕ) × (length made + lost ≡ size) × (new ≡ Wrote area at made lost ∷ old)
+
+-- no image has fewer bytes of an area
+abbrev pub HasLeast : List Step → Image → Type 0
+HasLeast steps least = (area : Area) (image : Image) → MayLeave steps image → length (content area least) ≤ length (content area image)
+
+-- An image for a choice of a crash: what is read for 0, the least of each area for 1, and for another choice any of the images, all
+-- modulo 4.
+pub record IsPick (steps : List Step) (pick : ℕ) (image : Image) : Type 0 where
+  pub among : MayLeave steps image
+  pub as_read : pick % 4 ≡ 0 → image ≡ reads steps
+  pub least : pick % 4 ≡ 1 → HasLeast steps image
 
 -- After a crash the record has the image that it left and no other step. Where no step was made there is none.
 abbrev pub BeginsAnew : List Step → List Step → Type 0

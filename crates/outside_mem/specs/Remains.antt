@@ -24,6 +24,7 @@ pub record HoldsIn (area : Area) (steps : List Step) (stored : Stored) : Type 0 
   pub at_least : stored.least ≤ stored.len
   pub within : stored.len ≤ length stored.bytes
   pub leaves : (kept : ℕ) → stored.least ≤ kept → LeavesIn area steps (take kept stored.bytes)
+  pub no_less : (bytes : List ℕ) → LeavesIn area steps bytes → stored.least ≤ length bytes
 
 abbrev pub Holds : List Step → Parts → Type 0
 Holds steps parts = (area : Area) → HoldsIn area steps (part area parts)

@@ -1,5 +1,5 @@
 // Three areas of bytes in memory, with what a crash may leave of them.
-ghost use Rattle.std.specs.Prelude.{◌≡◌, ◌≤◌, ◌+◌, ◌<◌, ◌^◌, List, ℕ, length, take, OnOk, OnErr};
+ghost use Rattle.std.specs.Prelude.{◌≡◌, ◌≤◌, ◌+◌, ◌<◌, ◌%◌, ◌^◌, List, ℕ, length, take, OnOk, OnErr};
 ghost use Rattle.outside.specs.declared.disk.Area.{Area};
 ghost use Rattle.outside.specs.Disk.{written};
 ghost use Rattle.outside_mem.specs.Stored.{Stored, Parts, part, with_part, shown, nothing, after_write, after_cut, after_sync, IsSettled};
@@ -104,14 +104,16 @@ impl Areas {
     }
 
     /// Leaves of each area what a crash may leave after these calls.
-    pub(crate) fn crash(&mut self, recorded: &[Recorded], choices: &mut Choices)
+    pub(crate) fn crash(&mut self, recorded: &[Recorded], pick: u64, choices: &mut Choices)
         requires { Holds (steps_of recorded.now) self.old }
         ensures leaves { (area : Area) → LeavesIn area (steps_of recorded.now) (part area self.new).bytes }
         ensures settled { (area : Area) → IsSettled (part area self.new) }
+        ensures as_read { (area : Area) → pick % 4 ≡ 0 → (part area self.new).bytes ≡ shown (part area self.old) }
+        ensures least { (area : Area) → pick % 4 ≡ 1 → length (part area self.new).bytes ≡ (part area self.old).least }
     {
-        self.log.crash(Area::Log, recorded, choices);
-        self.snap_a.crash(Area::SnapA, recorded, choices);
-        self.snap_b.crash(Area::SnapB, recorded, choices);
+        self.log.crash(Area::Log, recorded, pick, choices);
+        self.snap_a.crash(Area::SnapA, recorded, pick, choices);
+        self.snap_b.crash(Area::SnapB, recorded, pick, choices);
     }
 }
 
@@ -158,8 +160,35 @@ impl Part {
         self.least = self.len;
     }
 
+    /// As it reads for a pick of 0, the least that a crash may leave for 1, both modulo 4.
+    fn crash(&mut self, area: Area, recorded: &[Recorded], pick: u64, choices: &mut Choices)
+        requires { HoldsIn area (steps_of recorded.now) self.old }
+        ensures leaves { LeavesIn area (steps_of recorded.now) self.new.bytes }
+        ensures settled { IsSettled self.new }
+        ensures as_read { pick % 4 ≡ 0 → self.new.bytes ≡ shown self.old }
+        ensures least { pick % 4 ≡ 1 → length self.new.bytes ≡ self.old.least }
+    {
+        let (len, least) = (self.len, self.least);
+        match pick % 4 {
+            0 => self.keep(len),
+            1 => self.keep(least),
+            _ => self.tear(area, recorded, choices),
+        }
+    }
+
+    /// Leaves the first bytes, so many.
+    fn keep(&mut self, kept: usize)
+        requires { kept ≤ length self.old.bytes }
+        ensures bytes { self.new.bytes ≡ take kept self.old.bytes }
+        ensures settled { IsSettled self.new }
+    {
+        self.bytes.truncate(kept);
+        self.len = self.bytes.len();
+        self.least = self.len;
+    }
+
     /// As it reads; or of a length that a crash may leave, with other bytes in the writes that no sync has followed.
-    fn crash(&mut self, area: Area, recorded: &[Recorded], choices: &mut Choices)
+    fn tear(&mut self, area: Area, recorded: &[Recorded], choices: &mut Choices)
         requires { HoldsIn area (steps_of recorded.now) self.old }
         ensures leaves { LeavesIn area (steps_of recorded.now) self.new.bytes }
         ensures settled { IsSettled self.new }

@@ -1,8 +1,8 @@
 // Which calls of a form in memory fail.
-ghost use Rattle.std.specs.Prelude.{◌≡◌, ◌↔◌, ◌==◌, ◌-◌, Option, IsTrue, IsErr, option_map};
+ghost use Rattle.std.specs.Prelude.{◌≡◌, ◌↔◌, ◌==◌, IsTrue, IsErr};
 ghost use Rattle.std.specs.List.{list_any};
 ghost use Rattle.outside.specs.Causes.{up_to_last, HasCause};
-ghost use Rattle.outside_mem.specs.Memory.{Plan, fresh_plan, is_spent, fails_next, armed_with, after_call, after_change};
+ghost use Rattle.outside_mem.specs.Memory.{Plan, fresh_plan, fails_next, after_call};
 
 use outside::Failed;
 use std::marker::Model;
@@ -17,12 +17,10 @@ pub(crate) enum Tear {
     OtherBytes,
 }
 
-/// Which calls fail: those that are listed, and each one once an arm is spent. The numbers of calls and of failures stop
-/// at `u64::MAX`.
+/// Which calls fail: those that are listed. The numbers of calls and of failures stop at `u64::MAX`.
 #[derive(Drop)]
 pub(crate) struct FailurePlan {
     failing: Vec<u64>,
-    armed: Option<u64>,
     calls: u64,
     failed: u64,
 }
@@ -30,7 +28,7 @@ pub(crate) struct FailurePlan {
 impl Model for FailurePlan {
     ghost Value = { Plan };
 
-    ghost view = { λ plan. record { failing = plan.failing.items; armed = plan.armed; calls = plan.calls; failed = plan.failed } };
+    ghost view = { λ plan. record { failing = plan.failing.items; calls = plan.calls; failed = plan.failed } };
 }
 
 impl FailurePlan {
@@ -39,43 +37,24 @@ impl FailurePlan {
     {
         FailurePlan {
             failing,
-            armed: None,
             calls: 0,
             failed: 0,
         }
     }
 
-    /// Lets so many more calls that change a disk through, where it is armed.
-    pub(crate) fn arm(&mut self, pass: Option<u64>)
-        ensures { self.new ≡ armed_with pass self.old }
-    {
-        self.armed = pass;
-    }
-
-    /// Counts a call, which fails if its number is listed or the arm is spent.
+    /// Counts a call, which fails if its number is listed.
     pub(crate) fn call(&mut self) -> Result<(), Failed>
         ensures listed { IsErr result ↔ IsTrue (fails_next self.old) }
         ensures counted { self.new ≡ after_call self.old }
         ensures cause { HasCause (up_to_last self.old.failed) (up_to_last self.new.failed) result }
     {
-        let fails = is_listed(&self.failing, self.calls) || spent(self.armed);
+        let fails = is_listed(&self.failing, self.calls);
         self.calls = self.calls.saturating_add(1);
         if fails {
             self.failed = self.failed.saturating_add(1);
             return Err(Failed);
         }
         Ok(())
-    }
-
-    /// Counts a call that changes a disk, which is one of those that an arm lets through.
-    pub(crate) fn change(&mut self) -> Result<(), Failed>
-        ensures listed { IsErr result ↔ IsTrue (fails_next self.old) }
-        ensures counted { self.new ≡ after_change self.old }
-        ensures cause { HasCause (up_to_last self.old.failed) (up_to_last self.new.failed) result }
-    {
-        let answer = self.call();
-        self.armed = one_less(self.armed);
-        answer
     }
 
     /// What the call that has failed now leaves, if it is a write: each kind in its turn.
@@ -85,24 +64,6 @@ impl FailurePlan {
             2 => Tear::Whole,
             _ => Tear::OtherBytes,
         }
-    }
-}
-
-fn spent(armed: Option<u64>) -> bool
-    ensures { result ≡ is_spent armed }
-{
-    match armed {
-        Some(pass) => pass == 0,
-        None => false,
-    }
-}
-
-fn one_less(armed: Option<u64>) -> Option<u64>
-    ensures { result ≡ option_map (λ pass. pass - 1) armed }
-{
-    match armed {
-        Some(pass) => Some(pass.saturating_sub(1)),
-        None => None,
     }
 }
 

@@ -1,7 +1,7 @@
 // Areas in memory, and the record of the calls that changed them.
 ghost use Rattle.std.specs.Prelude.{◌≡◌, ◌+◌, ◌^◌, ◌<◌, ◌≤◌, [], ◌∷◌, length, OnOk, OnErr};
 ghost use Rattle.outside.specs.Image.{content};
-ghost use Rattle.outside_mem.specs.MemoryDisk.{Wrote, Shortened, Synced, WritesInPart, BeginsAnew, reads};
+ghost use Rattle.outside_mem.specs.MemoryDisk.{Wrote, Shortened, Synced, WritesInPart, IsPick, BeginsAnew, reads};
 
 use crate::areas::Areas;
 use crate::choices::Choices;
@@ -131,13 +131,14 @@ impl History {
 
     /// Leaves one of the images that a crash now may leave. It needs no memory: the record becomes shorter.
     pub(crate) fn crash(&mut self, pick: u64)
-        ensures { BeginsAnew self.old self.new }
+        ensures anew { BeginsAnew self.old self.new }
+        ensures picked { IsPick self.old pick (reads self.new) }
     {
         if self.recorded.is_empty() {
             return;
         }
         let mut choices = Choices::new(pick);
-        self.areas.crash(&self.recorded, &mut choices);
+        self.areas.crash(&self.recorded, pick, &mut choices);
         self.recorded.clear();
         self.recorded
             .push_reserved(Recorded::Crash(Snapshot::of(&self.areas)));

@@ -1,5 +1,5 @@
 //! Forms of `Source`, `Sink` and `Disk` in memory, which fail at the calls that they are set to, and `NoDisk`. `MemDisk` is
-//! `Crashing`: its calls can be made to fail from one on, and it can be left as a crash leaves it.
+//! `Crashing`: it can be left as a crash leaves it.
 //!
 //! They are for programs of vectors and for chains that are made in memory; what they say shows that what the traits
 //! of `outside` say can be met. Of the program's crates only `made_chain` uses them.

@@ -5,12 +5,13 @@ ghost use Rattle.std.proofs.Common.{inl};
 ghost use Rattle.outside.specs.Causes.{counted, within_last, HasCause};
 ghost use Rattle.outside.specs.Image.{content, InArea};
 ghost use Rattle.outside.specs.Disk.{write_area, cut_area, IsWithinLimit, BeginsWithin, Torn, Cut, Follows, SameImages, NoneNew, IsDurable, OthersRead, Elapses, HasOneImage};
-ghost use Rattle.outside_mem.specs.Memory.{fresh_plan, fails_next, armed_with, after_call, after_change};
-ghost use Rattle.outside_mem.specs.MemoryDisk.{Wrote, Shortened, Synced, reads, MayLeave, LeftSince, LeavesExactly, LeavesSynced, FailsInPart, BeginsAnew, disk_faults, counts_now, only_now, Step, rests};
+ghost use Rattle.outside_mem.specs.Memory.{fresh_plan, fails_next, after_call};
+ghost use Rattle.outside_mem.specs.MemoryDisk.{Wrote, Shortened, Synced, reads, MayLeave, LeftSince, LeavesExactly, LeavesSynced, FailsInPart, IsPick, BeginsAnew, disk_faults, counts_now, only_now, Step, rests};
 
 use crate::failure_plan::FailurePlan;
 use crate::history::History;
-use outside::{Area, Crashing, Disk, Failed};
+use crashing::Crashing;
+use outside::{Area, Disk, Failed};
 use std::alloc::Global;
 use std::marker::Model;
 
@@ -116,9 +117,9 @@ impl Disk for MemDisk {
         requires limit { IsWithinLimit at (length piece.now) }
         requires within { IfSome (Some (reads self.old.steps)) (BeginsWithin area at) }
 
-        // It fails exactly at the calls that are listed, once an arm is spent, or out of memory.
+        // It fails exactly at the calls that are listed, or out of memory.
         ensures listed { IsTrue (fails_next self.old.plan) → IsErr result }
-        ensures counted { self.new.plan ≡ after_change self.old.plan }
+        ensures counted { self.new.plan ≡ after_call self.old.plan }
         ensures starved { self.new.starved
             ≡ (if is_ok result || fails_next self.old.plan then self.old.starved else counted self.old.starved) }
         ensures recorded { OnOk result (self.new.steps ≡ Wrote area at piece.now 0 ∷ self.old.steps) }
@@ -133,7 +134,7 @@ impl Disk for MemDisk {
         ensures time { Elapses (length self.old.steps) (length self.new.steps) (LeftSince self.old.steps) (LeftSince self.new.steps) (MayLeave self.new.steps) }
         ensures cause { HasCause (disk_faults self.old) (disk_faults self.new) result }
     {
-        if self.plan.change().is_err() {
+        if self.plan.call().is_err() {
             let tear = self.plan.tear();
             let _ = self.history.write_in_part(tear, area, at, piece);
             return Err(Failed);
@@ -148,7 +149,7 @@ impl Disk for MemDisk {
     fn cut(&mut self, area: Area, len: u64) -> Result<(), Failed>
         requires { IfSome (Some (reads self.old.steps)) (λ image. len ≤ length (content area image)) }
         ensures listed { IsTrue (fails_next self.old.plan) → IsErr result }
-        ensures counted { self.new.plan ≡ after_change self.old.plan }
+        ensures counted { self.new.plan ≡ after_call self.old.plan }
         ensures starved { self.new.starved
             ≡ (if is_ok result || fails_next self.old.plan then self.old.starved else counted self.old.starved) }
         ensures recorded { OnOk result (self.new.steps ≡ Shortened area len 0 ∷ self.old.steps) }
@@ -160,7 +161,7 @@ impl Disk for MemDisk {
         ensures time { Elapses (length self.old.steps) (length self.new.steps) (LeftSince self.old.steps) (LeftSince self.new.steps) (MayLeave self.new.steps) }
         ensures cause { HasCause (disk_faults self.old) (disk_faults self.new) result }
     {
-        if self.plan.change().is_err() {
+        if self.plan.call().is_err() {
             let end = self.history.bytes(area).len() as u64 - len;
             let _ = self.history.cut(area, len, end / 2);
             return Err(Failed);
@@ -174,7 +175,7 @@ impl Disk for MemDisk {
 
     fn sync(&mut self, area: Area) -> Result<(), Failed>
         ensures listed { IsTrue (fails_next self.old.plan) → IsErr result }
-        ensures counted { self.new.plan ≡ after_change self.old.plan }
+        ensures counted { self.new.plan ≡ after_call self.old.plan }
         ensures starved { self.new.starved
             ≡ (if is_ok result || fails_next self.old.plan then self.old.starved else counted self.old.starved) }
         ensures recorded { OnOk result (self.new.steps ≡ Synced area ∷ self.old.steps) }
@@ -187,7 +188,7 @@ impl Disk for MemDisk {
         ensures time { Elapses (length self.old.steps) (length self.new.steps) (LeftSince self.old.steps) (LeftSince self.new.steps) (MayLeave self.new.steps) }
         ensures cause { HasCause (disk_faults self.old) (disk_faults self.new) result }
     {
-        self.plan.change()?;
+        self.plan.call()?;
         if self.history.sync(area).is_err() {
             self.starved = self.starved.saturating_add(1);
             return Err(Failed);
@@ -197,24 +198,17 @@ impl Disk for MemDisk {
 }
 
 impl Crashing for MemDisk {
-    ghost armed = { λ disk. disk.plan.armed };
+    ghost picks = { λ disk. IsPick disk.steps };
 
-    fn arm(&mut self, pass: Option<u64>)
-        ensures plan { self.new.plan ≡ armed_with pass self.old.plan }
-        ensures steps { self.new.steps ≡ self.old.steps }
-        ensures starved { self.new.starved ≡ self.old.starved }
-    {
-        self.plan.arm(pass);
-    }
+    ghost picks_images = { λ _ _ _ is. is.among };
 
     fn crash(&mut self, pick: u64)
         ensures anew { BeginsAnew self.old.steps self.new.steps }
-        ensures plan { self.new.plan ≡ armed_with None self.old.plan }
+        ensures plan { self.new.plan ≡ self.old.plan }
         ensures starved { self.new.starved ≡ self.old.starved }
-        ensures among { IfSome (Some (reads self.new.steps)) (MayLeave self.old.steps) }
+        ensures picked { IfSome (Some (reads self.new.steps)) (IsPick self.old.steps pick) }
         ensures one_image { HasOneImage (Some (reads self.new.steps)) (MayLeave self.new.steps) }
     {
         self.history.crash(pick);
-        self.plan.arm(None);
     }
 }

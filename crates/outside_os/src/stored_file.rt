@@ -5,7 +5,8 @@ ghost use Rattle.outside_os.specs.Files.{Held, Changes, Writes, Tears, Shortens,
 
 use std::fs::File;
 use std::io;
-use std::io::{ErrorKind, Read, Seek, SeekFrom, Write};
+use std::io::ErrorKind;
+use std::os::unix::fs::FileExt;
 
 /// A file of bytes, which a call may do in part, or fail. A call that was interrupted has failed, and may be made again.
 pub trait StoredFile {
@@ -53,7 +54,8 @@ pub trait StoredFile {
         ensures cause { HasCause (failures self.old) (failures self.new) result };
 }
 
-/// What follows is trusted: no clause of std's tells what a `File` reads as, nor how often it has failed.
+/// What follows is trusted: no clause of std's tells what a `File` reads as, nor how often it has failed. Each call is one of the
+/// system, and none depends on a position that another left.
 impl StoredFile for File {
     ghost use Rattle.std.specs.Prelude.{None};
 
@@ -66,13 +68,11 @@ impl StoredFile for File {
     }
 
     fn read_at(&mut self, at: u64, into: &mut [u8]) -> io::Result<usize> {
-        self.seek(SeekFrom::Start(at))?;
-        self.read(into)
+        FileExt::read_at(self, into, at)
     }
 
     fn write_at(&mut self, at: u64, piece: &[u8]) -> io::Result<usize> {
-        self.seek(SeekFrom::Start(at))?;
-        match self.write(piece)? {
+        match FileExt::write_at(self, piece, at)? {
             0 if !piece.is_empty() => Err(io::Error::from(ErrorKind::WriteZero)),
             n => Ok(n),
         }

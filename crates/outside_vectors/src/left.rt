@@ -1,7 +1,8 @@
 // What failed writes and crashes leave of a disk in memory, over many of them.
 
 use crate::area::is_number;
-use outside::{Area, Crashing, Disk, Failed};
+use crashing::Crashing;
+use outside::{Area, Disk, Failed};
 use outside_mem::MemDisk;
 use row_table::Row;
 use std::alloc::Global;

@@ -13,7 +13,7 @@ use Rattle.chain_defs.specs.Molecule as molecule
 use Rattle.chain_defs.specs.Shape.{encoded, parts, dynvec, fixvec}
 use Rattle.chain_defs.specs.Schema.{Transaction, transaction, Header, header, UncleBlock, uncle_block, Block, block, proposal_short_id}
 use Rattle.chain_defs.proofs.MoleculeLaws.{length-dynvec, length-fixvec}
-use Rattle.cell_defs.proofs.HashLemmas.{hashes-have-32}
+use Rattle.chain_defs.proofs.HashLemmas.{hashes-have-32}
 use Rattle.chain_defs.specs.Specification.{Specification}
 use Rattle.chain_defs.specs.Kept.{header_hash}
 use Rattle.chain_defs.specs.Hashes.{transaction_hash, are_distinct}

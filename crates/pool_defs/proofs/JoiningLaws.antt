@@ -22,7 +22,7 @@ use Rattle.chain_defs.proofs.BranchLaws.{branch-last, IsBranch-branch}
 use Rattle.chain_defs.proofs.TipLaws.{tip_place-there, tip_place-below}
 use Rattle.rule_defs.specs.Header.{parent_of, has_version, has_epoch, has_target, is_later}
 use Rattle.rule_defs.specs.Body.{fits_length, has_proposals, commits_to_proposals, commits_to_transactions, has_few_uncles, commits_to_uncles}
-use Rattle.cell_defs.specs.Events.{live_cell}
+use Rattle.chain_defs.specs.Events.{live_cell}
 use Rattle.rule_defs.specs.Uncles.{has_uncles, is_uncle_at}
 use Rattle.rule_defs.specs.Cellbase.{has_cellbase, forms_cellbase}
 use Rattle.verdict_defs.specs.Transactions.{rules_of_transactions}

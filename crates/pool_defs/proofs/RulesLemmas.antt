@@ -6,7 +6,7 @@ use Rattle.std.proofs.lemmas.List.Elements.{All-cons, All-head, All-tail}
 use Rattle.chain_defs.specs.Schema.{OutPoint, Transaction, Block}
 use Rattle.chain_defs.specs.First.{AllHold}
 use Rattle.chain_defs.specs.Specification.{Specification, is_second_at}
-use Rattle.cell_defs.specs.Events.{events, events_from, cell_after}
+use Rattle.chain_defs.specs.Events.{events, events_from, cell_after}
 use Rattle.rule_defs.specs.Site.{Site, site_at}
 use Rattle.verdict_defs.specs.Transactions.{transaction_rules, left_after, rules_from}
 use Rattle.pool_defs.specs.Laws.{left_from}

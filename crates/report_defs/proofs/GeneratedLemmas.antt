@@ -6,7 +6,7 @@ use Rattle.chain_defs.specs.Schema.{Block, block}
 use Rattle.chain_defs.specs.Kept.{header_hash, block_hash}
 use Rattle.gen_defs.specs.Chain.{block_after, child, block_made, blocks_made}
 use Rattle.gen_defs.specs.Laws.{ParentsAreEarlier}
-use Rattle.cell_defs.specs.FitLaws.{HashesHave32}
+use Rattle.chain_defs.specs.FitLaws.{HashesHave32}
 use Rattle.report_defs.specs.Simulation.{HashesDiffer, generated_items}
 use Rattle.report_defs.specs.SoakLaws.{NoneHasHash, NamesNoLater, GeneratedNameNoLater}
 use Rattle.report_defs.proofs.HeaderLemmas.{same_hash, same_parent}

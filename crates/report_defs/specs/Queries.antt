@@ -10,10 +10,10 @@ use Rattle.chain_defs.specs.Epochs.{epoch_number, epoch_index}
 use Rattle.chain_defs.specs.Specification.{Specification}
 use Rattle.chain_defs.specs.Kept.{block_at, block_hash}
 use Rattle.chain_defs.specs.Tip.{tip, tip_place, best_branch}
-use Rattle.cell_defs.specs.Cell.{Cell, script_hash, data_hash, occupied_by}
-use Rattle.cell_defs.specs.Events.{live_cell}
-use Rattle.cell_defs.specs.Row.{Row}
-use Rattle.cell_defs.specs.ByLock.{cells_by_lock, capacity_of}
+use Rattle.chain_defs.specs.Cell.{Cell, script_hash, data_hash, occupied_by}
+use Rattle.chain_defs.specs.Events.{live_cell}
+use Rattle.chain_defs.specs.Row.{Row}
+use Rattle.chain_defs.specs.ByLock.{cells_by_lock, capacity_of}
 use Rattle.rule_defs.specs.Site.{site_after}
 use Rattle.rule_defs.specs.Withdrawals.{is_dao_cell, is_withdrawing}
 use Rattle.rule_defs.specs.Capacity.{withdrawn}

@@ -5,8 +5,8 @@ use Rattle.chain_defs.specs.Shape.{encoded}
 use Rattle.chain_defs.specs.Schema.{Block, block}
 use Rattle.chain_defs.specs.Kept.{block_hash}
 use Rattle.chain_defs.specs.Tip.{tip, best_branch}
-use Rattle.cell_defs.specs.Events.{events}
-use Rattle.cell_defs.specs.LiveCells.{live_cells}
+use Rattle.chain_defs.specs.Events.{events}
+use Rattle.chain_defs.specs.LiveCells.{live_cells}
 use Rattle.verdict_defs.specs.Verdict.{joins}
 use Rattle.verdict_defs.specs.Chain.{Chain, chain_of_genesis, verdicts_over, chain_over}
 use Rattle.gen_defs.specs.Start.{specification, specification_bytes, genesis}

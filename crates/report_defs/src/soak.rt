@@ -1,7 +1,7 @@
 // The laws of imports that are begun again.
 ghost use Rattle.report_defs.specs.SoakLaws.{PrefixesReplay, GeneratedNameNoLater, JoinedAreCounted};
 
-use cell_defs::canonical;
+use chain_defs::canonical;
 use gen_defs::walk_laws;
 
 /// States that imports of prefixes of one list, each begun with its first item, come to the import of the longest of them, where no item

@@ -14,7 +14,7 @@ use Rattle.chain_defs.proofs.FirstLemmas.{finds_none}
 use Rattle.chain_defs.specs.Specification.{specification_of, broken_specification_rule, keeps_s1, keeps_s2, keeps_s3, keeps_s4, keeps_s5, keeps_s6, keeps_s7}
 use Rattle.chain_defs.specs.Kept.{block_list, blocks_of_item}
 use Rattle.disk_defs.specs.Log.{Record, LogContent, of_blocks, parts_of_body, may_stand_on, block_if, block_of_parts, block_of_record, blocks_over, content_of_records, records_of}
-use Rattle.cell_defs.specs.Ext.{is_ext}
+use Rattle.chain_defs.specs.Ext.{is_ext}
 use Rattle.disk_defs.proofs.Contents.{says_by_parts, begins_well}
 use Rattle.verdict_defs.specs.Chain.{Chain}
 use Rattle.store_defs.proofs.JoinedLemmas.{content_of_log}

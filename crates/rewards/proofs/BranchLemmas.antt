@@ -18,7 +18,7 @@ use Rattle.chain_tree.specs.Blocks.{Describes, IndexesBlocks}
 use Rattle.chain_tree.specs.Told.{Stored, blocks_of}
 use Rattle.chain_tree.proofs.EntryLemmas.{there-within}
 use Rattle.chain_tree.proofs.BlockLemmas.{len-same}
-use Rattle.cell_defs.specs.Ext.{count_at}
+use Rattle.chain_defs.specs.Ext.{count_at}
 use Rattle.rule_defs.specs.Window.{proposed_ids}
 use Rattle.rule_defs.specs.Fees.{Paid, paid_in, paid_at}
 use Rattle.rule_defs.specs.Reward.{dao_of, field_at}

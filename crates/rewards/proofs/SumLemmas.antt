@@ -10,7 +10,7 @@ use Rattle.std.proofs.lemmas.List.Elements.{filter-append}
 use Rattle.std.proofs.lemmas.Option.{slice_get_within, get_or_from_slice_get, slice_get-map, same_Some}
 use Rattle.chain_defs.specs.Dao.{as_u64}
 use Rattle.chain_defs.proofs.KeptLaws.{slice_get-below}
-use Rattle.cell_defs.specs.Ext.{fee_of}
+use Rattle.chain_defs.specs.Ext.{fee_of}
 use Rattle.rule_defs.specs.Fees.{Paid, proposer_share, committer_share}
 use Rattle.rewards.specs.Paid.{ArePaid}
 

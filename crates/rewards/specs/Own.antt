@@ -4,7 +4,7 @@ use Rattle.chain_defs.specs.Schema.{Block}
 use Rattle.chain_defs.specs.Specification.{Specification}
 use Rattle.chain_defs.specs.Kept.{parent_place}
 use Rattle.chain_defs.specs.Branch.{branch}
-use Rattle.cell_defs.specs.Ext.{count_at, fee_of}
+use Rattle.chain_defs.specs.Ext.{count_at, fee_of}
 use Rattle.rule_defs.specs.Capacity.{fees_from}
 use Rattle.chain_tree.specs.Told.{Stored, blocks_of}
 

@@ -1,6 +1,6 @@
 -- What the transactions of a block pay, beside the bytes of its ext and their proposal ids.
 use Rattle.std.specs.Prelude.{◌≡◌, ℕ, ◌+◌, List, length, map, Some, slice_get}
-use Rattle.cell_defs.specs.Ext.{count_at, fee_of}
+use Rattle.chain_defs.specs.Ext.{count_at, fee_of}
 use Rattle.rule_defs.specs.Fees.{Paid}
 
 -- An ext has their fees, one after another, and the ids are theirs.

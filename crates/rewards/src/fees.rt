@@ -12,7 +12,7 @@ ghost use Rattle.chain_tree.specs.Damages.{IsOfBlock};
 ghost use Rattle.chain_tree.specs.Entries.{entry_at};
 ghost use Rattle.chain_tree.specs.Told.{Stored, blocks_of};
 ghost use Rattle.chain_tree.specs.Reading.{HasRead, stop_of};
-ghost use Rattle.cell_defs.specs.Ext.{count_at, fee_of, is_ext};
+ghost use Rattle.chain_defs.specs.Ext.{count_at, fee_of, is_ext};
 ghost use Rattle.rule_defs.specs.Fees as fees;
 ghost use Rattle.rule_defs.specs.Fees.{Paid, paid_at};
 ghost use Rattle.rewards.specs.Paid.{ArePaid};
@@ -22,7 +22,7 @@ ghost use Rattle.rewards.specs.Reading.{AreKnownBlocks, YieldsUndamaged};
 use crate::amounts::{committer_share, plus, proposer_share};
 use crate::places::place_at;
 use crate::starts::{Starts, is_started};
-use cell_model::fee_in;
+use cell_state::fee_in;
 use chain_tree::{Blocks, Tree, damaged_at};
 use outside::{NoMemory, ReadStop};
 

@@ -6,7 +6,7 @@ use Rattle.chain_defs.specs.Epochs.{is_span_over}
 use Rattle.chain_defs.specs.Since.{Spending, is_valid, is_met}
 use Rattle.chain_defs.specs.Kept.{block_at}
 use Rattle.chain_defs.specs.Median.{median_time}
-use Rattle.cell_defs.specs.Cell.{is_cellbase_output}
+use Rattle.chain_defs.specs.Cell.{is_cellbase_output}
 use Rattle.rule_defs.specs.Site.{Site, Found, height_at}
 use Rattle.rule_defs.specs.Resolving.{inputs, deps}
 

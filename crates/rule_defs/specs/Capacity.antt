@@ -6,8 +6,8 @@ use Rattle.chain_defs.specs.Schema.{Transaction, Block}
 use Rattle.chain_defs.specs.Specification.{Specification}
 use Rattle.chain_defs.specs.Dao.{field_of_bytes, counted_capacity}
 use Rattle.chain_defs.specs.Kept.{block_at}
-use Rattle.cell_defs.specs.Cell.{Cell, occupied_by, outputs_hold_their_own}
-use Rattle.cell_defs.specs.Events.{made_out_points}
+use Rattle.chain_defs.specs.Cell.{Cell, occupied_by, outputs_hold_their_own}
+use Rattle.chain_defs.specs.Events.{made_out_points}
 use Rattle.rule_defs.specs.Site.{Site, Found, site_at}
 use Rattle.rule_defs.specs.Resolving.{inputs, heights}
 use Rattle.rule_defs.specs.Withdrawals.{is_withdrawing, deposit_height}

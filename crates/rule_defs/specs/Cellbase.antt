@@ -6,8 +6,8 @@ use Rattle.std.specs.Str.{bytes_eq}
 use Rattle.chain_defs.specs.Shape.{decoded}
 use Rattle.chain_defs.specs.Schema.{OutPoint, Script, CellInput, Transaction, Block, cellbase_witness}
 use Rattle.chain_defs.specs.Hashes.{transaction_hash, are_distinct}
-use Rattle.cell_defs.specs.Cell.{Cell, pairs_data}
-use Rattle.cell_defs.specs.Events.{made_out_points}
+use Rattle.chain_defs.specs.Cell.{Cell, pairs_data}
+use Rattle.chain_defs.specs.Events.{made_out_points}
 
 -- the out-point that names no output
 unfoldable pub null_index : ℕ

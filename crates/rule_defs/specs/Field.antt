@@ -4,7 +4,7 @@ use Rattle.std.specs.List.{sum_by, enumerate_from}
 use Rattle.chain_defs.specs.Schema.{CellOutput, Transaction, Block}
 use Rattle.chain_defs.specs.Specification.{Specification}
 use Rattle.chain_defs.specs.Dao.{DaoField, Movement, next_field}
-use Rattle.cell_defs.specs.Cell.{occupied_by, data_of}
+use Rattle.chain_defs.specs.Cell.{occupied_by, data_of}
 use Rattle.rule_defs.specs.Site.{Site, Found, site_at}
 use Rattle.rule_defs.specs.Resolving.{inputs}
 use Rattle.rule_defs.specs.Capacity.{interest}

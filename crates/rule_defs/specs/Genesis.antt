@@ -6,7 +6,7 @@ use Rattle.chain_defs.specs.Schema.{Block, block}
 use Rattle.chain_defs.specs.First.{first_failing}
 use Rattle.chain_defs.specs.Dao.{is_rated}
 use Rattle.chain_defs.specs.Hashes.{transaction_hash, are_distinct}
-use Rattle.cell_defs.specs.Cell.{pairs_data, outputs_hold_their_own}
+use Rattle.chain_defs.specs.Cell.{pairs_data, outputs_hold_their_own}
 
 -- G2: its number is 0.
 abbrev pub is_first : Block → Bool

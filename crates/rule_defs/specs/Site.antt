@@ -4,8 +4,8 @@ use Rattle.std.specs.Prelude.{ℕ, Bool, List, [], ◌∷◌, length, Option, So
 use Rattle.std.specs.Option.{option_map, option_and_then}
 use Rattle.chain_defs.specs.Schema.{OutPoint, Block}
 use Rattle.chain_defs.specs.Specification.{Specification, is_second_at}
-use Rattle.cell_defs.specs.Cell.{Cell}
-use Rattle.cell_defs.specs.Events.{live_cell, cell_seen}
+use Rattle.chain_defs.specs.Cell.{Cell}
+use Rattle.chain_defs.specs.Events.{live_cell, cell_seen}
 
 pub record Site : Type 0 where
   pub spec : Specification

@@ -4,7 +4,7 @@ use Rattle.std.specs.Prelude.{ℕ, Bool, ◌&&◌, ◌==◌, nat_lt, List, [], �
 use Rattle.chain_defs.specs.Shape.{encoded}
 use Rattle.chain_defs.specs.Schema.{Transaction, cell_dep}
 use Rattle.chain_defs.specs.Hashes.{are_distinct}
-use Rattle.cell_defs.specs.Cell.{pairs_data}
+use Rattle.chain_defs.specs.Cell.{pairs_data}
 use Rattle.rule_defs.specs.Site.{Site}
 use Rattle.rule_defs.specs.Resolving.{spends_live_cells, has_cell_deps, has_header_deps}
 use Rattle.rule_defs.specs.Age.{uses_mature_cells, meets_each_since}

@@ -7,7 +7,7 @@ use Rattle.std.specs.Int.{w64, from_le_bytes}
 use Rattle.chain_defs.specs.Shape.{decoded}
 use Rattle.chain_defs.specs.Schema.{Script, Transaction, witness_args}
 use Rattle.chain_defs.specs.Specification.{Specification}
-use Rattle.cell_defs.specs.Cell.{Cell, by_type}
+use Rattle.chain_defs.specs.Cell.{Cell, by_type}
 use Rattle.rule_defs.specs.Site.{Site, Found}
 use Rattle.rule_defs.specs.Resolving.{inputs, heights}
 

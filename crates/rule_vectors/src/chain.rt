@@ -1,10 +1,10 @@
 //! A chain in memory: its tree, its blocks with their exts, and the uncles that they embed.
 
 ghost use Rattle.std.specs.Prelude.{◌≡◌, ◌<◌, true, false, length, IfSome};
-ghost use Rattle.cell_model.specs.ListBlocks.{IsCanonical, IsExtFor};
+ghost use Rattle.cell_state.specs.ListBlocks.{IsCanonical, IsExtFor};
 
 use blake2b_ckb::ckbhash;
-use cell_model::{Ext, ListBlocks};
+use cell_state::{Ext, ListBlocks};
 use chain_tree::{Entry, Tree};
 use epochs::Spec;
 use mol_schema::{BlockView, HeaderView};
@@ -21,16 +21,8 @@ pub(crate) struct Chain {
     pub(crate) uncles: Uncles,
 }
 
-fn entry_of(header: &HeaderView<'_>, parent: u32) -> Option<Entry> {
-    Some(Entry {
-        hash: ckbhash(header.bytes()),
-        parent,
-        number: header.number(),
-        timestamp: header.timestamp(),
-        dao: <[u8; 32]>::try_from(header.dao()).ok()?,
-        at: 0,
-        len: 0,
-    })
+fn entry_of(header: &HeaderView<'_>, parent: u32) -> Entry {
+    Entry::of_header(header, ckbhash(header.bytes()), parent, 0, 0)
 }
 
 /// Whether the bytes are a block, and what stands beside a later one is an ext with a fee for each of its transactions
@@ -91,7 +83,7 @@ pub(crate) fn take(
 
 /// The chain of a specification and the entry of a genesis, which is still to be taken.
 pub(crate) fn chain_of(alloc: Global, spec: Spec, genesis: &BlockView<'_>) -> Option<Chain> {
-    let entry = entry_of(&genesis.header(), 0)?;
+    let entry = entry_of(&genesis.header(), 0);
     if entry.number != 0 {
         return None;
     }
@@ -133,6 +125,6 @@ pub(crate) fn join(
     let header = block.header();
     let parent = parent_of(&chain.tree, &header)?;
     let place = chain.tree.len();
-    add(&mut chain.tree, entry_of(&header, parent)?)?;
+    add(&mut chain.tree, entry_of(&header, parent))?;
     take(alloc, chain, block, ext, place)
 }

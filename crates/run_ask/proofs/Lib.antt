@@ -6,5 +6,6 @@ pub mod WordLemmas
 pub mod NextLemmas
 pub mod CommitLemmas
 pub mod IndexLemmas
+pub mod OrderLemmas
 pub mod StoreLemmas
 pub mod TextLemmas

@@ -9,16 +9,21 @@ use Rattle.verdict_defs.specs.Chain.{Chain}
 use Rattle.run_ask.specs.declared.committed.Committed.{Committed}
 use Rattle.ask_defs.specs.Answers.{block_named, committed_on}
 use Rattle.transaction_index.specs.declared.row.Row.{Row}
-use Rattle.transaction_index.specs.Rows.{first_row, rows_in}
+use Rattle.transaction_index.specs.Rows.{first_row, rows_at, rows_of, AreInOrder}
 
 -- the encoding of the kept block with a hash, and none where no block has it
 abbrev pub IsNamed : Chain → List ℕ → Option (List ℕ) → Type 0
 IsNamed chain hash None = block_named chain hash ≡ None
 IsNamed chain hash (Some bytes) = (b : Block) × (block_named chain hash ≡ Some b) × IsEncoding block bytes b
 
--- the rows of the kept block at a place were added
-abbrev pub AreRowsAdded : List Block → ℕ → List Row → List Row → Type 0
-AreRowsAdded kept place before after = (b : Block) × (block_at kept place ≡ Some b) × (after ≡ before ++ rows_in b)
+-- the rows of the kept block at a place were added, as of one of a number
+abbrev pub AreRowsAdded : List Block → ℕ → ℕ → List Row → List Row → Type 0
+AreRowsAdded kept place number before after = (b : Block) × (block_at kept place ≡ Some b) × (after ≡ before ++ rows_at number b)
+
+-- Rows are those of the blocks of a branch, and stand as on it.
+pub record AreRowsOf (branch : List Block) (rows : List Row) : Type 0 where
+  pub all : rows ≡ rows_of branch
+  pub in_order : AreInOrder rows
 
 -- where a transaction stands: the number of the block, and the place there
 abbrev pub stands_at : Block × ℕ → ℕ × ℕ

@@ -40,10 +40,7 @@ pub fn index_of<D: Disk>(
         Ok(rows) => rows,
         Err(stop) => return Err(status_of_reading(stop)),
     };
-    match TransactionIndex::of(rows) {
-        Ok(index) => Ok(index),
-        Err(_) => Err(Status::NoMemory),
-    }
+    Ok(TransactionIndex::of(rows))
 }
 
 /// Where the best branch committed the transaction with a hash, by its index.
@@ -56,13 +53,14 @@ pub fn find_committed(node: &Node, index: &TransactionIndex, hash: &[u8; 32]) ->
     };
     let tree = node.tree();
     let tip = tree.tip();
+    let number = u64::from(row.number);
     // (never above the tip, where the index is of the best branch)
-    if tree.entry(tip).number < row.number {
+    if tree.entry(tip).number < number {
         return None;
     }
-    let entry = tree.entry(tree.ancestor(tip, row.number));
+    let entry = tree.entry(tree.ancestor(tip, number));
     Some(Committed {
-        number: row.number,
+        number,
         hash: entry.hash,
         place: row.place,
     })

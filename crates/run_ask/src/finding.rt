@@ -6,8 +6,7 @@ ghost use Rattle.outside.specs.declared.disk.ReadStop.TheVariants.{Damaged};
 ghost use Rattle.chain_defs.specs.Tip.{best_branch};
 ghost use Rattle.chain_tree.specs.Reading.{stop_of};
 ghost use Rattle.node_store.specs.Node.{IsOwnDiskWhereTold, LeavesAll};
-ghost use Rattle.transaction_index.specs.Rows.{rows_of};
-ghost use Rattle.run_ask.specs.Finding.{IsNamed};
+ghost use Rattle.run_ask.specs.Finding.{IsNamed, AreRowsOf};
 
 use crate::over_disk;
 use node_store::Node;
@@ -38,7 +37,7 @@ pub fn committed_rows<D: Disk>(
 ) -> Result<Vec<Row>, ReadStop>
     requires own { IsOwnDiskWhereTold node.old (D.reads_as disk.old) (D.images disk.old) }
     ensures left { LeavesAll D.content_of D.reads_as D.images D.faults disk.old disk.new node.old node.new (stop_of result) }
-    ensures rows { IsSome (D.reads_as disk.old) → IfOk result (λ rows. rows.items ≡ rows_of (best_branch node.old.chain.blocks)) }
+    ensures rows { IsSome (D.reads_as disk.old) → IfOk result (λ rows. AreRowsOf (best_branch node.old.chain.blocks) rows.items) }
     ensures undamaged { IsSome (D.reads_as disk.old) → (damage : Damage) → result ≡ Err (Damaged damage) → ⊥ }
 {
     over_disk::committed_rows(alloc, disk, &mut node.cache, &node.kept)

@@ -6,8 +6,7 @@ ghost use Rattle.outside.specs.declared.disk.ReadStop.TheVariants.{Damaged};
 ghost use Rattle.chain_defs.specs.Tip.{best_branch};
 ghost use Rattle.chain_tree.specs.Reading.{stop_of};
 ghost use Rattle.node_store.specs.Node.{LogHoldsKept, HasOnlyRead};
-ghost use Rattle.transaction_index.specs.Rows.{rows_of};
-ghost use Rattle.run_ask.specs.Finding.{IsNamed};
+ghost use Rattle.run_ask.specs.Finding.{IsNamed, AreRowsOf};
 
 use crate::over_blocks;
 use node_store::{Cache, Kept, Store};
@@ -41,7 +40,7 @@ pub(crate) fn committed_rows<D: Disk>(
 ) -> Result<Vec<Row>, ReadStop>
     requires own { IfSome (D.reads_as disk.old) (LogHoldsKept kept.now cache.old.held) }
     ensures looked { HasOnlyRead D.content_of D.reads_as D.faults disk.old disk.new kept.now cache.old cache.new (stop_of result) }
-    ensures rows { IsSome (D.reads_as disk.old) → IfOk result (λ rows. rows.items ≡ rows_of (best_branch kept.now.chain.blocks)) }
+    ensures rows { IsSome (D.reads_as disk.old) → IfOk result (λ rows. AreRowsOf (best_branch kept.now.chain.blocks) rows.items) }
     ensures undamaged { IsSome (D.reads_as disk.old) → (damage : Damage) → result ≡ Err (Damaged damage) → ⊥ }
 {
     let mut store = Store::new(alloc, disk, &kept.tree, cache);

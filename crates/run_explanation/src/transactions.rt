@@ -7,7 +7,7 @@ ghost use Rattle.run_explanation.specs.Explanation.{IsLineOf};
 ghost use Rattle.run_explanation.specs.declared.asked.Asked.TheVariants.{Check};
 
 use crate::said::Said;
-use explanation::{Judged, page_of_bytes, page_of_transaction};
+use explanation::page_of_transaction;
 use mol_schema::TxView;
 use node_store::Node;
 use outside::{Disk, ReadStop};
@@ -15,6 +15,7 @@ use report_defs::Status;
 use run_question::{answer_of_trial, judge_item};
 use run_text::Answer;
 use std::alloc::Global;
+use transaction_page::{Judged, page_of_bytes};
 use verdict_defs::Trial;
 use view_hashes::transaction_hash;
 

@@ -12,9 +12,9 @@ use Rattle.chain_defs.specs.Tip.{tip_place}
 use Rattle.chain_tree.specs.declared.entry.Entry.{Entry}
 use Rattle.chain_tree.specs.Told.{Stored}
 use Rattle.uncle_rules.specs.Embedded.{UnclesValue}
-use Rattle.cell_defs.specs.ByLock.{of_lock, cells_by_lock, IsByLock}
-use Rattle.cell_defs.specs.Row.{Row, live_row}
-use Rattle.cell_defs.proofs.ByLockLaws.{lists-by-lock}
+use Rattle.chain_defs.specs.ByLock.{of_lock, cells_by_lock, IsByLock}
+use Rattle.chain_defs.specs.Row.{Row, live_row}
+use Rattle.chain_defs.proofs.ByLockLaws.{lists-by-lock}
 use Rattle.cell_state.proofs.RowLemmas.{live_row-prefix}
 use Rattle.cell_index.specs.Index.{IndexValue, IndexesBranch}
 use Rattle.cell_index.specs.Follow.{CanBeFollowed}

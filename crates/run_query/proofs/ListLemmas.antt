@@ -6,9 +6,9 @@ use Rattle.std.specs.declared.cmp.Ordering.TheVariants.{Less}
 use Rattle.std.proofs.lemmas.List.Kept.{AllPairs-filter}
 use Rattle.chain_defs.specs.Schema.{OutPoint, Block}
 use Rattle.chain_defs.specs.Tip.{tip_place}
-use Rattle.cell_defs.specs.Row.{Row, live_row, out_point_cmp, ListsRows}
-use Rattle.cell_defs.specs.ByLock.{of_lock, IsByLock}
-use Rattle.cell_defs.proofs.ByLockLaws.{here, there, cons-of, lists-by-lock}
+use Rattle.chain_defs.specs.Row.{Row, live_row, out_point_cmp, ListsRows}
+use Rattle.chain_defs.specs.ByLock.{of_lock, IsByLock}
+use Rattle.chain_defs.proofs.ByLockLaws.{here, there, cons-of, lists-by-lock}
 use Rattle.report_defs.specs.Queries.{cells_on}
 use Rattle.run_query.specs.Queries.{is_of}
 

@@ -11,9 +11,9 @@ use Rattle.chain_defs.specs.Specification.{Specification}
 use Rattle.chain_defs.specs.Branch.{branch}
 use Rattle.chain_defs.specs.Tip.{tip_place, best_branch}
 use Rattle.chain_defs.proofs.TipLaws.{tip_place-below}
-use Rattle.cell_defs.specs.Cell.{Cell, holds_its_own}
-use Rattle.cell_defs.specs.Events.{live_cell}
-use Rattle.cell_defs.proofs.OutputLaws.{cells-are-outputs}
+use Rattle.chain_defs.specs.Cell.{Cell, holds_its_own}
+use Rattle.chain_defs.specs.Events.{live_cell}
+use Rattle.chain_defs.proofs.OutputLaws.{cells-are-outputs}
 use Rattle.rule_defs.specs.Withdrawals.{is_dao_script, is_withdrawing, has_withdrawing_data}
 use Rattle.verdict_defs.specs.Chain.{Chain}
 use Rattle.store_defs.specs.Store.{IsJoined}

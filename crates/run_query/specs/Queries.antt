@@ -1,12 +1,12 @@
 -- What is found for a query, and the line of a live cell by its row.
 use Rattle.std.specs.Prelude.{◌≡◌, ℕ, ℤ, Bool, List, Option, Some, None}
 use Rattle.std.specs.Str.{bytes_eq}
-use Rattle.cell_defs.specs.Cell.{Cell, occupied_by}
-use Rattle.cell_defs.specs.Row.{Row, row_of}
+use Rattle.chain_defs.specs.Cell.{Cell, occupied_by}
+use Rattle.chain_defs.specs.Row.{Row, row_of}
 use Rattle.chain_defs.specs.Schema.{OutPoint}
 use Rattle.chain_defs.specs.Tip.{best_branch}
-use Rattle.cell_defs.specs.Events.{live_cell}
-use Rattle.cell_model.specs.Copies.{IsCopyOf}
+use Rattle.chain_defs.specs.Events.{live_cell}
+use Rattle.cell_state.specs.Copies.{IsCopyOf}
 use Rattle.verdict_defs.specs.Chain.{Chain}
 use Rattle.supply_defs.specs.Laws.{supply_balance, occupied_balance}
 use Rattle.node_store.specs.Queries.{LiveValue, FetchedValue}

@@ -1,10 +1,10 @@
 // The query `dao`: what a live cell of the Nervos DAO counts.
 ghost use Rattle.std.specs.Prelude.{◌≡◌, ◌==◌, ◌<◌, ◌&&◌, Option, Err, Some, None, length, IfOk, string_bytes, if◌then◌else◌, nat_lt, IsTrue};
 ghost use Rattle.std.specs.List.{list_all};
-ghost use Rattle.cell_defs.specs.Cell.{Cell, holds_its_own};
+ghost use Rattle.chain_defs.specs.Cell.{Cell, holds_its_own};
 ghost use Rattle.chain_defs.specs.Tip.{best_branch};
 ghost use Rattle.rule_defs.specs.Withdrawals as rules;
-ghost use Rattle.cell_model.specs.Copies.{IsCopyOf};
+ghost use Rattle.cell_state.specs.Copies.{IsCopyOf};
 ghost use Rattle.outside.specs.declared.disk.Damage.{Damage};
 ghost use Rattle.outside.specs.declared.disk.ReadStop.TheVariants.{DiskFault, Damaged};
 ghost use Rattle.store_defs.specs.Store.{IsJoined};
@@ -23,7 +23,7 @@ ghost use Rattle.run_query.specs.Queries.{IsCopied, IsCopyFound, IsLiveIn};
 
 use crate::lines::{deposit_line, none_line, not_dao_line, withdrawing_line};
 use crate::queries::{line_or_stop, out_point};
-use cell_model::Resolved;
+use cell_state::Resolved;
 use epochs::Spec;
 use mol_schema::{OutputView, ScriptView};
 use node_store::{Fetched, Node};

@@ -5,7 +5,7 @@ ghost use Rattle.report_defs.specs.Text as text;
 ghost use Rattle.report_defs.specs.Queries.{amount_line};
 ghost use Rattle.run_query.specs.Queries.{row_line};
 
-use cell_model::CellMeta;
+use cell_state::CellMeta;
 use epochs::Epoch;
 use run_text::{numbered_line, numbers_line, push_hash, push_hex, push_number};
 use std::alloc::{AllocError, Global};

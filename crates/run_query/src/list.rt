@@ -9,10 +9,10 @@ ghost use Rattle.report_defs.specs.Report as reports;
 ghost use Rattle.report_defs.specs.Queries.{cells_at_tip, total_of, line_of_listed, lines_of_cells};
 ghost use Rattle.report_defs.specs.Text as texts;
 ghost use Rattle.report_defs.specs.declared.command.Query.TheVariants as queries;
-ghost use Rattle.cell_defs.specs.ByLock.{capacity_of};
+ghost use Rattle.chain_defs.specs.ByLock.{capacity_of};
 ghost use Rattle.run_query.specs.Queries.{is_of};
 
-use cell_model::{CellMeta, OutPoint};
+use cell_state::{CellMeta, OutPoint};
 use itoa::Buffer;
 use node_store::Node;
 use outside::NoMemory;

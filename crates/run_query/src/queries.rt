@@ -3,7 +3,7 @@ ghost use Rattle.std.specs.Prelude.{◌≡◌, ◌≢◌, ◌+◌, ◌≤◌, sl
 ghost use Rattle.chain_defs.specs.Schema.{Block};
 ghost use Rattle.chain_defs.specs.Kept.{block_at};
 ghost use Rattle.chain_defs.specs.Tip.{best_branch};
-ghost use Rattle.cell_defs.specs.Cell.{Cell};
+ghost use Rattle.chain_defs.specs.Cell.{Cell};
 ghost use Rattle.outside.specs.Causes.{CountsFault};
 ghost use Rattle.disk_defs.specs.Log.{end_of_log};
 ghost use Rattle.store_defs.specs.Store.{Keeps, store_of};
@@ -32,7 +32,7 @@ use crate::audit::audit;
 use crate::dao::dao;
 use crate::lines::{epoch_line, header_line, live_line, none_line, tip_line};
 use crate::list::list;
-use cell_model::OutPoint;
+use cell_state::OutPoint;
 use epochs::epoch_of;
 use json_blocks::to_json;
 use mol_schema::BlockView;

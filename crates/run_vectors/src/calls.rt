@@ -2,9 +2,10 @@
 
 use crate::list::{Made, agrees, made_of, status_of};
 use crate::row::Run;
+use crashing::Armed;
+use node_run::run_all;
 use outside::Steps;
 use outside_mem::MemDisk;
-use run_list::run_all;
 use std::alloc::{AllocError, Global};
 use std::sync::ledger::Ledger;
 
@@ -32,7 +33,7 @@ fn is_made<L: Ledger>(
     let mut failing = Vec::new(alloc);
     failing.push(call)?;
     let mut made = all_made(alloc, runs)?;
-    let mut disk = MemDisk::new(alloc, failing);
+    let mut disk = Armed::new(MemDisk::new(alloc, failing));
     run_all(alloc, &mut made, &mut disk, steps);
     let met = made.iter().any(|it| status_of(it) == DISK_FAULT);
     drop(made);

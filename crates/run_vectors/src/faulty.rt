@@ -2,9 +2,10 @@
 
 use crate::list::{Made, answers_as, made_of, status_of};
 use crate::row::Run;
+use crashing::Armed;
+use node_run::run_all;
 use outside::Steps;
 use outside_mem::MemDisk;
-use run_list::run_all;
 use std::alloc::{AllocError, Global};
 use std::sync::ledger::Ledger;
 use std::{slice, str};
@@ -74,7 +75,7 @@ fn failing(alloc: Global, call: u64, fails: bool) -> Result<Vec<u64>, AllocError
 /// the sink where it is 4.
 #[derive(Drop)]
 struct Trial {
-    disk: MemDisk,
+    disk: Armed<MemDisk>,
     status: u8,
     call: u64,
     has_failed: bool,
@@ -83,7 +84,7 @@ struct Trial {
 impl Trial {
     fn new(alloc: Global, status: u8, call: u64) -> Result<Trial, AllocError> {
         Ok(Trial {
-            disk: MemDisk::new(alloc, failing(alloc, call, status == 5)?),
+            disk: Armed::new(MemDisk::new(alloc, failing(alloc, call, status == 5)?)),
             status,
             call,
             has_failed: false,

@@ -2,9 +2,10 @@
 
 use crate::row::{Run, words_of};
 use crate::trickle::Trickle;
+use crashing::Armed;
+use node_run::{Call, run_all};
 use outside::Steps;
 use outside_mem::{MemDisk, MemSink, MemSource};
-use run_list::{Call, run_all};
 use std::alloc::{AllocError, Global};
 use std::sync::ledger::Ledger;
 
@@ -60,7 +61,7 @@ pub fn agrees<L: Ledger>(
     failing: Vec<u64>,
 ) -> Result<bool, AllocError> {
     let mut made = all_made(alloc, runs)?;
-    let mut disk = MemDisk::new(alloc, failing);
+    let mut disk = Armed::new(MemDisk::new(alloc, failing));
     run_all(alloc, &mut made, &mut disk, steps);
     let agree = made
         .iter()

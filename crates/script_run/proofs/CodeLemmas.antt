@@ -10,8 +10,8 @@ use Rattle.std.proofs.lemmas.Bool.{ne_eqb}
 use Rattle.std.proofs.lemmas.List.{drop_all, get_or-drop, length-drop}
 use Rattle.std.proofs.lemmas.Option.{same_Some}
 use Rattle.chain_defs.specs.Schema.{Script}
-use Rattle.cell_defs.specs.Cell.{script_hash, data_hash}
-use Rattle.cell_model.specs.Copies.{ResolvedValue}
+use Rattle.chain_defs.specs.Cell.{script_hash, data_hash}
+use Rattle.cell_state.specs.Copies.{ResolvedValue}
 use Rattle.verdict_defs.specs.Codes.{Code, NoCode, ManyCodes, Is, has_data_hash, has_type_hash, is_script_of_hash, code_by_data, code_by_type, code_in, only_code, are_one_code}
 use Rattle.verdict_defs.specs.Scene.{Scene, ShownCell}
 use Rattle.script_run.specs.Locating.{first_with_data, typed_with, is_hash, has_type, with_type, are_many}

@@ -8,8 +8,8 @@ use Rattle.std.proofs.lemmas.List.{drop_all, drop_more}
 use Rattle.std.proofs.lemmas.Option.{slice_get_within}
 use Rattle.chain_defs.specs.Shape.{decoded}
 use Rattle.chain_defs.specs.Schema.{CellOutput, cell_output, Header}
-use Rattle.cell_defs.specs.Cell.{script_hash}
-use Rattle.cell_model.specs.Copies.{ResolvedValue, ResolvedTxValue}
+use Rattle.chain_defs.specs.Cell.{script_hash}
+use Rattle.cell_state.specs.Copies.{ResolvedValue, ResolvedTxValue}
 use Rattle.chain_tree.specs.declared.entry.Entry.{Entry}
 use Rattle.verdict_defs.specs.Scene.{ShownCell}
 use Rattle.script_run.specs.Fitting.{Fits, agree, is_typed, record_of, typed_as, uncopied, unfit, unkept, untyped}

@@ -10,7 +10,7 @@ use Rattle.std.proofs.lemmas.List.Elements.{All-append, All-map, All-same, filte
 use Rattle.std.specs.Option.{option_map}
 use Rattle.std.proofs.lemmas.Option.{same_Some}
 use Rattle.chain_defs.specs.Schema.{Script, CellOutput, Transaction}
-use Rattle.cell_defs.specs.Cell.{script_hash}
+use Rattle.chain_defs.specs.Cell.{script_hash}
 use Rattle.verdict_defs.specs.Groups.{Group, has_hash, first_scripts, places_with, present, input_locks, lock_group, lock_groups, type_groups, groups_of}
 use Rattle.verdict_defs.specs.Scene.{Scene, ShownCell}
 use Rattle.script_run.specs.Shown.{GroupValue, HasItsHash}

@@ -10,9 +10,9 @@ use Rattle.std.proofs.lemmas.List.{length-map}
 use Rattle.std.proofs.lemmas.List.FromFn.{length-enumerate_from}
 use Rattle.chain_defs.specs.Shape.{decoded}
 use Rattle.chain_defs.specs.Schema.{Header, CellInput, CellOutput, cell_output, Transaction}
-use Rattle.cell_defs.specs.Row.{Row}
-use Rattle.cell_defs.specs.Cell.{data_of}
-use Rattle.cell_model.specs.Copies.{ResolvedValue}
+use Rattle.chain_defs.specs.Row.{Row}
+use Rattle.chain_defs.specs.Cell.{data_of}
+use Rattle.cell_state.specs.Copies.{ResolvedValue}
 use Rattle.machine_defs.specs.World.{Call, Item, Here, NoIndex, Missing, Unknown}
 use Rattle.verdict_defs.specs.Scene.{ShownCell}
 use Rattle.verdict_defs.specs.Items.{OutputWithData, answer, item_at, listed, output_of}
@@ -27,7 +27,7 @@ use Rattle.script_run.specs.declared.sources.Place as code
 use Rattle.script_run.specs.declared.sources.Target.{Target}
 use Rattle.script_run.specs.declared.sources.Target.TheVariants.{At}
 use Rattle.script_run.specs.Places.{place_meaning, target_meaning}
-use Rattle.script_run.specs.Lookups.{HasHashes, IsFound, cell_part, header_among, header_part, input_part, item_of}
+use Rattle.script_run.specs.Lookups.{TellsOutput, IsFound, cell_part, header_among, header_part, input_part, item_of}
 use Rattle.script_run.specs.Shown.{IsShownAs, output_row, output_rows}
 use Rattle.script_run.proofs.PlaceLemmas.{Beside, beside, beside-none, some-is}
 
@@ -58,12 +58,12 @@ shown-copy cells copies i copy part result zip here each =
     let it : Beside IsShownAs copy cells i = beside IsShownAs copies cells i copy zip here in
     one-there (λ cell. cell_part part (output_of cell)) cells i it.item it.there ∙ each it.item it.holds
 
-pub has-hashes : (copy : ResolvedValue) (cell : ShownCell) → IsShownAs copy cell → HasHashes copy.row (output_of cell)
-has-hashes copy cell is = record { lock = is.lock; type_script = is.type_script; content_hash = is.content_hash }
+pub tells-output : (copy : ResolvedValue) (cell : ShownCell) → IsShownAs copy cell → TellsOutput copy.row (output_of cell)
+tells-output copy cell is = record { lock = is.lock; type_script = is.type_script; content_hash = is.content_hash; occupied = is.occupied }
 
 -- its row, as a part of what it is made of
-pub row-has-hashes : (copy : ResolvedValue) (row : Row) (cell : ShownCell) → row ≡ copy.row → IsShownAs copy cell → HasHashes row (output_of cell)
-row-has-hashes copy row cell same is = subst (λ (r : Row). HasHashes r (output_of cell)) (sym same) (has-hashes copy cell is)
+pub row-tells-output : (copy : ResolvedValue) (row : Row) (cell : ShownCell) → row ≡ copy.row → IsShownAs copy cell → TellsOutput row (output_of cell)
+row-tells-output copy row cell same is = subst (λ (r : Row). TellsOutput r (output_of cell)) (sym same) (tells-output copy cell is)
 
 pub same-output : (copy : ResolvedValue) (cell : ShownCell) (output : CellOutput) → IsShownAs copy cell → decoded cell_output copy.output ≡ Some output → output ≡ cell.output
 same-output copy cell output is some = let it = is.output in cc
@@ -94,8 +94,8 @@ its-row t i output row here is =
     ∙ ap (λ (k : ℕ). Some (output_row t (k, output))) none_more in
     is ∙ get_or_from_slice_get (output_rows t) i (output_row t (i, output)) row at
 
-pub row-hashes : (t : Transaction) (i : ℕ) (output : CellOutput) (row : Row) → row ≡ output_row t (i, output) → HasHashes row (record { output = output; content = data_of t i })
-row-hashes t i output row is = record { lock = ap (λ (r : Row). r.lock_hash) is; type_script = ap (λ (r : Row). r.type_hash) is; content_hash = ap (λ (r : Row). r.data_hash) is }
+pub own-row-tells : (t : Transaction) (i : ℕ) (output : CellOutput) (row : Row) → row ≡ output_row t (i, output) → TellsOutput row (record { output = output; content = data_of t i })
+own-row-tells t i output row is = record { lock = ap (λ (r : Row). r.lock_hash) is; type_script = ap (λ (r : Row). r.type_hash) is; content_hash = ap (λ (r : Row). r.data_hash) is; occupied = ap (λ (r : Row). r.occupied) is }
 
 -- ---- Headers
 

@@ -8,7 +8,7 @@ use Rattle.std.proofs.lemmas.List.{append-nil}
 use Rattle.std.proofs.lemmas.List.Elements.{filter_map-append}
 use Rattle.std.proofs.lemmas.Slice.Eq.{bytes_eq-Decides}
 use Rattle.chain_defs.specs.Schema.{Script}
-use Rattle.cell_defs.specs.Cell.{script_hash}
+use Rattle.chain_defs.specs.Cell.{script_hash}
 use Rattle.verdict_defs.specs.Groups.{has_hash, first_scripts, place_if, places_with, present}
 use Rattle.script_run.proofs.WalkLemmas.{enumerate-push}
 

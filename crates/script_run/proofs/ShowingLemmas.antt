@@ -8,14 +8,14 @@ use Rattle.std.proofs.lemmas.Slice.Eq.{bytes_eq-Decides}
 use Rattle.chain_defs.specs.Shape.{decoded}
 use Rattle.chain_defs.specs.Schema.{Header, CellOutput, cell_output, Transaction}
 use Rattle.chain_defs.specs.Hashes.{transaction_hash}
-use Rattle.cell_defs.specs.Cell.{script_hash, data_hash}
-use Rattle.cell_model.specs.Copies.{ResolvedValue, ResolvedTxValue}
+use Rattle.chain_defs.specs.Cell.{script_hash, data_hash, occupied_by}
+use Rattle.cell_state.specs.Copies.{ResolvedValue, ResolvedTxValue}
 use Rattle.chain_tree.specs.Told.{Stored}
 use Rattle.rule_defs.specs.Site.{all_there}
 use Rattle.machine_defs.specs.World.{Items}
 use Rattle.verdict_defs.specs.Scene.{Scene, ShownCell}
 use Rattle.script_run.specs.Lookups.{ShowsHeaders, items_of, known_items, kept_header}
-use Rattle.script_run.specs.Showing.{cell_shown, cells_shown, has_hashes, header_of, headers_shown, is_whole, same_hash, scene_shown, scene_with}
+use Rattle.script_run.specs.Showing.{cell_shown, cells_shown, tells_output, header_of, headers_shown, is_whole, same_hash, scene_shown, scene_with}
 use Rattle.script_run.specs.Shown.{GroupValue, IsShownAs, Shows}
 use Rattle.script_run.proofs.PlaceLemmas.{some-is, zip-lengths, zip-map}
 
@@ -56,13 +56,14 @@ record CopyShown (stored : List Stored) (headers : List ℕ) (copy : ResolvedVal
   header : cell.header ≡ header_of stored headers copy.row.block
 
 by-output : (stored : List Stored) (headers : List ℕ) (copy : ResolvedValue) (cell : ShownCell) (output : CellOutput) (test : Bool)
-    → decoded cell_output copy.output ≡ Some output → has_hashes copy.row output copy.content ≡ test
+    → decoded cell_output copy.output ≡ Some output → tells_output copy.row output copy.content ≡ test
     → cond test (Some (record { output = output; content = copy.content; header = header_of stored headers copy.row.block })) None ≡ Some cell → CopyShown stored headers copy cell
 by-output stored headers copy cell output false is test shown = absurd cc
 by-output stored headers copy cell output true is test shown =
     let made : ShownCell = record { output = output; content = copy.content; header = header_of stored headers copy.row.block } in
     let same : made ≡ cell = some-is made cell shown in
-    let both = and_parts _ _ test in
+    let all = and_parts _ _ test in
+    let both = and_parts _ _ all.0 in
     let first = and_parts _ _ both.0 in
     let it : CopyShown stored headers copy made = record {
       is = record {
@@ -71,17 +72,18 @@ by-output stored headers copy cell output true is test shown =
         lock = (bytes_eq-Decides copy.row.lock_hash (script_hash output.lock)).0 first.0;
         type_script = same-hashes copy.row.type_hash (option_map script_hash output.type_script) first.1;
         content_hash = (bytes_eq-Decides copy.row.data_hash (data_hash copy.content)).0 both.1;
+        occupied = eqb-true copy.row.occupied (occupied_by output copy.content) all.1;
       };
       header = refl;
     } in
     subst (CopyShown stored headers copy) same it
 
 by-decoded : (stored : List Stored) (headers : List ℕ) (copy : ResolvedValue) (cell : ShownCell) (output : Option CellOutput) → decoded cell_output copy.output ≡ output
-    → option_and_then (λ it. cond (has_hashes copy.row it copy.content)
+    → option_and_then (λ it. cond (tells_output copy.row it copy.content)
     (Some (record { output = it; content = copy.content; header = header_of stored headers copy.row.block })) None) output ≡ Some cell
     → CopyShown stored headers copy cell
 by-decoded stored headers copy cell None is shown = absurd cc
-by-decoded stored headers copy cell (Some output) is shown = by-output stored headers copy cell output (has_hashes copy.row output copy.content) is refl shown
+by-decoded stored headers copy cell (Some output) is shown = by-output stored headers copy cell output (tells_output copy.row output copy.content) is refl shown
 
 copy-shown : (stored : List Stored) (headers : List ℕ) (copy : ResolvedValue) (cell : ShownCell) → cell_shown stored headers copy ≡ Some cell → CopyShown stored headers copy cell
 unfolding cell_shown

@@ -6,7 +6,7 @@ use Rattle.std.specs.List.{find}
 use Rattle.std.proofs.lemmas.Bool.{eqb-true, ne_eqb}
 use Rattle.chain_defs.specs.Shape.{encoded}
 use Rattle.chain_defs.specs.Schema.{header, script, transaction}
-use Rattle.cell_defs.specs.Cell.{script_hash}
+use Rattle.chain_defs.specs.Cell.{script_hash}
 use Rattle.chain_defs.specs.Hashes.{transaction_hash}
 use Rattle.machine_defs.specs.SyscallTable.{Syscall, syscalls, row}
 use Rattle.machine_defs.specs.SyscallTable as table

@@ -8,7 +8,7 @@ use Rattle.chain_defs.specs.Shape.{IsEncoding, decoded}
 use Rattle.chain_defs.specs.Schema.{Block, Header, header}
 use Rattle.chain_defs.proofs.ShapeLaws.{IsEncoding-decoded, decoded-is}
 use Rattle.chain_defs.proofs.RowLaws.{header-check}
-use Rattle.cell_model.specs.Copies.{ResolvedTxValue}
+use Rattle.cell_state.specs.Copies.{ResolvedTxValue}
 use Rattle.chain_tree.specs.Told.{Stored}
 use Rattle.machine_defs.specs.World.{Call, Item, Items, Here, Unknown}
 use Rattle.verdict_defs.specs.Scene.{Scene}

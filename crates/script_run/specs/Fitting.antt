@@ -6,7 +6,7 @@ use Rattle.chain_defs.specs.Shape.{decoded}
 use Rattle.chain_defs.specs.Schema.{CellOutput, cell_output}
 use Rattle.chain_tree.specs.declared.entry.Entry.{Entry}
 use Rattle.chain_tree.specs.Entries.{entry_at}
-use Rattle.cell_model.specs.Copies.{ResolvedValue, ResolvedTxValue}
+use Rattle.cell_state.specs.Copies.{ResolvedValue, ResolvedTxValue}
 
 -- both are there, or none is
 abbrev pub agree : {A B : Type 0} → Option A → Option B → Bool

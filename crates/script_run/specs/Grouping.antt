@@ -4,7 +4,7 @@ use Rattle.std.specs.List.{filter_map}
 use Rattle.std.specs.Map.{lookup}
 use Rattle.std.specs.Str.{bytes_eq}
 use Rattle.chain_defs.specs.Schema.{Script}
-use Rattle.cell_defs.specs.Cell.{script_hash}
+use Rattle.chain_defs.specs.Cell.{script_hash}
 use Rattle.verdict_defs.specs.Groups.{first_scripts, places_with, present}
 use Rattle.script_run.specs.Shown.{GroupValue}
 

@@ -6,9 +6,9 @@ use Rattle.chain_defs.specs.Shape.{encoded, decoded}
 use Rattle.chain_defs.specs.Schema.{Header, header, CellInput, cell_input, cell_output, out_point, script, transaction}
 use Rattle.chain_defs.specs.Hashes.{transaction_hash}
 use Rattle.chain_defs.specs.Epochs.{epoch_number}
-use Rattle.cell_defs.specs.Row.{Row}
-use Rattle.cell_defs.specs.Cell.{script_hash, data_hash, occupied_by}
-use Rattle.cell_model.specs.Copies.{ResolvedTxValue}
+use Rattle.chain_defs.specs.Row.{Row}
+use Rattle.chain_defs.specs.Cell.{script_hash, data_hash, occupied_by}
+use Rattle.cell_state.specs.Copies.{ResolvedTxValue}
 use Rattle.chain_tree.specs.Told.{Stored}
 use Rattle.chain_tree.specs.Reading.{Findings}
 use Rattle.outside.specs.declared.disk.Damage.{Damage}
@@ -63,11 +63,12 @@ input_part input.Whole = λ it. Some (encoded cell_input it)
 input_part input.OutPoint = λ it. Some (encoded out_point it.previous_output)
 input_part input.Since = λ it. Some (u64_bytes it.since)
 
--- a row has the hashes of an output with its data
-pub record HasHashes (row : Row) (it : OutputWithData) : Type 0 where
+-- a row has the hashes of an output with its data, and what they occupy
+pub record TellsOutput (row : Row) (it : OutputWithData) : Type 0 where
   pub lock : row.lock_hash ≡ script_hash it.output.lock
   pub type_script : row.type_hash ≡ option_map script_hash it.output.type_script
   pub content_hash : row.data_hash ≡ data_hash it.content
+  pub occupied : row.occupied ≡ occupied_by it.output it.content
 
 -- ---- Headers of kept blocks, by the places of the blocks
 

@@ -6,10 +6,10 @@ use Rattle.std.specs.Str.{bytes_eq}
 use Rattle.chain_defs.specs.Shape.{decoded}
 use Rattle.chain_defs.specs.Schema.{Header, CellOutput, cell_output, Transaction}
 use Rattle.chain_defs.specs.Hashes.{transaction_hash}
-use Rattle.cell_defs.specs.Cell.{script_hash, data_hash}
-use Rattle.cell_defs.specs.Row.{Row}
+use Rattle.chain_defs.specs.Cell.{script_hash, data_hash, occupied_by}
+use Rattle.chain_defs.specs.Row.{Row}
 use Rattle.chain_tree.specs.Told.{Stored}
-use Rattle.cell_model.specs.Copies.{ResolvedValue, ResolvedTxValue}
+use Rattle.cell_state.specs.Copies.{ResolvedValue, ResolvedTxValue}
 use Rattle.rule_defs.specs.Site.{all_there}
 use Rattle.verdict_defs.specs.Scene.{Scene, ShownCell}
 
@@ -24,16 +24,16 @@ same_hash None (Some other) = false
 same_hash (Some hash) None = false
 same_hash (Some hash) (Some other) = bytes_eq hash other
 
--- the row has the hashes of the output and its data
-abbrev pub has_hashes : Row → CellOutput → List ℕ → Bool
-has_hashes row output content =
+-- the row has the hashes of the output and its data, and what they occupy
+abbrev pub tells_output : Row → CellOutput → List ℕ → Bool
+tells_output row output content =
     bytes_eq row.lock_hash (script_hash output.lock) && same_hash row.type_hash (option_map script_hash output.type_script)
-    && bytes_eq row.data_hash (data_hash content)
+    && bytes_eq row.data_hash (data_hash content) && row.occupied == occupied_by output content
 
--- a copy as a shown cell, where its bytes are an output's and its row has the hashes
+-- a copy as a shown cell, where its bytes are an output's and its row tells of it
 unfoldable pub cell_shown : List Stored → List ℕ → ResolvedValue → Option ShownCell
 cell_shown stored headers copy = option_and_then
-    (λ output. if has_hashes copy.row output copy.content
+    (λ output. if tells_output copy.row output copy.content
     then Some (record { output = output; content = copy.content; header = header_of stored headers copy.row.block }) else None)
     (decoded cell_output copy.output)
 

@@ -5,22 +5,23 @@ use Rattle.std.specs.List.{AllZip, enumerate_from}
 use Rattle.chain_defs.specs.Shape.{decoded}
 use Rattle.chain_defs.specs.Schema.{CellOutput, cell_output, Transaction}
 use Rattle.chain_defs.specs.Hashes.{transaction_hash}
-use Rattle.cell_defs.specs.Cell.{script_hash, data_hash, data_of}
-use Rattle.cell_defs.specs.Row.{Row, row_of}
-use Rattle.cell_model.specs.Copies.{ResolvedValue, ResolvedTxValue}
+use Rattle.chain_defs.specs.Cell.{script_hash, data_hash, data_of, occupied_by}
+use Rattle.chain_defs.specs.Row.{Row, row_of}
+use Rattle.cell_state.specs.Copies.{ResolvedValue, ResolvedTxValue}
 use Rattle.verdict_defs.specs.Scene.{Scene, ShownCell}
 use Rattle.verdict_defs.specs.Groups.{Group}
 use Rattle.verdict_defs.specs.Codes as codes
 use Rattle.script_run.specs.declared.codes.Located.{Located}
 use Rattle.script_run.specs.declared.codes.Located.TheVariants.{NoCode, ManyCodes, At}
 
--- a copy has the bytes of a shown cell, and its row has the hashes
+-- a copy has the bytes of a shown cell, and its row the hashes and what it occupies
 pub record IsShownAs (copy : ResolvedValue) (cell : ShownCell) : Type 0 where
   pub output : decoded cell_output copy.output ≡ Some cell.output
   pub content : copy.content ≡ cell.content
   pub lock : copy.row.lock_hash ≡ script_hash cell.output.lock
   pub type_script : copy.row.type_hash ≡ option_map script_hash cell.output.type_script
   pub content_hash : copy.row.data_hash ≡ data_hash cell.content
+  pub occupied : copy.row.occupied ≡ occupied_by cell.output cell.content
 
 -- What is shown of it, but for the headers.
 pub record Shows (it : ResolvedTxValue) (scene : Scene) : Type 0 where

@@ -7,7 +7,7 @@ ghost use Rattle.verdict_defs.specs.Scene.{Scene};
 ghost use Rattle.script_run.specs.Locating.{first_with_data, typed_with};
 ghost use Rattle.script_run.specs.Shown.{AreCodesIn, code_meaning};
 
-use cell_model::Resolved;
+use cell_state::Resolved;
 use mol_schema::ScriptView;
 use outside::NoMemory;
 use std::alloc::Global;

@@ -4,7 +4,7 @@ ghost use Rattle.chain_defs.specs.Shape.{decoded};
 ghost use Rattle.chain_defs.specs.Schema.{cell_output};
 ghost use Rattle.script_run.specs.Fitting as defs;
 
-use cell_model::{Resolved, ResolvedTx};
+use cell_state::{Resolved, ResolvedTx};
 use chain_tree::Tree;
 use mol_schema::OutputView;
 

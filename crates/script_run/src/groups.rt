@@ -3,7 +3,7 @@ ghost use Rattle.std.specs.Prelude.{◌≡◌, ◌^◌, ◌<◌, ◌++◌, ◌�
 ghost use Rattle.std.specs.List.{All, AllZip};
 ghost use Rattle.std.specs.Option.{option_map};
 ghost use Rattle.chain_defs.specs.Schema.{Script};
-ghost use Rattle.cell_defs.specs.Cell.{script_hash};
+ghost use Rattle.chain_defs.specs.Cell.{script_hash};
 ghost use Rattle.verdict_defs.specs.Groups as defs;
 ghost use Rattle.verdict_defs.specs.Scene.{Scene, ShownCell};
 ghost use Rattle.script_run.specs.Fitting.{is_typed};
@@ -12,7 +12,7 @@ ghost use Rattle.script_run.specs.Shown.{HasItsHash, IsShownAs, Shows, output_ro
 
 use crate::fitting::output_of;
 use crate::shown::{ShownTx, output_at};
-use cell_model::{CellMeta, Resolved};
+use cell_state::{CellMeta, Resolved};
 use mol_schema::{OutputView, ScriptView, TxView};
 use outside::NoMemory;
 use std::alloc::Global;

@@ -5,12 +5,12 @@ ghost use Rattle.machine_defs.specs.World.{Here};
 ghost use Rattle.std.specs.Option.{option_map, option_and_then};
 ghost use Rattle.std.specs.Int.{w64, to_le_bytes};
 ghost use Rattle.chain_defs.specs.Schema.{Header};
-ghost use Rattle.cell_defs.specs.Cell.{data_of, occupied_by};
+ghost use Rattle.chain_defs.specs.Cell.{data_of};
 ghost use Rattle.verdict_defs.specs.Scene.{Scene, ShownCell};
 ghost use Rattle.verdict_defs.specs.Items as defs;
 ghost use Rattle.verdict_defs.specs.Items.{OutputWithData, answer, field, cell_fields, header_fields, input_fields, item_at, listed, output_of, whole};
 ghost use Rattle.script_run.specs.Fitting.{is_typed};
-ghost use Rattle.script_run.specs.Lookups.{HasHashes, IsFound, IsOfKept, ShowsHeaders, cell_part, header_among, header_part, input_part, item_of, items_of, load_meaning};
+ghost use Rattle.script_run.specs.Lookups.{TellsOutput, IsFound, IsOfKept, ShowsHeaders, cell_part, header_among, header_part, input_part, item_of, items_of, load_meaning};
 ghost use Rattle.script_run.specs.Places.{place_meaning};
 ghost use Rattle.script_run.specs.Shown.{GroupValue, IsShownAs, Shows, output_rows};
 
@@ -19,11 +19,9 @@ use crate::fitting::output_of;
 use crate::groups::Group;
 use crate::shown::{ShownTx, output_at};
 use crate::sources::{Place, Target, target_of};
-use cell_model::{CellMeta, Resolved, ResolvedTx, data_at};
+use cell_state::{CellMeta, Resolved, ResolvedTx, data_at};
 use mol_schema::{InputView, OutputView, TxView};
 use vm_sys::Call;
-
-const SHANNONS_PER_BYTE: u64 = 100_000_000;
 
 /// What a call asks for. A source or a field that there is not comes first, then an index, then what is missing.
 pub(crate) fn look_up<'a>(tx: &ShownTx<'a>, group: &Group<'a>, call: &Call) -> Lookup<'a>
@@ -171,14 +169,14 @@ fn part_of_output<'a>(tx: &TxView<'a>, rows: &[CellMeta], i: usize, part: CellPa
     part_of(&output, data_at(tx, i), &rows[i], part)
 }
 
-/// A part of an output with its data, whose hashes stand in its row.
+/// A part of an output with its data. Its hashes, and what it occupies, stand in its row.
 fn part_of<'a>(
     output: &OutputView<'a>,
     content: &'a [u8],
     row: &CellMeta,
     part: CellPart,
 ) -> Answer<'a>
-    ensures { (cell : OutputWithData) → output.now ≡ cell.output → content.now ≡ cell.content → HasHashes row.now cell
+    ensures { (cell : OutputWithData) → output.now ≡ cell.output → content.now ≡ cell.content → TellsOutput row.now cell
         → answer (Some (cell_part part cell)) ≡ item_of result }
 {
     match part {
@@ -196,7 +194,7 @@ fn part_of<'a>(
             None => Answer::Missing,
             Some(hash) => Answer::Here(Bytes::Hash(hash)),
         },
-        CellPart::Occupied => occupied(output, content),
+        CellPart::Occupied => number(row.occupied),
     }
 }
 
@@ -210,24 +208,6 @@ fn number<'a>(n: u64) -> Answer<'a>
     ensures { Here (to_le_bytes w64 n) ≡ item_of result }
 {
     Answer::Here(Bytes::Number(n.to_le_bytes()))
-}
-
-/// What an output occupies with its data, in shannons, of which the lowest 64 bits are shown.
-fn occupied<'a>(output: &OutputView<'_>, content: &[u8]) -> Answer<'a>
-    ensures { Here (to_le_bytes w64 (occupied_by output.now content.now)) ≡ item_of result }
-{
-    number(occupied_bytes(output, content).wrapping_mul(SHANNONS_PER_BYTE))
-}
-
-fn occupied_bytes(output: &OutputView<'_>, content: &[u8]) -> u64
-    ensures { result * 10 ^ 8 ≡ occupied_by output.now content.now }
-{
-    let lock = 33 + output.lock().args().len() as u64;
-    let by_type = match output.type_script() {
-        None => 0,
-        Some(script) => 33 + script.args().len() as u64,
-    };
-    8 + lock + by_type + content.len() as u64
 }
 
 // ---- Headers

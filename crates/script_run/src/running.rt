@@ -21,7 +21,7 @@ use crate::shown::ShownTx;
 use crate::stop::ScriptStop;
 use crate::type_id::{TYPE_ID_CYCLES, is_type_id, type_id_exit};
 use crate::world::run_code;
-use cell_model::ResolvedTx;
+use cell_state::ResolvedTx;
 use chain_tree::{Blocks, Tree};
 use epochs::Spec;
 use machine_defs::Outcome;

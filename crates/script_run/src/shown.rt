@@ -6,7 +6,7 @@ ghost use Rattle.script_run.specs.Fitting as fitting;
 ghost use Rattle.script_run.specs.Shown.{output_rows};
 
 use crate::fitting::unfit;
-use cell_model::{CellMeta, ResolvedTx, data_at, meta_of};
+use cell_state::{CellMeta, ResolvedTx, data_at, meta_of};
 use chain_tree::Tree;
 use mol_schema::{OutputView, TxView};
 use outside::{Area, Damage, NoMemory, ReadStop};

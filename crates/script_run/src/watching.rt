@@ -13,7 +13,7 @@ use crate::running::first_without_code;
 use crate::shown::ShownTx;
 use crate::type_id::{TYPE_ID_CYCLES, is_type_id, type_id_exit};
 use crate::world::watch_code;
-use cell_model::ResolvedTx;
+use cell_state::ResolvedTx;
 use chain_tree::{Blocks, Tree};
 use epochs::Spec;
 use machine_defs::Outcome;

@@ -5,8 +5,8 @@ use Rattle.std.specs.Int.{w32, w64, to_le_bytes}
 use Rattle.std.proofs.lemmas.List.{take_more, take_all}
 use Rattle.std.proofs.lemmas.List.Elements.{All-push, All-same}
 use Rattle.chain_defs.specs.Schema.{OutPoint}
-use Rattle.cell_defs.specs.Row.{Row}
-use Rattle.cell_defs.specs.Fits.{FitsRow}
+use Rattle.chain_defs.specs.Row.{Row}
+use Rattle.chain_defs.specs.Fits.{FitsRow}
 use Rattle.disk_defs.specs.Snapshot.{Snapshot, body_bytes}
 use Rattle.disk_defs.proofs.Fields.{rows_bytes, rows-length}
 

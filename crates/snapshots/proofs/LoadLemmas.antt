@@ -7,13 +7,13 @@ use Rattle.std.proofs.lemmas.List.{take_at, drop_at, drop_more, map-append, leng
 use Rattle.std.proofs.lemmas.List.Elements.{All-push}
 use Rattle.std.proofs.lemmas.List.Folds.{concat-append}
 use Rattle.chain_defs.specs.Schema.{OutPoint}
-use Rattle.cell_defs.specs.Events.{same_out_point}
-use Rattle.cell_defs.specs.Row.{Row, ListsRows}
-use Rattle.cell_defs.specs.Ext.{row_bytes, is_row}
-use Rattle.cell_model.proofs.ExtLemmas.{one_read_more}
-use Rattle.cell_model.proofs.RowLemmas.{row-form}
-use Rattle.cell_defs.specs.Fits.{FitsRow}
-use Rattle.cell_defs.proofs.TellLaws.{length-row, bytes-tell-rows}
+use Rattle.chain_defs.specs.Events.{same_out_point}
+use Rattle.chain_defs.specs.Row.{Row, ListsRows}
+use Rattle.chain_defs.specs.Ext.{row_bytes, is_row}
+use Rattle.cell_state.proofs.ExtLemmas.{one_read_more}
+use Rattle.cell_state.proofs.RowByteLemmas.{row-form}
+use Rattle.chain_defs.specs.Fits.{FitsRow}
+use Rattle.chain_defs.proofs.TellLaws.{length-row, bytes-tell-rows}
 use Rattle.disk_defs.proofs.Fields.{rows_bytes, rows-length, same-rows}
 use Rattle.snapshots.specs.Rows.{IsHeld, is_after_last, IsNextRow, AreRows}
 use Rattle.snapshots.proofs.Order.{last_from, last-push, stands-after, lists-push, rising-push, not-listed}

@@ -15,8 +15,8 @@ use Rattle.std.proofs.lemmas.Cmp.{tied_itself}
 use Rattle.std.proofs.lemmas.List.Elements.{Contains-push, Contains-push_cases, Contains-append_left}
 use Rattle.std.proofs.lemmas.List.Quantifiers.{all_pairs_push}
 use Rattle.chain_defs.specs.Schema.{OutPoint}
-use Rattle.cell_defs.specs.Events.{same_out_point}
-use Rattle.cell_defs.specs.Row.{Row, out_point_cmp, IsRising, ListsRows}
+use Rattle.chain_defs.specs.Events.{same_out_point}
+use Rattle.chain_defs.specs.Row.{Row, out_point_cmp, IsRising, ListsRows}
 use Rattle.snapshots.specs.Rows.{is_after_last}
 
 -- ---- The order

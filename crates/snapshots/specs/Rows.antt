@@ -3,9 +3,9 @@ use Rattle.std.specs.Prelude.{◌≡◌, ℕ, ◌<◌, ◌≤◌, Bool, true, Li
 use Rattle.std.specs.List.{All, concat}
 use Rattle.std.specs.Ordering.{is_lt}
 use Rattle.chain_defs.specs.Schema.{OutPoint}
-use Rattle.cell_defs.specs.Row.{Row, out_point_cmp, IsRising, ListsRows}
-use Rattle.cell_defs.specs.Ext.{row_bytes}
-use Rattle.cell_defs.specs.Fits.{FitsRow}
+use Rattle.chain_defs.specs.Row.{Row, out_point_cmp, IsRising, ListsRows}
+use Rattle.chain_defs.specs.Ext.{row_bytes}
+use Rattle.chain_defs.specs.Fits.{FitsRow}
 
 -- A row of so many kept blocks: its block is one of them, and what it occupies is within its capacity.
 pub record IsHeld (kept : ℕ) (it : OutPoint × Row) : Type 0 where

@@ -1,7 +1,7 @@
 -- What a snapshot leaves of its area while it is written.
 use Rattle.std.specs.Prelude.{◌≡◌, ◌≢◌, ◌⊎◌, ℕ, ◌<◌, ◌==◌, ◌||◌, false, List, [], ◌∷◌, ◌++◌, length, slice_index, Option, Some, if◌then◌else◌}
 use Rattle.chain_defs.specs.Schema.{OutPoint}
-use Rattle.cell_defs.specs.Row.{Row, ListsRows}
+use Rattle.chain_defs.specs.Row.{Row, ListsRows}
 use Rattle.outside.specs.declared.disk.Area.{Area}
 use Rattle.outside.specs.Image.{Image, content, with_content, InArea}
 use Rattle.outside.specs.Disk.{written, ComesBy, IsDurable}

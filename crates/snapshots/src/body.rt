@@ -2,15 +2,14 @@
 ghost use Rattle.std.specs.Prelude.{◌≡◌, ◌+◌, ◌*◌, ◌^◌, ◌<◌, ◌≤◌, ◌++◌, length, map, IfOk, OnOk};
 ghost use Rattle.std.specs.List.{All, concat};
 ghost use Rattle.std.specs.Int.{w32, w64, to_le_bytes};
-ghost use Rattle.cell_defs.specs.Ext.{row_bytes};
+ghost use Rattle.chain_defs.specs.Ext.{row_bytes};
 ghost use Rattle.cell_state.specs.State.{rows};
-ghost use Rattle.cell_defs.specs.Fits.{FitsRow};
+ghost use Rattle.chain_defs.specs.Fits.{FitsRow};
 ghost use Rattle.disk_defs.specs.Snapshot.{body_bytes};
 ghost use Rattle.snapshots.specs.Writing.{IsBodyOf};
 
 use crate::head::HEAD_SIZE;
-use cell_model::{CellMeta, OutPoint, ROW_SIZE, put_row};
-use cell_state::State;
+use cell_state::{CellMeta, OutPoint, ROW_SIZE, State, put_row};
 use outside::NoMemory;
 use std::alloc::Global;
 

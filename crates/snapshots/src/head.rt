@@ -2,7 +2,7 @@
 ghost use Rattle.std.specs.Prelude.{◌≡◌, ◌+◌, ◌<◌, ◌≤◌, ◌^◌, List, ℕ, Err, length, take, IfSome, IfOk};
 ghost use Rattle.std.specs.List.{slice_range};
 ghost use Rattle.std.specs.Int.{w32, w64, to_le_bytes, from_le_bytes};
-ghost use Rattle.cell_defs.specs.Ext.{count_at};
+ghost use Rattle.chain_defs.specs.Ext.{count_at};
 ghost use Rattle.outside.specs.Causes.{CountsFault};
 ghost use Rattle.outside.specs.Image.{content};
 ghost use Rattle.outside.specs.declared.disk.ReadStop.TheVariants.{DiskFault, NoMemory as no_memory};

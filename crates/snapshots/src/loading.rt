@@ -1,12 +1,11 @@
 // The rows of a snapshot, put into a state.
 ghost use Rattle.std.specs.Prelude.{◌≡◌, ◌+◌, ◌*◌, ◌≤◌, List, Option, true, false, Some, None, length, IfOk, IfSome, OnErr};
 ghost use Rattle.chain_defs.specs.Schema as schema;
-ghost use Rattle.cell_defs.specs.Row.{Row};
+ghost use Rattle.chain_defs.specs.Row.{Row};
 ghost use Rattle.cell_state.specs.State.{rows};
 ghost use Rattle.snapshots.specs.Rows.{is_after_last, IsNextRow, AreRows, HasRows};
 
-use cell_model::{CellMeta, OutPoint, ROW_SIZE, read_row};
-use cell_state::State;
+use cell_state::{CellMeta, OutPoint, ROW_SIZE, State, read_row};
 use outside::{NoMemory, Steps};
 use std::alloc::Global;
 use std::sync::ledger::Ledger;

@@ -8,8 +8,7 @@ ghost use Rattle.snapshots.specs.Reading.{AreRowBytes, AnswersShort, AnswersSnap
 use crate::area::damaged;
 use crate::head::{HEAD_SIZE, Head, read_head};
 use crate::loading::state_of;
-use cell_model::ROW_SIZE;
-use cell_state::State;
+use cell_state::{ROW_SIZE, State};
 use chain_tree::Tree;
 use outside::{Area, Disk, NoMemory, ReadStop, Steps};
 use std::alloc::Global;

@@ -10,9 +10,9 @@ use Rattle.chain_defs.specs.Kept.{place_of, parent_place}
 use Rattle.chain_defs.specs.Branch.{places_within, branch_places, branch}
 use Rattle.chain_defs.proofs.KeptLaws.{slice_get-before, slice_get-push, slice_get-pushed}
 use Rattle.chain_defs.proofs.BranchLaws.{places_on, places_within-enough, parent_place-below}
-use Rattle.cell_defs.specs.Events.{events_of_block, live_cell}
-use Rattle.cell_defs.proofs.JoinLemmas.{length-branch}
-use Rattle.cell_defs.specs.Fit.{are_live, AllFit}
+use Rattle.chain_defs.specs.Events.{events_of_block, live_cell}
+use Rattle.chain_defs.proofs.JoinLemmas.{length-branch}
+use Rattle.chain_defs.specs.Fit.{are_live, AllFit}
 use Rattle.verdict_defs.specs.Laws.{MayJoin}
 use Rattle.verdict_defs.proofs.VerdictLaws.{branch-more}
 use Rattle.store_defs.specs.JoinedLaws.{WhatJoinsFits, BranchesFit}

@@ -12,7 +12,7 @@ use Rattle.chain_defs.specs.Branch.{branch}
 use Rattle.chain_defs.specs.Tip.{tip, tip_place, IsTip}
 use Rattle.chain_defs.proofs.KeptLaws.{slice_get-below, slice_get-push}
 use Rattle.chain_defs.proofs.TipLaws.{tips-are-tips}
-use Rattle.cell_defs.specs.Ext.{ext_bytes}
+use Rattle.chain_defs.specs.Ext.{ext_bytes}
 use Rattle.verdict_defs.specs.Chain.{Chain}
 use Rattle.verdict_defs.specs.Rules.{first_broken}
 use Rattle.verdict_defs.specs.Verdict.{kept_after}

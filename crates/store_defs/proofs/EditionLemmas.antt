@@ -11,7 +11,7 @@ use Rattle.chain_defs.specs.Epochs.{epoch_number}
 use Rattle.chain_defs.specs.Kept.{block_at}
 use Rattle.chain_defs.specs.Branch.{branch}
 use Rattle.chain_defs.specs.Hashes.{proposal_id}
-use Rattle.cell_defs.specs.Events.{cell_seen, live_cell}
+use Rattle.chain_defs.specs.Events.{cell_seen, live_cell}
 use Rattle.rule_defs.specs.Site.{Site, site_at, site_after}
 use Rattle.rule_defs.specs.Resolving.{input_cells, cells_of_dep, dep_cells, header_heights}
 use Rattle.rule_defs.specs.Age.{block_start}

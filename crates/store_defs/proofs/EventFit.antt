@@ -3,9 +3,9 @@ use Rattle.std.proofs.Common.{◌≡◌, ℕ, zero, suc, List, [], ◌∷◌, �
 use Rattle.std.specs.Prelude.{IsTrue, slice_get}
 use Rattle.std.proofs.lemmas.List.{append-nil, append_assoc}
 use Rattle.std.proofs.lemmas.Option.{same_Some}
-use Rattle.cell_defs.specs.Events.{Event, last_naming, cell_after}
-use Rattle.cell_defs.specs.Fit.{are_live, none_live, live_after, fits, AllFit}
-use Rattle.cell_defs.proofs.FitLemmas.{live-cells, fits-same, all-same}
+use Rattle.chain_defs.specs.Events.{Event, last_naming, cell_after}
+use Rattle.chain_defs.specs.Fit.{are_live, none_live, live_after, fits, AllFit}
+use Rattle.chain_defs.proofs.FitLemmas.{live-cells, fits-same, all-same}
 
 -- Each of some events fits the cells that are live after the earlier ones and those of them before it.
 abbrev pub FitAfter : List Event → List Event → Type 0

@@ -12,10 +12,10 @@ use Rattle.chain_defs.specs.Kept.{block_at}
 use Rattle.chain_defs.specs.Hashes.{transaction_hash, are_distinct}
 use Rattle.chain_defs.specs.Branch.{branch, branch_places}
 use Rattle.chain_defs.proofs.KeptLaws.{slice_get-below}
-use Rattle.cell_defs.specs.Cell.{Cell, data_of}
-use Rattle.cell_defs.specs.Events.{Event, Makes, makes_from, makes_of, events_of, events_from, events_of_block, events, names, last_naming, cell_after}
-use Rattle.cell_defs.proofs.EventLemmas.{cell_after-push}
-use Rattle.cell_defs.proofs.JoinLemmas.{events-push}
+use Rattle.chain_defs.specs.Cell.{Cell, data_of}
+use Rattle.chain_defs.specs.Events.{Event, Makes, makes_from, makes_of, events_of, events_from, events_of_block, events, names, last_naming, cell_after}
+use Rattle.chain_defs.proofs.EventLemmas.{cell_after-push}
+use Rattle.chain_defs.proofs.JoinLemmas.{events-push}
 use Rattle.verdict_defs.specs.Rules.{first_broken}
 use Rattle.verdict_defs.specs.Chain.{Chain}
 use Rattle.store_defs.specs.Store.{IsJoined}

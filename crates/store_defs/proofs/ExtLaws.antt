@@ -16,15 +16,15 @@ use Rattle.chain_defs.specs.Branch.{branch}
 use Rattle.chain_defs.proofs.KeptLaws.{slice_get-below, place_of-below}
 use Rattle.chain_defs.proofs.BranchLaws.{branch-last}
 use Rattle.chain_defs.specs.Specification.{Specification}
-use Rattle.cell_defs.specs.Cell.{Cell}
-use Rattle.cell_defs.specs.Events.{Event, Makes, Spends, names, last_naming, cell_left, cell_after, live_cell, makes_from, makes_of, spends_of, events_of, events_from, events_of_block, events}
-use Rattle.cell_defs.specs.Row.{Row, row_on, live_row}
-use Rattle.cell_defs.specs.Fit.{are_live}
-use Rattle.cell_defs.proofs.EventLemmas.{EachMade, EachMade-append, made-last, last_naming-append}
-use Rattle.cell_defs.proofs.OutputLaws.{cells-are-outputs}
-use Rattle.cell_defs.proofs.FitLemmas.{row-where-cell, all-same}
-use Rattle.cell_defs.proofs.RowLaws.{live_row-join}
-use Rattle.cell_defs.specs.Undo.{row_at, spent_of}
+use Rattle.chain_defs.specs.Cell.{Cell}
+use Rattle.chain_defs.specs.Events.{Event, Makes, Spends, names, last_naming, cell_left, cell_after, live_cell, makes_from, makes_of, spends_of, events_of, events_from, events_of_block, events}
+use Rattle.chain_defs.specs.Row.{Row, row_on, live_row}
+use Rattle.chain_defs.specs.Fit.{are_live}
+use Rattle.chain_defs.proofs.EventLemmas.{EachMade, EachMade-append, made-last, last_naming-append}
+use Rattle.chain_defs.proofs.OutputLaws.{cells-are-outputs}
+use Rattle.chain_defs.proofs.FitLemmas.{row-where-cell, all-same}
+use Rattle.chain_defs.proofs.CellRowLaws.{live_row-join}
+use Rattle.chain_defs.specs.Undo.{row_at, spent_of}
 use Rattle.rule_defs.specs.Site.{Site, Found, site_at, height_at, find_cell, all_there}
 use Rattle.rule_defs.specs.TransactionRules.{form_rules, cell_rules}
 use Rattle.rule_defs.specs.Resolving.{spends_live_cells, spends_each_once, input_cells}

@@ -13,7 +13,7 @@ use Rattle.chain_defs.specs.Kept.{block_at, blocks_of_item}
 use Rattle.chain_defs.specs.Branch.{branch}
 use Rattle.chain_defs.proofs.KeptLaws.{slice_get-before, slice_get-push, slice_get-pushed}
 use Rattle.chain_defs.specs.Specification.{Specification}
-use Rattle.cell_defs.specs.Ext.{Ext, row_bytes, ext_bytes, count_at, is_ext}
+use Rattle.chain_defs.specs.Ext.{Ext, row_bytes, ext_bytes, count_at, is_ext}
 use Rattle.verdict_defs.specs.Ext.{ext_of}
 use Rattle.rule_defs.specs.Capacity.{fees_from}
 use Rattle.verdict_defs.specs.Chain.{Chain}

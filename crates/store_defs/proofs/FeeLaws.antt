@@ -10,7 +10,7 @@ use Rattle.std.proofs.lemmas.Option.{same_Some}
 use Rattle.chain_defs.specs.Schema.{Block}
 use Rattle.chain_defs.specs.Kept.{place_of}
 use Rattle.chain_defs.specs.Branch.{branch}
-use Rattle.cell_defs.specs.Ext.{Ext, row_bytes, ext_bytes, fee_of}
+use Rattle.chain_defs.specs.Ext.{Ext, row_bytes, ext_bytes, fee_of}
 use Rattle.rule_defs.specs.Capacity.{fees_from}
 use Rattle.verdict_defs.specs.Ext.{ext_of}
 use Rattle.store_defs.specs.Store.{first_of, own_ext, ext_on}

@@ -11,8 +11,8 @@ use Rattle.chain_defs.specs.First.{AllHold}
 use Rattle.chain_defs.specs.Hashes.{are_distinct}
 use Rattle.chain_defs.specs.Branch.{branch}
 use Rattle.chain_defs.specs.Specification.{Specification}
-use Rattle.cell_defs.specs.Cell.{Cell, outputs_hold_their_own}
-use Rattle.cell_defs.specs.Events.{Event, made_out_points, events_of, events_from, events_of_block, events, cell_after, live_cell}
+use Rattle.chain_defs.specs.Cell.{Cell, outputs_hold_their_own}
+use Rattle.chain_defs.specs.Events.{Event, made_out_points, events_of, events_from, events_of_block, events, cell_after, live_cell}
 use Rattle.rule_defs.specs.Site.{Site, site_at, find_cell, all_there}
 use Rattle.rule_defs.specs.TransactionRules.{form_rules, cell_rules}
 use Rattle.rule_defs.specs.Resolving.{spends_live_cells, spends_each_once, input_cells}

@@ -12,7 +12,7 @@ use Rattle.chain_defs.specs.Specification.{Specification}
 use Rattle.rule_defs.specs.Header.{parent_of}
 use Rattle.verdict_defs.specs.Laws.{MayJoin}
 use Rattle.verdict_defs.proofs.VerdictLaws.{follows-unbroken}
-use Rattle.cell_defs.specs.Ext.{is_ext}
+use Rattle.chain_defs.specs.Ext.{is_ext}
 use Rattle.store_defs.specs.Store.{ext_over}
 use Rattle.disk_defs.specs.Log.{body_of_parts, parts_of_body, may_stand_on, block_if, block_of_parts}
 use Rattle.store_defs.specs.JoinLaws.{TakesWhatJoins}

@@ -8,13 +8,13 @@ use Rattle.chain_defs.specs.Schema.{OutPoint, Block}
 use Rattle.chain_defs.specs.Kept.{place_of}
 use Rattle.chain_defs.specs.Branch.{branch, branch_places}
 use Rattle.chain_defs.proofs.BranchLaws.{parent_place-below}
-use Rattle.cell_defs.specs.Cell.{Cell}
-use Rattle.cell_defs.specs.Events.{Event, Makes, Spends, same_out_point, out_point_of, last_naming, live_cell, events_of_block}
-use Rattle.cell_defs.specs.Row.{Row, row_of, row_or, row_after, live_row}
-use Rattle.cell_defs.proofs.JoinLemmas.{branch_places-push}
-use Rattle.cell_defs.proofs.FitLemmas.{found-same}
-use Rattle.cell_defs.specs.Undo.{without, row_at, row_spent, spent_of}
-use Rattle.cell_defs.specs.UndoLaws.{ComesBefore}
+use Rattle.chain_defs.specs.Cell.{Cell}
+use Rattle.chain_defs.specs.Events.{Event, Makes, Spends, same_out_point, out_point_of, last_naming, live_cell, events_of_block}
+use Rattle.chain_defs.specs.Row.{Row, row_of, row_or, row_after, live_row}
+use Rattle.chain_defs.proofs.JoinLemmas.{branch_places-push}
+use Rattle.chain_defs.proofs.FitLemmas.{found-same}
+use Rattle.chain_defs.specs.Undo.{without, row_at, row_spent, spent_of}
+use Rattle.chain_defs.specs.UndoLaws.{ComesBefore}
 use Rattle.verdict_defs.specs.Ext.{ext_of}
 use Rattle.verdict_defs.proofs.VerdictLaws.{branch-more}
 use Rattle.store_defs.proofs.KeptLemmas.{Grows, grows, parts-at}

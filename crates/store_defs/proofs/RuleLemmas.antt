@@ -10,10 +10,10 @@ use Rattle.chain_defs.specs.Schema.{Transaction, Block}
 use Rattle.chain_defs.specs.First.{first_failing, AllHold}
 use Rattle.chain_defs.proofs.FirstLemmas.{finds_none}
 use Rattle.chain_defs.specs.Specification.{Specification}
-use Rattle.cell_defs.specs.Events.{live_cell}
+use Rattle.chain_defs.specs.Events.{live_cell}
 use Rattle.rule_defs.specs.Site.{Site, site_at}
 use Rattle.rule_defs.specs.Capacity.{makes_good_cells, balances, counted_in, fee, fees_from}
-use Rattle.cell_defs.specs.Cell.{outputs_hold_their_own}
+use Rattle.chain_defs.specs.Cell.{outputs_hold_their_own}
 use Rattle.rule_defs.specs.Uncles.{has_uncles}
 use Rattle.rule_defs.specs.Cellbase.{forms_cellbase}
 use Rattle.verdict_defs.specs.Transactions.{transaction_rules, left_after, rules_from, rules_of_transactions}

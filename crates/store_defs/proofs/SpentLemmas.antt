@@ -9,10 +9,10 @@ use Rattle.std.proofs.lemmas.List.{append_assoc}
 use Rattle.std.proofs.lemmas.Slice.Eq.{bytes_eq-Decides}
 use Rattle.chain_defs.specs.Schema.{OutPoint, CellInput, CellOutput, Transaction}
 use Rattle.chain_defs.specs.Hashes.{transaction_hash, are_distinct}
-use Rattle.cell_defs.specs.Events.{Event, Spends, out_point_of, same_out_point, names, last_naming, makes_from}
-use Rattle.cell_defs.specs.Row.{Row}
-use Rattle.cell_defs.proofs.EventLemmas.{out_points-same, last_naming-step}
-use Rattle.cell_defs.specs.Undo.{without, row_at, row_spent, spent_of}
+use Rattle.chain_defs.specs.Events.{Event, Spends, out_point_of, same_out_point, names, last_naming, makes_from}
+use Rattle.chain_defs.specs.Row.{Row}
+use Rattle.chain_defs.proofs.EventLemmas.{out_points-same, last_naming-step}
+use Rattle.chain_defs.specs.Undo.{without, row_at, row_spent, spent_of}
 
 -- ---- The rows that events leave of those before them
 

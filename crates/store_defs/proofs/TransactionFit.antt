@@ -9,12 +9,12 @@ use Rattle.std.proofs.lemmas.List.{append-nil, append_assoc}
 use Rattle.std.proofs.lemmas.Slice.Eq.{bytes_eq-Decides}
 use Rattle.chain_defs.specs.Schema.{OutPoint, CellInput, CellOutput, Transaction}
 use Rattle.chain_defs.specs.Hashes.{transaction_hash, are_distinct}
-use Rattle.cell_defs.specs.Cell.{Cell, data_of}
-use Rattle.cell_defs.specs.Events.{Event, Makes, Spends, makes_from, makes_of, spends_of, events_of, names, cell_after}
-use Rattle.cell_defs.proofs.EventLemmas.{out_points-same, cell_after-push}
+use Rattle.chain_defs.specs.Cell.{Cell, data_of}
+use Rattle.chain_defs.specs.Events.{Event, Makes, Spends, makes_from, makes_of, spends_of, events_of, names, cell_after}
+use Rattle.chain_defs.proofs.EventLemmas.{out_points-same, cell_after-push}
 use Rattle.rule_defs.specs.Site.{Site, Found, find_cell, all_there}
 use Rattle.store_defs.proofs.EventFit.{FitAfter, FitAfter-append}
-use Rattle.cell_defs.proofs.FitLemmas.{mapped-some}
+use Rattle.chain_defs.proofs.FitLemmas.{mapped-some}
 
 -- ---- Spends
 

@@ -8,10 +8,10 @@ use Rattle.chain_defs.specs.Specification.{Specification}
 use Rattle.chain_defs.specs.Kept.{block_at}
 use Rattle.chain_defs.specs.Branch.{branch}
 use Rattle.chain_defs.proofs.BranchLaws.{IsBranch-branch}
-use Rattle.cell_defs.specs.Cell.{Cell, holds_its_own, data_of, output_holds_its_own, outputs_hold_their_own}
-use Rattle.cell_defs.specs.Events.{live_cell}
-use Rattle.cell_defs.specs.Row.{IsOutputOf}
-use Rattle.cell_defs.proofs.OutputLaws.{cells-are-outputs}
+use Rattle.chain_defs.specs.Cell.{Cell, holds_its_own, data_of, output_holds_its_own, outputs_hold_their_own}
+use Rattle.chain_defs.specs.Events.{live_cell}
+use Rattle.chain_defs.specs.Row.{IsOutputOf}
+use Rattle.chain_defs.proofs.OutputLaws.{cells-are-outputs}
 use Rattle.chain_defs.proofs.WalkLemmas.{all-at, every-at}
 use Rattle.rule_defs.specs.Cellbase.{has_plain_output, is_well_formed_cellbase, is_first_well_formed, forms_cellbase}
 use Rattle.verdict_defs.specs.Rules.{first_broken}

@@ -3,10 +3,10 @@ use Rattle.std.specs.Prelude.{◌≡◌, ℕ, [], ◌∷◌, ◌++◌, length, t
 use Rattle.chain_defs.specs.Schema.{Block}
 use Rattle.chain_defs.specs.Kept.{block_at, parent_place}
 use Rattle.chain_defs.specs.Branch.{branch}
-use Rattle.cell_defs.specs.Events.{events_of_block}
-use Rattle.cell_defs.specs.Row.{live_row}
-use Rattle.cell_defs.specs.Undo.{spent_of}
-use Rattle.cell_defs.specs.UndoLaws.{ComesBefore}
+use Rattle.chain_defs.specs.Events.{events_of_block}
+use Rattle.chain_defs.specs.Row.{live_row}
+use Rattle.chain_defs.specs.Undo.{spent_of}
+use Rattle.chain_defs.specs.UndoLaws.{ComesBefore}
 use Rattle.verdict_defs.specs.Ext.{ext_of}
 use Rattle.verdict_defs.specs.Chain.{Chain}
 use Rattle.verdict_defs.specs.Laws.{MayJoin}

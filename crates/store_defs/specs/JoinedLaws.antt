@@ -5,10 +5,10 @@ use Rattle.chain_defs.specs.Dao.{is_rated}
 use Rattle.chain_defs.specs.Kept.{block_hash, block_at, parent_place}
 use Rattle.chain_defs.specs.Hashes.{uncle_hash, are_distinct}
 use Rattle.chain_defs.specs.Branch.{branch}
-use Rattle.cell_defs.specs.Cell.{Cell, holds_its_own}
-use Rattle.cell_defs.specs.Ext.{count_at, fee_of}
-use Rattle.cell_defs.specs.Events.{live_cell, events_of_block, events}
-use Rattle.cell_defs.specs.Fit.{are_live, none_live, AllFit, BranchFits}
+use Rattle.chain_defs.specs.Cell.{Cell, holds_its_own}
+use Rattle.chain_defs.specs.Ext.{count_at, fee_of}
+use Rattle.chain_defs.specs.Events.{live_cell, events_of_block, events}
+use Rattle.chain_defs.specs.Fit.{are_live, none_live, AllFit, BranchFits}
 use Rattle.rule_defs.specs.Capacity.{fees_from}
 use Rattle.rule_defs.specs.Uncles.{embedded_uncles}
 use Rattle.verdict_defs.specs.Chain.{Chain}

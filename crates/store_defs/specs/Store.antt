@@ -6,7 +6,7 @@ use Rattle.chain_defs.specs.Shape.{decoded}
 use Rattle.chain_defs.specs.Schema.{Block, block}
 use Rattle.chain_defs.specs.First.{first_failing}
 use Rattle.chain_defs.specs.Kept.{block_at, place_of}
-use Rattle.cell_defs.specs.Ext.{ext_bytes}
+use Rattle.chain_defs.specs.Ext.{ext_bytes}
 use Rattle.verdict_defs.specs.Ext.{ext_of}
 use Rattle.verdict_defs.specs.Chain.{Chain, chain_after}
 use Rattle.verdict_defs.specs.Laws.{MayJoin}

@@ -5,7 +5,7 @@ use Rattle.outside.specs.Image.{Image, with_content}
 use Rattle.chain_defs.specs.Specification.{broken_specification_rule}
 use Rattle.verdict_defs.specs.Chain.{Chain, chain_of_genesis, chain_after}
 use Rattle.verdict_defs.specs.Laws.{CanJoin}
-use Rattle.cell_defs.specs.Ext.{is_ext}
+use Rattle.chain_defs.specs.Ext.{is_ext}
 use Rattle.rule_defs.specs.Genesis.{broken_genesis_rule}
 use Rattle.disk_defs.specs.Log.{Record, log_of}
 use Rattle.store_defs.specs.JoinLaws.{record_over}

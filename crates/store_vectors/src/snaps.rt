@@ -2,8 +2,7 @@
 ghost use Rattle.std.specs.Prelude.{◌≡◌, ◌<◌, ◌≤◌, length};
 
 use crate::forms::are_bytes;
-use cell_model::{CellMeta, Cells, OutPoint, ROW_SIZE, put_row, read_row};
-use cell_state::State;
+use cell_state::{CellMeta, Cells, OutPoint, ROW_SIZE, State, put_row, read_row};
 use chain_tree::Tree;
 use outside::{Area, Disk, Failed, ReadStop, Steps, WriteStop};
 use outside_mem::MemDisk;

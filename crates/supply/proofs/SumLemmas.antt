@@ -7,7 +7,7 @@ use Rattle.std.proofs.lemmas.Bool.{le-leb}
 use Rattle.std.proofs.lemmas.Option.{same_Some}
 use Rattle.chain_defs.specs.Schema.{CellOutput, Transaction, Block}
 use Rattle.chain_defs.proofs.KeptLaws.{slice_get-below}
-use Rattle.cell_defs.specs.Ext.{count_at, fee_of}
+use Rattle.chain_defs.specs.Ext.{count_at, fee_of}
 use Rattle.rule_defs.specs.Capacity.{held_out}
 use Rattle.supply_defs.specs.Step.{paid_by}
 use Rattle.supply.specs.Moving.{HasFees}

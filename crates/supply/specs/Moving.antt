@@ -1,6 +1,6 @@
 -- A step taken back, and what the ext of a block says of its fees.
 use Rattle.std.specs.Prelude.{◌≡◌, ℕ, ◌+◌, List, length, Some, slice_get}
-use Rattle.cell_defs.specs.Ext.{count_at, fee_of}
+use Rattle.chain_defs.specs.Ext.{count_at, fee_of}
 use Rattle.supply_defs.specs.Step.{Change, Step}
 
 abbrev pub change_back : Change → Change

@@ -2,7 +2,7 @@
 use Rattle.std.specs.Prelude.{◌≡◌, ◌+◌, ◌^◌, ◌<◌, List, length, Option}
 use Rattle.chain_defs.specs.Schema.{Block}
 use Rattle.chain_defs.specs.Specification.{Specification}
-use Rattle.cell_defs.specs.FitLaws.{AreCanonical}
+use Rattle.chain_defs.specs.FitLaws.{AreCanonical}
 use Rattle.store_defs.specs.Store.{IsJoined}
 use Rattle.chain_tree.specs.declared.entry.Entry.{Entry}
 use Rattle.chain_tree.specs.Told.{Stored, blocks_of}

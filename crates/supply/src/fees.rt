@@ -5,7 +5,7 @@ ghost use Rattle.chain_defs.specs.Schema.{Block};
 ghost use Rattle.chain_defs.specs.Specification.{Specification};
 ghost use Rattle.chain_defs.specs.Kept.{block_at, parent_place};
 ghost use Rattle.chain_defs.specs.Branch.{branch};
-ghost use Rattle.cell_defs.specs.Ext.{is_ext};
+ghost use Rattle.chain_defs.specs.Ext.{is_ext};
 ghost use Rattle.outside.specs.declared.disk.Damage.{Damage};
 ghost use Rattle.outside.specs.declared.disk.ReadStop.TheVariants.{Damaged};
 ghost use Rattle.chain_tree.specs.Damages.{IsOfBlock};
@@ -16,7 +16,7 @@ ghost use Rattle.supply_defs.specs.Step.{fees_of, paid_by};
 ghost use Rattle.supply.specs.Moving.{HasFees};
 
 use crate::outputs;
-use cell_model::fee_in;
+use cell_state::fee_in;
 use chain_tree::{Blocks, Tree, damaged_at};
 use outside::ReadStop;
 

@@ -1,11 +1,11 @@
 // What the outputs of transactions hold and occupy.
 ghost use Rattle.std.specs.Prelude.{◌≡◌, ◌<◌, ◌^◌, length};
-ghost use Rattle.cell_defs.specs.Cell.{occupied_by};
+ghost use Rattle.chain_defs.specs.Cell.{occupied_by};
 ghost use Rattle.rule_defs.specs.Capacity as capacity;
 ghost use Rattle.rule_defs.specs.Field as field;
 ghost use Rattle.supply_defs.specs.Step as steps;
 
-use cell_model::data_at;
+use cell_state::data_at;
 use mol_schema::{BlockView, OutputView, TxView};
 use view_hashes::occupied_output;
 

@@ -10,8 +10,8 @@ use Rattle.std.proofs.lemmas.List.Sums.{sum_by-cons}
 use Rattle.chain_defs.specs.Schema.{OutPoint, CellOutput, Transaction, Block}
 use Rattle.chain_defs.specs.First.{AllHold}
 use Rattle.chain_defs.specs.Specification.{Specification}
-use Rattle.cell_defs.specs.Cell.{Cell}
-use Rattle.cell_defs.specs.Events.{Event, makes_of, spends_of, events_of, events_from, events_of_block, events, cell_after}
+use Rattle.chain_defs.specs.Cell.{Cell}
+use Rattle.chain_defs.specs.Events.{Event, makes_of, spends_of, events_of, events_from, events_of_block, events, cell_after}
 use Rattle.rule_defs.specs.Site.{Site, site_at}
 use Rattle.rule_defs.specs.Resolving.{spends_live_cells, inputs}
 use Rattle.rule_defs.specs.Capacity.{counted_in, held_out, balances, fee, fees_from, interest}
@@ -24,7 +24,7 @@ use Rattle.verdict_defs.specs.Rules.{first_broken}
 use Rattle.store_defs.proofs.EventFit.{FitAfter}
 use Rattle.store_defs.proofs.FitLaws.{block-fits, events_from-push}
 use Rattle.store_defs.proofs.RuleLemmas.{holds-prefix, holds-after, transactions-unbroken}
-use Rattle.cell_defs.proofs.JoinLemmas.{events-push}
+use Rattle.chain_defs.proofs.JoinLemmas.{events-push}
 use Rattle.supply_defs.specs.Sums.{capacity_of, occupied_of, sum_of_live, live_capacity, live_occupied}
 use Rattle.supply_defs.specs.Step.{fees_of, paid_by}
 use Rattle.supply_defs.proofs.Events.{all_made, all_spent, made-append, spent-append, live-moves, fit-split, sum_of_inputs, inputs-spent, inputs-found, capacity-made, occupied-made, makes-spend-none, spends-make-none, cellbase-events, later-events}

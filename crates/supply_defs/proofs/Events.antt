@@ -9,10 +9,10 @@ use Rattle.std.proofs.lemmas.List.Sums.{sum_by-cons}
 use Rattle.std.proofs.lemmas.Option.{same_Some}
 use Rattle.chain_defs.specs.Schema.{OutPoint, CellInput, CellOutput, Transaction}
 use Rattle.chain_defs.specs.Hashes.{transaction_hash}
-use Rattle.cell_defs.specs.Cell.{Cell, data_of}
-use Rattle.cell_defs.specs.Events.{Event, Makes, Spends, makes_from, makes_of, spends_of, events_of, names, cell_after}
-use Rattle.cell_defs.specs.Fit.{are_live, fits}
-use Rattle.cell_defs.proofs.EventLemmas.{cell_after-push}
+use Rattle.chain_defs.specs.Cell.{Cell, data_of}
+use Rattle.chain_defs.specs.Events.{Event, Makes, Spends, makes_from, makes_of, spends_of, events_of, names, cell_after}
+use Rattle.chain_defs.specs.Fit.{are_live, fits}
+use Rattle.chain_defs.proofs.EventLemmas.{cell_after-push}
 use Rattle.rule_defs.specs.Site.{Site, Found, find_cell, all_there}
 use Rattle.rule_defs.specs.Resolving.{spends_each_once, input_cells, spends_live_cells, inputs}
 use Rattle.rule_defs.specs.Field.{occupied_output, made_by}

@@ -19,10 +19,10 @@ use Rattle.chain_defs.proofs.BranchLaws.{branch-last}
 use Rattle.chain_defs.proofs.KeptLaws.{slice_get-below}
 use Rattle.chain_defs.proofs.MoleculeLaws.{length-dynvec}
 use Rattle.chain_defs.proofs.ShapeLaws.{AreBytes-range}
-use Rattle.cell_defs.specs.Cell.{Cell, data_of, occupied_by, output_holds_its_own, outputs_hold_their_own}
-use Rattle.cell_defs.specs.FitLaws.{IsCanonical, AreCanonical}
-use Rattle.cell_defs.specs.Row.{IsOutputOf}
-use Rattle.cell_defs.proofs.ShapeLemmas.{table-parts, vec-fits, raw_fields, rows-of-outputs-fit}
+use Rattle.chain_defs.specs.Cell.{Cell, data_of, occupied_by, output_holds_its_own, outputs_hold_their_own}
+use Rattle.chain_defs.specs.FitLaws.{IsCanonical, AreCanonical}
+use Rattle.chain_defs.specs.Row.{IsOutputOf}
+use Rattle.chain_defs.proofs.ShapeLemmas.{table-parts, vec-fits, raw_fields, rows-of-outputs-fit}
 use Rattle.chain_defs.specs.Hashes.{transaction_hash}
 use Rattle.rule_defs.specs.Capacity.{held_out}
 use Rattle.rule_defs.specs.Field.{occupied_output, made_by}

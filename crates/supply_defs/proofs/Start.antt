@@ -8,11 +8,11 @@ use Rattle.chain_defs.specs.First.{first_failing}
 use Rattle.chain_defs.specs.Specification.{Specification}
 use Rattle.chain_defs.specs.Kept.{block_at}
 use Rattle.chain_defs.specs.Branch.{branch_places, branch}
-use Rattle.cell_defs.specs.Cell.{Cell}
-use Rattle.cell_defs.specs.Events.{Event, makes_of, events_from, events_of_block, events, cell_after}
-use Rattle.cell_defs.specs.Fit.{are_live, none_live, live_after, AllFit}
-use Rattle.cell_defs.proofs.FitLemmas.{fits-same, fits-between, live-from-nothing}
-use Rattle.cell_defs.specs.LiveCells.{live_cells}
+use Rattle.chain_defs.specs.Cell.{Cell}
+use Rattle.chain_defs.specs.Events.{Event, makes_of, events_from, events_of_block, events, cell_after}
+use Rattle.chain_defs.specs.Fit.{are_live, none_live, live_after, AllFit}
+use Rattle.chain_defs.proofs.FitLemmas.{fits-same, fits-between, live-from-nothing}
+use Rattle.chain_defs.specs.LiveCells.{live_cells}
 use Rattle.rule_defs.specs.Genesis.{genesis_rules}
 use Rattle.rule_defs.specs.Capacity.{held_out}
 use Rattle.rule_defs.specs.Field.{made_by}

@@ -4,11 +4,11 @@ use Rattle.std.specs.Option.{option_or}
 use Rattle.std.specs.List.{sum_by}
 use Rattle.std.proofs.lemmas.List.Sums.{sum_by-cons}
 use Rattle.chain_defs.specs.Schema.{OutPoint}
-use Rattle.cell_defs.specs.Cell.{Cell}
-use Rattle.cell_defs.specs.Events.{Event, Makes, Spends, same_out_point, out_point_of, names, last_naming, cell_left, cell_after}
-use Rattle.cell_defs.proofs.EventLemmas.{names-same, out_points-same, last_naming-step, last_naming-push}
-use Rattle.cell_defs.proofs.NamingLemmas.{out_point-self}
-use Rattle.cell_defs.specs.LiveCells.{live_cells}
+use Rattle.chain_defs.specs.Cell.{Cell}
+use Rattle.chain_defs.specs.Events.{Event, Makes, Spends, same_out_point, out_point_of, names, last_naming, cell_left, cell_after}
+use Rattle.chain_defs.proofs.EventLemmas.{names-same, out_points-same, last_naming-step, last_naming-push}
+use Rattle.chain_defs.proofs.NamingLemmas.{out_point-self}
+use Rattle.chain_defs.specs.LiveCells.{live_cells}
 use Rattle.supply_defs.specs.Sums.{sum_of_live}
 
 -- ---- The number of a cell that may be there

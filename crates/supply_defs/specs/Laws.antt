@@ -6,7 +6,7 @@ use Rattle.chain_defs.specs.First.{first_failing}
 use Rattle.chain_defs.specs.Specification.{Specification, keeps_s3}
 use Rattle.chain_defs.specs.Kept.{block_at, parent_place}
 use Rattle.chain_defs.specs.Branch.{branch}
-use Rattle.cell_defs.specs.FitLaws.{IsCanonical, AreCanonical}
+use Rattle.chain_defs.specs.FitLaws.{IsCanonical, AreCanonical}
 use Rattle.rule_defs.specs.Genesis.{genesis_rules}
 use Rattle.rule_defs.specs.Capacity.{held_out}
 use Rattle.rule_defs.specs.Field.{made_by}

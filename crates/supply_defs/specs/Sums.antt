@@ -5,9 +5,9 @@ use Rattle.std.specs.List.{sum_by, range_with_len}
 use Rattle.chain_defs.specs.Schema.{Block}
 use Rattle.chain_defs.specs.Specification.{Specification}
 use Rattle.chain_defs.specs.Kept.{block_at}
-use Rattle.cell_defs.specs.Cell.{Cell, occupied_by}
-use Rattle.cell_defs.specs.Events.{Event, events}
-use Rattle.cell_defs.specs.LiveCells.{live_cells}
+use Rattle.chain_defs.specs.Cell.{Cell, occupied_by}
+use Rattle.chain_defs.specs.Events.{Event, events}
+use Rattle.chain_defs.specs.LiveCells.{live_cells}
 use Rattle.rule_defs.specs.Reward.{part}
 use Rattle.rule_defs.specs.Payment.{cellbase_outputs}
 

@@ -3,7 +3,7 @@
 //!
 //! Definitions, and laws as contracts of functions that do nothing: [`supply`] says that nothing comes from nowhere and nothing
 //! is lost, block by block and from the genesis on, and [`sums`] how great the sums are. The live cells are the list of
-//! cell_defs.
+//! chain_defs.
 #![tactic(auto)]
 
 ghost use Rattle.supply_defs.specs.Laws.{BlocksStep, NothingIsLost, OccupiedStays, StartsWithItsOutputs, SumsAreSmall, StartsSmall};

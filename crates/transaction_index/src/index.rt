@@ -1,15 +1,26 @@
 // The rows in rising order of their hashes.
-ghost use Rattle.std.specs.Prelude.{◌≡◌, ℕ, List, IfOk};
-ghost use Rattle.transaction_index.specs.Rows.{first_row, is_before};
+ghost use Rattle.std.specs.Prelude.{◌≡◌, ℕ, List};
+ghost use Rattle.transaction_index.specs.Rows.{first_row, by_hash, AreInOrder, is_before};
 
 use crate::row::Row;
-use outside::NoMemory;
+use std::cmp::Ordering;
 use std::marker::Model;
 
 /// Rows, of which the first with a hash is found by halving. Clauses see them as a list.
 #[derive(Drop)]
 pub struct TransactionIndex {
     rows: Vec<Row>,
+}
+
+/// The order of rows: by hash, and of one hash by the number of the block and the place there.
+fn order(one: &Row, other: &Row) -> Ordering
+    ensures { result ≡ by_hash one.now other.now }
+{
+    let in_order = one
+        .number
+        .cmp(&other.number)
+        .then(one.place.cmp(&other.place));
+    one.hash.cmp(&other.hash).then(in_order)
 }
 
 impl Model for TransactionIndex {
@@ -27,21 +38,18 @@ impl Model for TransactionIndex {
 }
 
 impl TransactionIndex {
-    /// These rows. Of those with one hash the first stays the first.
-    pub fn of(rows: Vec<Row>) -> Result<TransactionIndex, NoMemory>
-        ensures { IfOk result (λ index. (hash : List ℕ) → first_row index hash ≡ first_row rows.items hash) }
+    /// These rows, which stand as on a branch: of those with one hash the first stays the first. It takes no memory.
+    pub fn of(rows: Vec<Row>) -> TransactionIndex
+        ensures { AreInOrder rows.items → (hash : List ℕ) → first_row result hash ≡ first_row rows.items hash }
     {
         let mut rows = rows;
-        match rows.sort_by_key(
-            |row: &Row| -> [u8; 32]
-                ensures { result ≡ row.now.hash }
-            { row.hash },
-        ) {
-            Ok(()) => {}
-            Err(_) => return Err(NoMemory),
-        }
+        rows.sort_unstable_by(
+            |one: &Row, other: &Row| -> Ordering
+                ensures { result ≡ by_hash one.now other.now }
+            { order(one, other) },
+        );
         rows.shrink_to_fit();
-        Ok(TransactionIndex { rows })
+        TransactionIndex { rows }
     }
 
     /// The first row with a hash.

@@ -2,6 +2,7 @@
 #[derive(Clone, Copy)]
 pub struct Row {
     pub hash: [u8; 32],
-    pub number: u64,
+    /// A tree has fewer than 2^32 blocks, so the numbers of a branch are below that.
+    pub number: u32,
     pub place: u32,
 }

@@ -15,8 +15,8 @@ use Rattle.chain_defs.specs.Branch.{branch}
 use Rattle.chain_defs.specs.Median.{median_time}
 use Rattle.chain_defs.specs.Hashes.{transaction_hash, proposal_id, are_distinct}
 use Rattle.chain_tree.specs.Told.{Stored, blocks_of}
-use Rattle.cell_defs.specs.Row.{Row, row_after}
-use Rattle.cell_defs.specs.Events.{events_of}
+use Rattle.chain_defs.specs.Row.{Row, row_after}
+use Rattle.chain_defs.specs.Events.{events_of}
 use Rattle.rule_defs.specs.Cellbase.{null_index, is_cellbase, begins_with_cellbase, has_cellbase}
 use Rattle.rule_defs.specs.Body.{fits_length, has_proposals}
 use Rattle.rule_defs.specs.Capacity as capacity

@@ -11,8 +11,8 @@ use Rattle.chain_defs.specs.Branch.{branch}
 use Rattle.chain_defs.specs.Hashes.{transaction_hash}
 use Rattle.chain_tree.specs.Told.{Stored, blocks_of}
 use Rattle.chain_tree.proofs.BlockLemmas.{len-same}
-use Rattle.cell_defs.specs.Events.{Event, events_of, events_from}
-use Rattle.cell_defs.specs.Row.{Row, row_after}
+use Rattle.chain_defs.specs.Events.{Event, events_of, events_from}
+use Rattle.chain_defs.specs.Row.{Row, row_after}
 use Rattle.rule_defs.specs.Site.{Site, site_at}
 use Rattle.rule_defs.specs.Capacity.{interest}
 use Rattle.rule_defs.specs.Field.{freed_by, freed_from, interest_from}

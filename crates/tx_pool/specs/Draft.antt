@@ -9,8 +9,8 @@ use Rattle.chain_defs.specs.Specification.{Specification}
 use Rattle.chain_defs.specs.Branch.{branch}
 use Rattle.chain_defs.specs.Hashes.{transaction_hash, are_distinct}
 use Rattle.chain_tree.specs.Told.{Stored, blocks_of}
-use Rattle.cell_defs.specs.Events.{events_of}
-use Rattle.cell_defs.specs.Row.{Row, row_after}
+use Rattle.chain_defs.specs.Events.{events_of}
+use Rattle.chain_defs.specs.Row.{Row, row_after}
 use Rattle.rule_defs.specs.Cellbase.{has_cellbase}
 use Rattle.block_judge.specs.BlockCells.{rows_in}
 use Rattle.block_judge.specs.Appending.{SoFarValue, SeesSoFar}

@@ -27,7 +27,7 @@ use crate::cellbase::cellbase_after;
 use crate::draft::Draft;
 use crate::sealing::sealed;
 use block_judge::{Context, JudgeStop, NoCells, judge, judge_at_sight};
-use cell_model::Cells;
+use cell_state::Cells;
 use chain_tree::Blocks;
 use mol_schema::{BlockView, CellbaseWitnessView};
 use outside::ReadStop;

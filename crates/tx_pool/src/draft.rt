@@ -30,7 +30,7 @@ use crate::sealing::timestamp_on;
 use block_judge::{
     BlockCells, BlockSoFar, Context, JudgeStop, PassedTransaction, is_cellbase, judge_appended,
 };
-use cell_model::Cells;
+use cell_state::Cells;
 use chain_tree::Blocks;
 use mol_schema::TxView;
 use outside::{NoMemory, ReadStop};

@@ -17,7 +17,7 @@ use Rattle.chain_tree.specs.Entries.{entry_at}
 use Rattle.chain_tree.specs.Blocks.{IndexesBlocks}
 use Rattle.chain_tree.specs.Told.{Stored, blocks_of}
 use Rattle.chain_tree.proofs.BlockLemmas.{DescribedAt, described, len-same}
-use Rattle.cell_defs.specs.Row.{Row}
+use Rattle.chain_defs.specs.Row.{Row}
 use Rattle.rule_defs.specs.Site.{Site, Found, height_at}
 use Rattle.rule_defs.specs.Age.{timestamp_of, median_start, block_start, start_at, spending}
 use Rattle.chain_defs.specs.Since.{Spending, Metric, block_number, epoch, timestamp, no_metric, metric_of, is_relative, since_value, is_passed, is_reached, is_valid, is_met}

@@ -7,9 +7,9 @@ use Rattle.std.proofs.lemmas.List.{map-append}
 use Rattle.std.proofs.lemmas.Option.{same_Some}
 use Rattle.chain_defs.specs.Schema.{OutPoint, CellDep}
 use Rattle.chain_tree.specs.Told.{Stored, blocks_of}
-use Rattle.cell_defs.specs.Cell.{Cell}
-use Rattle.cell_defs.specs.Row.{Row, row_of}
-use Rattle.cell_model.specs.Copies.{NamesOutput}
+use Rattle.chain_defs.specs.Cell.{Cell}
+use Rattle.chain_defs.specs.Row.{Row, row_of}
+use Rattle.cell_state.specs.Copies.{NamesOutput}
 use Rattle.rule_defs.specs.Site.{Site, Found, find_cell, all_there}
 use Rattle.rule_defs.specs.Resolving.{cells_of_dep, members_of}
 use Rattle.tx_rules.specs.At.{AtValue, IsSiteOf, found_row, find_row, place_of_height}

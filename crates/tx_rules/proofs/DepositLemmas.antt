@@ -15,13 +15,13 @@ use Rattle.chain_tree.specs.Entries.{entry_at}
 use Rattle.chain_tree.specs.Blocks.{IndexesBlocks}
 use Rattle.chain_tree.specs.Told.{Stored, blocks_of}
 use Rattle.chain_tree.proofs.BlockLemmas.{len-same}
-use Rattle.cell_defs.specs.Cell.{Cell}
-use Rattle.cell_defs.specs.Row.{Row}
+use Rattle.chain_defs.specs.Cell.{Cell}
+use Rattle.chain_defs.specs.Row.{Row}
 use Rattle.rule_defs.specs.Site.{Site, Found}
 use Rattle.rule_defs.specs.Resolving.{inputs, may_be_named, named_ancestor, header_heights, heights}
 use Rattle.rule_defs.specs.Withdrawals.{deposit_index, deposit_height}
 use Rattle.tx_rules.specs.At.{AtValue, IsAtParent, IsSiteOf}
-use Rattle.cell_model.specs.Copies.{ResolvedValue, IsCopyOf}
+use Rattle.cell_state.specs.Copies.{ResolvedValue, IsCopyOf}
 use Rattle.tx_rules.specs.Outcome.{Copies}
 use Rattle.tx_rules.specs.Seen.{IsRowOf}
 use Rattle.tx_rules.proofs.BranchLemmas.{PlaceOfHeight, place-of-height, number-on-branch}

@@ -16,15 +16,15 @@ use Rattle.chain_tree.specs.declared.entry.Entry.{Entry}
 use Rattle.chain_tree.specs.Entries.{entry_at}
 use Rattle.chain_tree.specs.Told.{Stored, blocks_of}
 use Rattle.chain_tree.proofs.BlockLemmas.{DescribedAt, described, len-same}
-use Rattle.cell_defs.specs.Cell.{Cell, occupied_by}
-use Rattle.cell_defs.specs.Row.{Row}
+use Rattle.chain_defs.specs.Cell.{Cell, occupied_by}
+use Rattle.chain_defs.specs.Row.{Row}
 use Rattle.chain_defs.proofs.WalkLemmas.{all-at}
 use Rattle.rule_defs.specs.Site.{Site, Found, height_at}
 use Rattle.rule_defs.specs.Resolving.{inputs, heights}
 use Rattle.rule_defs.specs.Withdrawals.{is_dao_script, is_withdrawing, deposit_height, deposit_index, withdraws_well, names_deposits}
 use Rattle.rule_defs.specs.Capacity.{rate_of, rate_at, withdrawn, counted, counted_in}
 use Rattle.tx_rules.specs.At.{AtValue, IsAtParent, IsSiteOf}
-use Rattle.cell_model.specs.Copies.{ResolvedValue}
+use Rattle.cell_state.specs.Copies.{ResolvedValue}
 use Rattle.tx_rules.specs.Outcome.{Copies}
 use Rattle.tx_rules.specs.Seen.{IsRowOf}
 use Rattle.tx_rules.proofs.BranchLemmas.{PlaceOfHeight, place-of-height}

@@ -11,10 +11,10 @@ use Rattle.chain_defs.proofs.FirstLemmas.{first_failing-fails, first_failing-hol
 use Rattle.outside.specs.declared.disk.Damage.{Damage}
 use Rattle.outside.specs.declared.disk.ReadStop.{ReadStop}
 use Rattle.outside.specs.declared.disk.ReadStop.TheVariants.{DiskFault, NoMemory, Damaged}
-use Rattle.cell_defs.specs.Cell.{Cell}
-use Rattle.cell_defs.specs.Row.{Row, row_of}
+use Rattle.chain_defs.specs.Cell.{Cell}
+use Rattle.chain_defs.specs.Row.{Row, row_of}
 use Rattle.chain_tree.specs.Told.{Stored, blocks_of}
-use Rattle.cell_model.specs.Copies.{ResolvedValue}
+use Rattle.cell_state.specs.Copies.{ResolvedValue}
 use Rattle.rule_defs.specs.RuleNumber.{rule_number}
 use Rattle.rule_defs.specs.declared.rule.Rule.{Rule}
 use Rattle.rule_defs.specs.Site.{Site}

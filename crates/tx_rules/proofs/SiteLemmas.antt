@@ -13,9 +13,9 @@ use Rattle.chain_defs.specs.Branch.{branch, branch_places}
 use Rattle.chain_defs.proofs.KeptLaws.{slice_get-below}
 use Rattle.chain_tree.specs.Told.{Stored, blocks_of}
 use Rattle.chain_tree.proofs.BlockLemmas.{len-same}
-use Rattle.cell_defs.specs.Cell.{Cell, data_of}
-use Rattle.cell_defs.specs.Row.{Row, row_of, IsOutputOf}
-use Rattle.cell_model.specs.Copies.{NamesOutput, output_in}
+use Rattle.chain_defs.specs.Cell.{Cell, data_of}
+use Rattle.chain_defs.specs.Row.{Row, row_of, IsOutputOf}
+use Rattle.cell_state.specs.Copies.{NamesOutput, output_in}
 use Rattle.rule_defs.specs.Site.{Site, Found, find_cell, all_there}
 use Rattle.rule_defs.specs.Resolving.{spends_each_once, inputs, deps, input_cells, dep_cells, cells_of_dep, members_of}
 use Rattle.tx_rules.specs.At.{AtValue, IsSiteOf, IsMade, AreSeen, place_of_height, found_row, find_row, named_rows, input_rows}

@@ -6,10 +6,10 @@ use Rattle.std.specs.List.{All, AllZip}
 use Rattle.std.proofs.lemmas.Option.{same_Some, slice_get_within}
 use Rattle.chain_defs.specs.Schema.{OutPoint, Block}
 use Rattle.chain_tree.specs.Told.{Stored, blocks_of}
-use Rattle.cell_defs.specs.Cell.{Cell}
-use Rattle.cell_defs.specs.Row.{Row}
-use Rattle.cell_model.specs.Copies.{ResolvedValue, IsCopyOf, CopiesOutput, NamesOutput, output_in}
-use Rattle.cell_model.proofs.CopyLemmas.{named_output}
+use Rattle.chain_defs.specs.Cell.{Cell}
+use Rattle.chain_defs.specs.Row.{Row}
+use Rattle.cell_state.specs.Copies.{ResolvedValue, IsCopyOf, CopiesOutput, NamesOutput, output_in}
+use Rattle.cell_state.proofs.CopyLemmas.{named_output}
 use Rattle.rule_defs.specs.Site.{Site, Found}
 use Rattle.tx_rules.specs.At.{AtValue, IsSiteOf, AreSeen, found_row}
 use Rattle.tx_rules.specs.Copying.{IsFoundAt, IsBlockAt, IsCopyOfRow, CopiesItsRow, ServesAgain, AreRowsCopied, HoldsOutput, row_in}

@@ -9,8 +9,8 @@ use Rattle.chain_defs.specs.Branch.{branch, branch_places}
 use Rattle.chain_tree.specs.declared.entry.Entry.{Entry}
 use Rattle.chain_tree.specs.Blocks.{IndexesBlocks, IsParent}
 use Rattle.chain_tree.specs.Told.{Stored, blocks_of}
-use Rattle.cell_defs.specs.Cell.{Cell, holds_its_own}
-use Rattle.cell_defs.specs.Row.{Row, row_of, IsOutputOf}
+use Rattle.chain_defs.specs.Cell.{Cell, holds_its_own}
+use Rattle.chain_defs.specs.Row.{Row, row_of, IsOutputOf}
 use Rattle.rule_defs.specs.Site.{Site, Found, height_at, all_there}
 use Rattle.rule_defs.specs.Resolving.{spends_each_once}
 use Rattle.rule_defs.specs.Age.{timestamp_of}

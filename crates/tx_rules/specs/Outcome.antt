@@ -8,8 +8,8 @@ use Rattle.chain_defs.specs.Hashes.{transaction_hash}
 use Rattle.chain_defs.specs.Branch.{branch_places}
 use Rattle.chain_tree.specs.declared.entry.Entry.{Entry}
 use Rattle.chain_tree.specs.Entries.{place_of_hash}
-use Rattle.cell_defs.specs.Row.{Row}
-use Rattle.cell_model.specs.Copies.{ResolvedValue, ResolvedTxValue, IsCopyOf}
+use Rattle.chain_defs.specs.Row.{Row}
+use Rattle.cell_state.specs.Copies.{ResolvedValue, ResolvedTxValue, IsCopyOf}
 use Rattle.rule_defs.specs.declared.rule.Rule.{Rule}
 use Rattle.rule_defs.specs.declared.rule.Rule.TheVariants.{TransactionForm, Proposed, Inputs}
 use Rattle.rule_defs.specs.Site.{Site, Found}

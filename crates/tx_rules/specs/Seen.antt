@@ -3,7 +3,7 @@ use Rattle.std.specs.Prelude.{◌≡◌, ℕ, List, Some, None}
 use Rattle.chain_defs.specs.Schema.{Block}
 use Rattle.chain_tree.specs.declared.entry.Entry.{Entry}
 use Rattle.chain_tree.specs.Entries.{entry_at}
-use Rattle.cell_defs.specs.Row.{Row, row_of}
+use Rattle.chain_defs.specs.Row.{Row, row_of}
 use Rattle.rule_defs.specs.Site.{Site, Found}
 use Rattle.tx_rules.specs.At.{place_of_height}
 

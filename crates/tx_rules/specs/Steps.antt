@@ -6,8 +6,8 @@ use Rattle.chain_defs.specs.First.{first_failing}
 use Rattle.outside.specs.declared.disk.Area.TheVariants.{Log}
 use Rattle.outside.specs.declared.disk.ReadStop.TheVariants.{DiskFault, NoMemory, Damaged}
 use Rattle.chain_defs.specs.Branch.{branch_places}
-use Rattle.cell_defs.specs.Row.{Row}
-use Rattle.cell_model.specs.Copies.{ResolvedValue}
+use Rattle.chain_defs.specs.Row.{Row}
+use Rattle.cell_state.specs.Copies.{ResolvedValue}
 use Rattle.rule_defs.specs.RuleNumber.{rule_number}
 use Rattle.rule_defs.specs.Site.{Site}
 use Rattle.rule_defs.specs.Resolving.{spends_live_cells, has_cell_deps, has_header_deps, inputs, deps, heights}

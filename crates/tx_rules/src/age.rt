@@ -2,7 +2,7 @@
 ghost use Rattle.std.specs.Prelude.{◌≡◌, ◌^◌, ◌<◌, ◌≤◌, ◌&&◌, true, List, length, map, Err, IfOk, Option};
 ghost use Rattle.std.specs.List.{list_all, zip};
 ghost use Rattle.chain_defs.specs.Schema.{OutPoint};
-ghost use Rattle.cell_defs.specs.Row.{Row};
+ghost use Rattle.chain_defs.specs.Row.{Row};
 ghost use Rattle.chain_defs.specs.Since.{is_valid, is_met, metric_of};
 ghost use Rattle.chain_defs.specs.Median.{median_time};
 ghost use Rattle.outside.specs.declared.disk.Area.TheVariants.{Log};
@@ -15,7 +15,7 @@ ghost use Rattle.tx_rules.specs.At.{IsAtParent, IsSiteOf, AreSeen, found_row};
 ghost use Rattle.tx_rules.specs.Seen.{IsRowOf};
 
 use crate::at::{TxAt, damage_of};
-use cell_model::{CellMeta, OutPoint};
+use cell_state::{CellMeta, OutPoint};
 use epochs::span_over;
 use mol_schema::TxView;
 use outside::Damage;

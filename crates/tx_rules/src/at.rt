@@ -2,11 +2,11 @@
 ghost use Rattle.std.specs.Prelude.{◌≡◌, ℕ};
 ghost use Rattle.std.specs.Option.{option_map};
 ghost use Rattle.outside.specs.declared.disk.Area.TheVariants.{Log};
-ghost use Rattle.cell_model.specs.Copies.{output_in};
+ghost use Rattle.cell_state.specs.Copies.{output_in};
 ghost use Rattle.tx_rules.specs.Own.{of_transactions};
 ghost use Rattle.tx_rules.specs.Seen.{log_place};
 
-use cell_model::{CellMeta, OutPoint, data_at, output_at};
+use cell_state::{CellMeta, OutPoint, data_at, output_at};
 use chain_tree::Tree;
 use epochs::Spec;
 use mol_schema::{BlockView, OutputView, TxView};
@@ -39,7 +39,7 @@ impl<'a, 'b> Model for Own<'a, 'b> {
 impl<'a, 'b> Own<'a, 'b> {
     ghost use Rattle.std.specs.Prelude.{◌≡◌};
     ghost use Rattle.std.specs.Option.{option_map};
-    ghost use Rattle.cell_model.specs.Copies.{output_in};
+    ghost use Rattle.cell_state.specs.Copies.{output_in};
     ghost use Rattle.tx_rules.specs.Own.{of_transactions};
 
     /// Those of a whole block.
@@ -129,7 +129,7 @@ impl<'a, 'o, 'b> TxAt<'a, 'o, 'b> {
     ghost use Rattle.std.specs.Prelude.{◌≡◌, ◌+◌, ◌^◌, ◌<◌, List, IsSomeAnd};
     ghost use Rattle.chain_defs.specs.Schema.{OutPoint};
     ghost use Rattle.std.specs.declared.option.Option.{Option};
-    ghost use Rattle.cell_defs.specs.Row.{Row};
+    ghost use Rattle.chain_defs.specs.Row.{Row};
     ghost use Rattle.chain_tree.specs.Entries.{entry_at};
     ghost use Rattle.chain_tree.specs.Told.{Stored};
     ghost use Rattle.rule_defs.specs.Site.{Site, height_at};

@@ -3,8 +3,8 @@ ghost use Rattle.std.specs.Prelude.{◌≡◌, ◌<◌, ◌^◌, ℕ, IsTrue, Is
 ghost use Rattle.std.specs.List.{AllZip, sum_by};
 ghost use Rattle.chain_defs.specs.Schema.{OutPoint};
 ghost use Rattle.chain_defs.specs.Dao.{field_of_bytes, as_u64};
-ghost use Rattle.cell_defs.specs.Row.{Row};
-ghost use Rattle.cell_model.specs.Copies.{IsCopyOf};
+ghost use Rattle.chain_defs.specs.Row.{Row};
+ghost use Rattle.cell_state.specs.Copies.{IsCopyOf};
 ghost use Rattle.chain_defs.specs.Branch.{branch_places};
 ghost use Rattle.outside.specs.declared.disk.Area.TheVariants.{Log};
 ghost use Rattle.outside.specs.declared.disk.Damage.{Damage};
@@ -21,7 +21,7 @@ ghost use Rattle.tx_rules.specs.Seen.{IsRowOf};
 
 use crate::at::{TxAt, damage_of};
 use crate::withdrawals::{deposit_place, withdrawing_made};
-use cell_model::{CellMeta, Resolved};
+use cell_state::{CellMeta, Resolved};
 use dao_math::{Dao, max_withdraw};
 use mol_schema::TxView;
 use outside::Damage;

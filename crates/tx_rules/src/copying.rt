@@ -2,9 +2,9 @@
 ghost use Rattle.std.specs.Prelude.{◌≡◌, ◌<◌, ◌+◌, List, length, map, Some, None, Err, IfOk, IfSome, IsSomeAnd, IsTrue, Option, replicate, slice_get};
 ghost use Rattle.std.specs.List.{All, AllZip};
 ghost use Rattle.chain_defs.specs.Schema.{OutPoint, Block};
-ghost use Rattle.cell_defs.specs.Cell.{Cell};
-ghost use Rattle.cell_model.specs.Copies.{IsCopyOf, CopiesOutput, NamesOutput, output_in};
-ghost use Rattle.cell_defs.specs.Row.{Row};
+ghost use Rattle.chain_defs.specs.Cell.{Cell};
+ghost use Rattle.cell_state.specs.Copies.{IsCopyOf, CopiesOutput, NamesOutput, output_in};
+ghost use Rattle.chain_defs.specs.Row.{Row};
 ghost use Rattle.outside.specs.declared.disk.Area.TheVariants.{Log};
 ghost use Rattle.outside.specs.declared.disk.Damage.{Damage};
 ghost use Rattle.outside.specs.declared.disk.ReadStop.TheVariants.{DiskFault, Damaged};
@@ -16,7 +16,7 @@ ghost use Rattle.tx_rules.specs.Copying.{IsFoundAt, IsBlockAt, IsCopyOfRow, Copi
 ghost use Rattle.tx_rules.specs.Outcome.{Copies};
 
 use crate::at::{Own, TxAt, damage_of};
-use cell_model::{CellMeta, OutPoint, Resolved, copy_of, output_at};
+use cell_state::{CellMeta, OutPoint, Resolved, copy_of, output_at};
 use chain_tree::Blocks;
 use mol_schema::BlockView;
 use outside::{NoMemory, ReadStop};

@@ -7,20 +7,10 @@ ghost use Rattle.rule_defs.specs.Resolving.{spends_each_once};
 ghost use Rattle.tx_rules.specs.At as sites;
 
 use crate::arrays::array_of;
-use cell_model::{CellMeta, Cells, OutPoint};
+use cell_state::{CellMeta, Cells, OutPoint, out_point_of};
 use mol_schema::{OutPointView, TxView};
 use outside::NoMemory;
 use std::alloc::Global;
-
-/// The out-point that stands in a transaction's bytes.
-pub(crate) fn out_point_of(o: &OutPointView<'_>) -> OutPoint
-    ensures { result ≡ o.now }
-{
-    OutPoint {
-        tx_hash: array_of(o.tx_hash()),
-        index: o.index(),
-    }
-}
 
 /// An out-point with its row. None where it has none.
 pub(crate) fn find_row<C: Cells>(cells: &C, o: &OutPointView<'_>) -> Option<(OutPoint, CellMeta)>

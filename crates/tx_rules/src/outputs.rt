@@ -1,13 +1,12 @@
 // J25: the cells that are made.
-ghost use Rattle.std.specs.Prelude.{◌≡◌, ◌^◌, ◌<◌, not, length, map, is_some};
-ghost use Rattle.std.specs.List.{list_any, range_with_len};
+ghost use Rattle.std.specs.Prelude.{◌≡◌, ◌^◌, ◌<◌, length, is_some};
 ghost use Rattle.chain_defs.specs.Schema.{OutPoint};
-ghost use Rattle.cell_defs.specs.Cell as cell_rules;
+ghost use Rattle.chain_defs.specs.Cell as cell_rules;
 ghost use Rattle.chain_defs.specs.Hashes.{transaction_hash};
 ghost use Rattle.rule_defs.specs.Site.{Site};
 ghost use Rattle.rule_defs.specs.Capacity as rules;
 
-use cell_model::{Cells, OutPoint, data_at};
+use cell_state::{Cells, data_at, is_none_live};
 use mol_schema::{OutputView, TxView};
 use view_hashes::occupied;
 
@@ -31,23 +30,6 @@ fn outputs_hold_their_own(tx: &TxView<'_>) -> bool
     let raw = tx.raw();
     'outputs: for i in 0..raw.outputs_count() {
         if !holds_its_own(&raw.outputs_item(i), data_at(tx, i)) {
-            return false;
-        }
-    }
-    true
-}
-
-/// Whether no cell is live with this hash and an index below a count.
-fn is_none_live<C: Cells>(hash: [u8; 32], count: usize, cells: &C) -> bool
-    requires { count < 2 ^ 32 }
-    ensures { result ≡ not (list_any (λ o. is_some (C.rows cells.now o)) (map (λ index. record { tx_hash = hash; index = index }) (range_with_len 0 count))) }
-{
-    'indexes: for i in 0..count {
-        let made = OutPoint {
-            tx_hash: hash,
-            index: i as u32,
-        };
-        if cells.get(&made).is_some() {
             return false;
         }
     }

@@ -4,7 +4,7 @@ ghost use Rattle.std.specs.List.{All, AllZip};
 ghost use Rattle.outside.specs.declared.disk.Damage.{Damage};
 ghost use Rattle.outside.specs.declared.disk.ReadStop.TheVariants.{DiskFault, Damaged};
 ghost use Rattle.chain_defs.specs.Schema.{OutPoint};
-ghost use Rattle.cell_defs.specs.Row.{Row};
+ghost use Rattle.chain_defs.specs.Row.{Row};
 ghost use Rattle.chain_defs.specs.Hashes.{transaction_hash};
 ghost use Rattle.chain_defs.specs.Branch.{branch_places};
 ghost use Rattle.chain_tree.specs.Entries.{place_of_hash};
@@ -31,7 +31,7 @@ use crate::headers::header_places;
 use crate::inputs::{are_inputs_distinct, live_inputs};
 use crate::outputs::makes_good_cells;
 use crate::withdrawals::names_deposits;
-use cell_model::{CellMeta, Cells, OutPoint, Resolved, ResolvedTx};
+use cell_state::{CellMeta, Cells, OutPoint, Resolved, ResolvedTx};
 use chain_tree::Blocks;
 use mol_schema::TxView;
 use outside::{Damage, NoMemory, ReadStop};
@@ -358,6 +358,9 @@ pub fn resolve<'a, C: Cells, B: Blocks>(
     // Over kept blocks that are known, at the site of the transaction: the first rule that is broken, or what it resolves to. Nothing is damaged.
     ensures exact { (stored : List Stored) (site : Site) → B.told blocks.old ≡ Some stored → IsSiteOf stored at.now (C.rows cells.now) site
         → AnswersWith (rules_to_27 judged.now.proposed site judged.now.tx.now) (ResolvesTo (blocks_of stored) at.now.parent site judged.now.tx.now) result }
+
+    // Over any source: the row of each input is that which the cells have for its out-point.
+    ensures rows { IfOk result (λ ok. input_rows (C.rows cells.now) judged.now.tx.now ≡ Some (map row_in ok.resolved.inputs)) }
 {
     let found = match find(alloc, judged, at, cells, blocks) {
         Ok(found) => found,

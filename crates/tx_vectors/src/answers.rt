@@ -1,8 +1,7 @@
 //! What a transaction is answered, alone after the last block or in the next one.
 
 use crate::kept::{Chain, is_placed};
-use cell_model::{ListBlocks, Resolved};
-use cell_state::State;
+use cell_state::{ListBlocks, Resolved, State};
 use mol_schema::{BlockView, TxView};
 use outside::Steps;
 use std::alloc::Global;

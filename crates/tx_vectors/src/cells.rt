@@ -1,6 +1,6 @@
 //! Cells and answers of columns.
 
-use cell_model::{CellMeta, meta_of};
+use cell_state::{CellMeta, meta_of};
 use mol_schema::OutputView;
 use std::alloc::Global;
 use std::string::String;

@@ -2,7 +2,7 @@
 
 use crate::cells::meta_in;
 use crate::kept::Chain;
-use cell_model::{OutPoint, Resolved, ResolvedTx};
+use cell_state::{OutPoint, Resolved, ResolvedTx};
 use mol_schema::TxView;
 use row_table::Row;
 use script_run::{ScriptStop, run_groups};

@@ -1,13 +1,14 @@
 //! A chain in memory: its tree, its blocks with their exts, and the live cells after the last.
 
 ghost use Rattle.std.specs.Prelude.{◌≡◌, ◌<◌, true, false};
-ghost use Rattle.cell_model.specs.ListBlocks.{IsCanonical, IsExtFor};
+ghost use Rattle.cell_state.specs.ListBlocks.{IsCanonical, IsExtFor};
 ghost use Rattle.tx_rules.specs.At.{IsAtParent};
 ghost use Rattle.chain_tree.specs.Blocks.{AreRated};
 
 use blake2b_ckb::ckbhash;
-use cell_model::{CellMeta, Cells, Ext, ListBlocks, OutPoint};
-use cell_state::{Odd, State, outputs_in};
+use cell_state::{
+    CellMeta, Cells, Ext, ListBlocks, Odd, OutPoint, State, out_point_of, outputs_in,
+};
 use chain_tree::{Entry, Tree};
 use dao_math::is_rated;
 use epochs::Spec;
@@ -37,17 +38,8 @@ pub(crate) fn record_at(place: u32) -> u64 {
 }
 
 fn entry_of(header: &HeaderView<'_>, place: u32, parent: u32) -> Entry {
-    let mut dao = [0; 32];
-    dao.copy_from_slice(header.dao());
-    Entry {
-        hash: ckbhash(header.bytes()),
-        parent,
-        number: header.number(),
-        timestamp: header.timestamp(),
-        dao,
-        at: record_at(place),
-        len: 0,
-    }
+    let hash = ckbhash(header.bytes());
+    Entry::of_header(header, hash, parent, record_at(place), 0)
 }
 
 /// Whether the DAO field of each entry is rated.
@@ -151,12 +143,7 @@ fn apply<L: Ledger>(
 
 pub(crate) fn out_point_in(bytes: &[u8]) -> Option<OutPoint> {
     let view = OutPointView::read(bytes)?;
-    let mut tx_hash = [0; 32];
-    tx_hash.copy_from_slice(view.tx_hash());
-    Some(OutPoint {
-        tx_hash,
-        index: view.index(),
-    })
+    Some(out_point_of(&view))
 }
 
 /// The live cells of a genesis.

@@ -3,8 +3,7 @@
 use crate::kept::{applied, out_point_in, state_of};
 use crate::rows::{hash_of_all, hash_on, made_up};
 use blake2b_ckb::Hasher;
-use cell_model::{Cells, Ext, OutPoint};
-use cell_state::{Odd, State};
+use cell_state::{Cells, Ext, Odd, OutPoint, State};
 use mol_schema::BlockView;
 use outside::{NoMemory, Steps};
 use row_table::Row;

@@ -2,8 +2,7 @@
 
 use crate::kept::{grow, put, record_at, state_of, tree_of};
 use crate::rows::hash_of_all;
-use cell_model::ListBlocks;
-use cell_state::{State, go_to};
+use cell_state::{ListBlocks, State, go_to};
 use chain_tree::Tree;
 use outside::{Area, ReadStop, Steps};
 use row_table::Row;

@@ -1,7 +1,6 @@
 //! Rows by their hash, and made-up ones.
 use blake2b_ckb::{Hasher, ckbhash};
-use cell_model::{CellMeta, OutPoint};
-use cell_state::State;
+use cell_state::{CellMeta, OutPoint, State};
 use std::alloc::Global;
 
 /// Hashes the bytes of a row on, as docs/STORE.md has them.

@@ -4,7 +4,7 @@ use Rattle.std.specs.Prelude.{IsOkAnd, IsTrue}
 use Rattle.chain_defs.specs.Schema.{Transaction, Block}
 use Rattle.chain_defs.specs.Specification.{Specification}
 use Rattle.chain_defs.specs.Branch.{branch}
-use Rattle.cell_defs.specs.Ext.{Ext}
+use Rattle.chain_defs.specs.Ext.{Ext}
 use Rattle.chain_defs.specs.First.{first_failing}
 use Rattle.rule_defs.specs.Site.{Site}
 use Rattle.rule_defs.specs.TransactionRules.{has_form, cell_rules}

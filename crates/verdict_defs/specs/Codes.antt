@@ -3,7 +3,7 @@ use Rattle.std.specs.Prelude.{ℕ, Bool, false, ◌&&◌, ◌==◌, List, [], �
 use Rattle.std.specs.List.{find, filter, list_all}
 use Rattle.std.specs.Str.{bytes_eq}
 use Rattle.chain_defs.specs.Schema.{Script}
-use Rattle.cell_defs.specs.Cell.{by_data, by_type, data_hash}
+use Rattle.chain_defs.specs.Cell.{by_data, by_type, data_hash}
 use Rattle.verdict_defs.specs.Scene.{ShownCell}
 use Rattle.verdict_defs.specs.Groups.{has_hash}
 

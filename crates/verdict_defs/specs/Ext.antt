@@ -4,8 +4,8 @@ use Rattle.std.specs.List.{filter_map}
 use Rattle.chain_defs.specs.Schema.{OutPoint, Transaction, Block}
 use Rattle.chain_defs.specs.Specification.{Specification}
 use Rattle.chain_defs.specs.Branch.{branch}
-use Rattle.cell_defs.specs.Row.{Row, row_on}
-use Rattle.cell_defs.specs.Ext.{Ext}
+use Rattle.chain_defs.specs.Row.{Row, row_on}
+use Rattle.chain_defs.specs.Ext.{Ext}
 use Rattle.rule_defs.specs.Site.{Site, Found, height_at, site_at}
 use Rattle.rule_defs.specs.Resolving.{inputs}
 use Rattle.rule_defs.specs.Capacity.{fees_from}

@@ -3,7 +3,7 @@ use Rattle.std.specs.Prelude.{ℕ, Bool, not, List, [], ◌∷◌, ◌++◌, map
 use Rattle.std.specs.List.{filter, filter_map, enumerate_from}
 use Rattle.std.specs.Str.{bytes_eq}
 use Rattle.chain_defs.specs.Schema.{Script}
-use Rattle.cell_defs.specs.Cell.{script_hash}
+use Rattle.chain_defs.specs.Cell.{script_hash}
 use Rattle.verdict_defs.specs.Scene.{Scene}
 
 -- A group: its script, and the places of its members among the transaction's inputs and among its outputs, each in their order.

@@ -6,7 +6,7 @@ use Rattle.std.specs.Int.{w64, to_le_bytes}
 use Rattle.chain_defs.specs.Shape.{encoded}
 use Rattle.chain_defs.specs.Schema.{Header, header, CellInput, cell_input, CellOutput, cell_output, out_point, script, transaction}
 use Rattle.chain_defs.specs.Hashes.{transaction_hash}
-use Rattle.cell_defs.specs.Cell.{script_hash, data_hash, occupied_by, data_of}
+use Rattle.chain_defs.specs.Cell.{script_hash, data_hash, occupied_by, data_of}
 use Rattle.chain_defs.specs.Epochs.{epoch_number}
 use Rattle.machine_defs.specs.SyscallTable.{Action, Exits, Debugs, Loads, LoadsField, LoadsCode, Shown, Syscall, syscalls}
 use Rattle.machine_defs.specs.SyscallTable as table

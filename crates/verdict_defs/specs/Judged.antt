@@ -4,7 +4,7 @@ use Rattle.chain_defs.specs.Schema.{Transaction, Block}
 use Rattle.chain_defs.specs.Specification.{Specification}
 use Rattle.chain_defs.specs.First.{first_failing}
 use Rattle.chain_defs.specs.Branch.{branch}
-use Rattle.cell_defs.specs.Ext.{Ext}
+use Rattle.chain_defs.specs.Ext.{Ext}
 use Rattle.rule_defs.specs.Site.{Site, Found}
 use Rattle.rule_defs.specs.Resolving.{inputs}
 use Rattle.rule_defs.specs.Capacity as capacity

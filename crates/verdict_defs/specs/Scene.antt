@@ -4,7 +4,7 @@ use Rattle.std.specs.Option.{option_map}
 use Rattle.std.specs.List.{list_any, filter_map}
 use Rattle.chain_defs.specs.Schema.{Header, CellOutput, Block, Transaction}
 use Rattle.chain_defs.specs.Kept.{block_at}
-use Rattle.cell_defs.specs.Cell.{Cell}
+use Rattle.chain_defs.specs.Cell.{Cell}
 use Rattle.rule_defs.specs.Site.{Site, Found}
 use Rattle.rule_defs.specs.Resolving.{inputs, deps, heights}
 

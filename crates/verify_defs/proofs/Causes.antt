@@ -10,7 +10,7 @@ use Rattle.verdict_defs.specs.Verdict.{joins, kept_after}
 use Rattle.verdict_defs.specs.Chain.{Chain, verdict_over}
 use Rattle.verdict_defs.specs.Laws.{CanJoin}
 use Rattle.verdict_defs.proofs.VerdictLaws.{joins-exactly, kept_after-joins}
-use Rattle.cell_defs.specs.Ext.{count_at}
+use Rattle.chain_defs.specs.Ext.{count_at}
 use Rattle.disk_defs.specs.Log.{Record, LogContent, records_of, of_blocks, content_of_records, parts_of_body}
 use Rattle.store_defs.specs.Store.{ext_over, HasJoined, chain_before}
 use Rattle.store_defs.proofs.ExtLemmas.{HoldsBlock, holds_of_taken}

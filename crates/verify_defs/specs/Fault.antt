@@ -4,8 +4,8 @@ use Rattle.std.specs.Option.{option_map}
 use Rattle.std.specs.List.{All}
 use Rattle.chain_defs.specs.Schema.{OutPoint, Block}
 use Rattle.chain_defs.specs.Kept.{block_hash, block_at}
-use Rattle.cell_defs.specs.Row.{Row, live_row}
-use Rattle.cell_defs.specs.Ext.{count_at}
+use Rattle.chain_defs.specs.Row.{Row, live_row}
+use Rattle.chain_defs.specs.Ext.{count_at}
 use Rattle.outside.specs.declared.disk.Area.{Area}
 use Rattle.outside.specs.declared.disk.Area.TheVariants.{Log, SnapA, SnapB}
 use Rattle.outside.specs.Image.{Image}

@@ -1,13 +1,13 @@
 // The hashes of scripts and data, and what an output occupies.
 ghost use Rattle.std.specs.Prelude.{◌≡◌, ◌^◌, ◌<◌, length};
 ghost use Rattle.chain_defs.specs.Dao.{occupied_capacity};
-ghost use Rattle.cell_defs.specs.Cell as cells;
+ghost use Rattle.chain_defs.specs.Cell as cells;
 
 use blake2b_ckb::ckbhash;
 use mol_schema::{OutputView, ScriptView};
 
 /// The hash of a script (RFC 0022).
-#[tactic(auto, unfolding(cell_defs::specs::Cell::script_hash))]
+#[tactic(auto, unfolding(chain_defs::specs::Cell::script_hash))]
 pub fn script_hash(script: &ScriptView<'_>) -> [u8; 32]
     ensures { result ≡ cells.script_hash script.now }
 {
@@ -15,7 +15,7 @@ pub fn script_hash(script: &ScriptView<'_>) -> [u8; 32]
 }
 
 /// The hash of a cell's data; 32 zero bytes where the data is empty (RFC 0022).
-#[tactic(auto, unfolding(cell_defs::specs::Cell::data_hash))]
+#[tactic(auto, unfolding(chain_defs::specs::Cell::data_hash))]
 pub fn data_hash(content: &[u8]) -> [u8; 32]
     ensures { result ≡ cells.data_hash content.now }
 {

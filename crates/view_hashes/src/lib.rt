@@ -1,7 +1,7 @@
 //! What follows of a view alone: the hashes of transactions, headers, blocks, scripts and data, the id by which a
 //! transaction is proposed, and what an output occupies. All crates that need one take it from here.
 //!
-//! The contracts cite the definitions of `chain_defs` and `cell_defs`. The hash itself is `blake2b_ckb`'s, and the bytes
+//! The contracts cite the definitions of `chain_defs` and `chain_defs`. The hash itself is `blake2b_ckb`'s, and the bytes
 //! that it is taken of are those that the views of `mol_schema` borrow.
 #![tactic(auto)]
 

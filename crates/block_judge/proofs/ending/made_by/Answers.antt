@@ -3,7 +3,7 @@ use Rattle.std.specs.Prelude.{slice_get}
 use Rattle.std.specs.List.{enumerate_from}
 use Rattle.std.proofs.lemmas.List.{drop_all}
 use Rattle.chain_defs.specs.Schema.{RawTransaction}
-use Rattle.cell_defs.specs.Cell.{occupied_by}
+use Rattle.chain_defs.specs.Cell.{occupied_by}
 use Rattle.chain_defs.proofs.WalkLemmas.{enumerated-there}
 use Rattle.tx_rules.proofs.MoneyLemmas.{sum-more, sum-end}
 use Rattle.rule_defs.specs.Field.{occupied_output, made_by}

@@ -1,6 +1,6 @@
 use Rattle.std.proofs.Common.{◌<◌, ◌^◌, ℤ, nat_abs, inr, Err, sym, ap, ◌∙◌, subst, arith}
 use Rattle.std.specs.List.{All, sum_by}
-use Rattle.cell_model.specs.Copies.{ResolvedTxValue}
+use Rattle.cell_state.specs.Copies.{ResolvedTxValue}
 use Rattle.chain_tree.specs.Told.{blocks_of}
 use Rattle.tx_rules.specs.At.{spends_rows}
 use Rattle.tx_rules.specs.Copying.{ServesAgain}

@@ -1,8 +1,8 @@
 use Rattle.std.proofs.Common.{◌≡◌, None, ◌∙◌, subst}
 use Rattle.chain_defs.specs.Schema.{Block}
 use Rattle.chain_tree.specs.Told.{Stored}
-use Rattle.cell_defs.specs.Events.{events_of_block}
-use Rattle.cell_defs.specs.Row.{row_after, ListsRows}
+use Rattle.chain_defs.specs.Events.{events_of_block}
+use Rattle.chain_defs.specs.Row.{row_after, ListsRows}
 use Rattle.cell_state.proofs.ToldLemmas.{told-it}
 use Rattle.cell_index.proofs.change.change_at.Goals as goal
 

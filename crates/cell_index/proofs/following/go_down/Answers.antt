@@ -3,7 +3,7 @@ use Rattle.std.specs.Prelude.{IsSome}
 use Rattle.chain_tree.specs.Told.{Stored, blocks_of}
 use Rattle.chain_tree.proofs.BlockLemmas.{len-same}
 use Rattle.chain_tree.proofs.ReadLemmas.{unread, read_on}
-use Rattle.cell_defs.specs.Row.{live_row}
+use Rattle.chain_defs.specs.Row.{live_row}
 use Rattle.outside.proofs.Endings.{handed}
 use Rattle.cell_state.specs.Moves.{IsOnTheWay}
 use Rattle.cell_state.proofs.PathLemmas.{path-none, path-more}

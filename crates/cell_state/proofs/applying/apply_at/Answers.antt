@@ -1,13 +1,14 @@
-use Rattle.std.proofs.Common.{◌≡◌, sym, ap, ◌∙◌, subst, arith}
+use Rattle.std.proofs.Common.{◌≡◌, refl, sym, ap, ◌∙◌, subst, arith}
 use Rattle.chain_defs.specs.Schema.{Block}
-use Rattle.cell_defs.specs.Events.{events_of_block}
-use Rattle.cell_defs.specs.Row.{row_after}
-use Rattle.cell_defs.specs.Fit.{are_live, AllFit}
-use Rattle.cell_defs.proofs.FitLemmas.{found-same}
+use Rattle.chain_defs.specs.Events.{events_of_block}
+use Rattle.chain_defs.specs.Row.{row_after}
+use Rattle.chain_defs.specs.Fit.{are_live, AllFit}
+use Rattle.chain_defs.proofs.FitLemmas.{found-same}
 use Rattle.cell_state.specs.State.{rows}
 use Rattle.outside.proofs.Endings.{handed, no_answer, memory_undamaged, is_told}
 use Rattle.chain_tree.proofs.ReadLemmas.{same_stop, read_on, read_short}
 use Rattle.cell_state.proofs.BelowLemmas.{below-same, after-below}
+use Rattle.cell_state.proofs.HandLemmas.{hand-none, hand-is}
 use Rattle.cell_state.proofs.RowLemmas.{row_after-same}
 use Rattle.cell_state.proofs.FitLemmas.{told-block, none-odd}
 use Rattle.cell_state.proofs.applying.apply_at.Goals as goal
@@ -22,6 +23,7 @@ returns-in-Err g c = record {
   at_record = λ tells damage same. absurd (c.in-Err.ensures.undamaged tells damage (handed c.in-Err.stop _ same));
   steps = tt;
   most = omega arith;
+  in_hand = λ damage same. hand-none _ _ c.in-Err.ensures.dropped;
 }
 
 pub returns-in-Err-reserve : goal.returns-in-Err-reserve
@@ -34,6 +36,7 @@ returns-in-Err-reserve g c = record {
   at_record = λ tells damage same. absurd (memory_undamaged damage same);
   steps = tt;
   most = omega arith;
+  in_hand = λ damage same. absurd (memory_undamaged damage same);
 }
 
 pub returns-in-Err-transaction_hashes : goal.returns-in-Err-transaction_hashes
@@ -46,6 +49,7 @@ returns-in-Err-transaction_hashes g c = record {
   at_record = λ tells damage same. absurd (memory_undamaged damage same);
   steps = tt;
   most = omega arith;
+  in_hand = λ damage same. absurd (memory_undamaged damage same);
 }
 
 pub returns-in-Ok-apply : goal.returns-in-Ok-apply
@@ -70,6 +74,7 @@ returns-in-Ok-apply g c = record {
   at_record = λ tells damage same. absurd (no_answer _ _ same);
   steps = c.in-Ok-apply.ensures.steps;
   most = let one = c.in-Ok-apply.ensures.steps in omega (arith, one);
+  in_hand = λ damage same. absurd (no_answer _ _ same);
 }
 
 pub returns : goal.returns
@@ -88,4 +93,5 @@ returns g c = record {
   at_record = λ tells damage same. c.damaged_at.ensures.at_record damage (same_stop _ _ same);
   steps = tt;
   most = let one = c.in-Err-apply.ensures.steps in omega (arith, one);
+  in_hand = λ damage same. hand-is _ _ c.args.place (c.damaged_at.ensures.in_hand ∙ c.in-Ok.ensures.taken) (refl, c.damaged_at.ensures.at_record damage (same_stop _ _ same));
 }

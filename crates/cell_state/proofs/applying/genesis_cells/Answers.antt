@@ -1,8 +1,8 @@
 use Rattle.std.proofs.Common.{◌≡◌, None, sym, ap, ◌∙◌, arith}
 use Rattle.chain_defs.specs.Schema.{Block}
 use Rattle.chain_tree.specs.Told.{blocks_of}
-use Rattle.cell_defs.specs.Events.{events_of_block}
-use Rattle.cell_defs.specs.Row.{row_after}
+use Rattle.chain_defs.specs.Events.{events_of_block}
+use Rattle.chain_defs.specs.Row.{row_after}
 use Rattle.outside.proofs.Endings.{handed, no_answer, memory_undamaged, is_told}
 use Rattle.chain_tree.proofs.ReadLemmas.{read_short}
 use Rattle.cell_state.proofs.BelowLemmas.{below-same, none-below, after-below}

@@ -1,7 +1,7 @@
 use Rattle.std.proofs.Common.{◌≡◌, ℕ, List, ◌<◌, ◌≤◌, ◌-◌, length, Some, slice_get, sym, ap, ◌∙◌, arith}
 use Rattle.std.specs.Option.{option_map}
 use Rattle.std.proofs.lemmas.Option.{slice_get_past}
-use Rattle.cell_defs.specs.Events.{Makes, Spends}
+use Rattle.chain_defs.specs.Events.{Makes, Spends}
 use Rattle.chain_defs.specs.Hashes.{transaction_hash}
 use Rattle.chain_defs.specs.Schema.{OutPoint, RawTransaction}
 use Rattle.cell_state.specs.Walk.{height_of, spends_at}
@@ -17,7 +17,7 @@ returns-then-index-spends c =
     let spent = event-spent c.args.tx.now height c.args.place c.args.index (Spends c.inputs_item-input.result.previous_output)
     (spend-at c.args.tx.now height c.args.place c.args.index c.inputs_item-input.result within there) in
     record {
-      event = ap (λ (o : OutPoint). Some (Spends o)) (c.out_point_at.ensures ∙ c.previous_output.ensures) ∙ sym spent;
+      event = ap (λ (o : OutPoint). Some (Spends o)) (c.out_point_of.ensures ∙ c.previous_output.ensures) ∙ sym spent;
       few = omega (arith, c.spends_count-spends.ensures.fits, c.if-index-spends.true);
     }
 

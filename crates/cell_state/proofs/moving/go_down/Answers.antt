@@ -6,7 +6,7 @@ use Rattle.chain_defs.proofs.BranchLaws.{parent_place-below}
 use Rattle.chain_tree.specs.Told.{Stored, blocks_of}
 use Rattle.chain_tree.proofs.BlockLemmas.{len-same}
 use Rattle.chain_tree.proofs.ReadLemmas.{unread, read_on}
-use Rattle.cell_defs.specs.Row.{live_row}
+use Rattle.chain_defs.specs.Row.{live_row}
 use Rattle.cell_state.specs.State.{rows}
 use Rattle.outside.proofs.Endings.{handed}
 use Rattle.cell_state.proofs.BelowLemmas.{live-below}
@@ -15,6 +15,7 @@ use Rattle.cell_state.proofs.PathLemmas.{path-none, path-more}
 use Rattle.cell_state.proofs.WayLemmas.{each-none, each-more, stored-there, taken-here, parent-there}
 use Rattle.cell_state.proofs.OnWayLemmas.{high-on-way, low-on-way, on-branch-of-child, own, way-by-high, way-by-low}
 use Rattle.cell_state.specs.Moves.{IsOnTheWay}
+use Rattle.cell_state.proofs.HandLemmas.{hand-at}
 use Rattle.cell_state.proofs.moving.go_down.Goals as goal
 
 pub down-init : goal.down-init
@@ -140,3 +141,9 @@ returns-clause-below g c end less are = c.down.invariant.below end less are
 
 pub returns-clause-up_to : goal.returns-clause-up_to
 returns-clause-up_to g c = c.down.invariant.up_to
+
+pub returns-in-Err-undo_at-clause-in_hand : goal.returns-in-Err-undo_at-clause-in_hand
+returns-in-Err-undo_at-clause-in_hand g c kept indexes damage same =
+    hand-at _ _ c.down.low (IsOnTheWay kept c.args.from c.args.to) damage
+    (c.down.invariant.way kept indexes c.down.low (low-on-way kept c.down.low c.down.high (omega arith)))
+    (c.in-Err-undo_at.ensures.in_hand damage (handed c.in-Err-undo_at.stop _ same))

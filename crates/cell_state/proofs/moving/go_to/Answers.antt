@@ -3,11 +3,13 @@ use Rattle.std.specs.Prelude.{slice_get, IsSome}
 use Rattle.chain_defs.specs.Branch.{branch_places}
 use Rattle.chain_tree.specs.Told.{Stored, blocks_of}
 use Rattle.chain_tree.proofs.ReadLemmas.{read_on}
-use Rattle.cell_defs.specs.Row.{live_row}
+use Rattle.chain_defs.specs.Row.{live_row}
 use Rattle.cell_state.specs.State.{rows}
 use Rattle.outside.proofs.Endings.{handed}
 use Rattle.cell_state.proofs.StepLemmas.{AreRowsAt, block-there, rows-next, fits-here}
 use Rattle.cell_state.proofs.PathLemmas.{height_after, read-at, on-path, path-start, path-top}
+use Rattle.cell_state.specs.Moves.{IsOnTheWay}
+use Rattle.cell_state.proofs.HandLemmas.{hand-at}
 use Rattle.cell_state.proofs.moving.go_to.Goals as goal
 
 pub up-init : goal.up-init
@@ -97,3 +99,13 @@ returns-in-Err-apply_at-clause-at_record g c kept indexes tells damage same =
 
 pub returns-clause-below : goal.returns-clause-below
 returns-clause-below g c end from to are = c.up.invariant.below end from to are
+
+pub returns-in-Err-apply_at-clause-in_hand : goal.returns-in-Err-apply_at-clause-in_hand
+returns-in-Err-apply_at-clause-in_hand g c kept indexes damage same =
+    let long : c.len-count.result ≡ length c.in-Ok.down.1.items = search rules in
+    let more = c.up-test.true in
+    let below : c.up.i < length c.in-Ok.down.1.items = omega (arith, more, long) in
+    let there = read-at c.in-Ok.down.1.items c.up.i c.index-place.result.now below
+    (c.index-place.ensures ∙ ap (λ (n : ℕ). get_or c.in-Ok.down.1.items (n - c.up.i - 1) c.index-place.result.now) long) in
+    hand-at _ _ c.index-place.result.now (IsOnTheWay kept c.args.from c.args.to) damage (c.in-Ok.ensures.on_way kept indexes _ _ there)
+    (c.in-Err-apply_at.ensures.in_hand damage (handed c.in-Err-apply_at.stop _ same))

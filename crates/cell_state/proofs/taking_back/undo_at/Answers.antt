@@ -1,14 +1,15 @@
-use Rattle.std.proofs.Common.{◌≡◌, true, sym, ap, ◌∙◌}
+use Rattle.std.proofs.Common.{◌≡◌, true, refl, sym, ap, ◌∙◌}
 use Rattle.std.specs.List.{list_all}
 use Rattle.std.proofs.lemmas.Bool.{false≢true}
 use Rattle.chain_tree.specs.Told.{Stored}
 use Rattle.chain_tree.proofs.ReadLemmas.{same_stop, read_on}
-use Rattle.cell_defs.specs.Events.{events_of_block}
-use Rattle.cell_defs.specs.Ext.{Ext}
-use Rattle.cell_defs.specs.Undo.{undone}
+use Rattle.chain_defs.specs.Events.{events_of_block}
+use Rattle.chain_defs.specs.Ext.{Ext}
+use Rattle.chain_defs.specs.Undo.{undone}
 use Rattle.cell_state.specs.State.{rows}
 use Rattle.cell_state.specs.Moves.{is_below}
 use Rattle.cell_state.proofs.BelowLemmas.{below-same, spent-below, undone-below}
+use Rattle.cell_state.proofs.HandLemmas.{hand-none, hand-is}
 use Rattle.cell_state.proofs.ToldLemmas.{told-it, same-ext, comes-back}
 use Rattle.cell_state.proofs.taking_back.undo_at.Goals as goal
 
@@ -64,3 +65,15 @@ returns-in-Ok-undo-clause-below g c end less are =
     below-same _ (undone (events_of_block 1 c.block-block.result) c.in-Ok-Some.ext.spent (rows c.reserve.new.self)) end (λ o. c.in-Ok-undo.ensures.rows 1 o)
     (undone-below (events_of_block 1 c.block-block.result) c.in-Ok-Some.ext.spent (rows c.reserve.new.self) c.args.place end all less
     (below-same (rows c.reserve.new.self) (rows c.args.state.now) end c.in-Ok-reserve.ensures.rows are))
+
+pub returns-in-Err-clause-in_hand : goal.returns-in-Err-clause-in_hand
+returns-in-Err-clause-in_hand g c damage same = hand-none _ _ c.in-Err.ensures.dropped
+
+pub returns-then-not-are_below-clause-in_hand : goal.returns-then-not-are_below-clause-in_hand
+returns-then-not-are_below-clause-in_hand g c damage same =
+    hand-is _ _ c.args.place (c.damaged_at.ensures.in_hand ∙ c.in-Ok.ensures.taken) (refl, c.damaged_at.ensures.at_record damage (same_stop _ _ same))
+
+pub returns-clause-in_hand : goal.returns-clause-in_hand
+returns-clause-in_hand g c damage same =
+    hand-is _ _ c.args.place (c.damaged_at-in-Err-undo.ensures.in_hand ∙ c.in-Ok.ensures.taken)
+    (refl, c.damaged_at-in-Err-undo.ensures.at_record damage (same_stop _ _ same))

@@ -1,5 +1,5 @@
 use Rattle.node_store.proofs.RecordedLemmas.{read-here}
-use Rattle.explanation.proofs.TraceLemmas.{cause-of}
+use Rattle.explanation.proofs.CauseLemmas.{cause-of}
 use Rattle.explanation.proofs.on_parent.page_of_block.Goals as goal
 
 pub block_on-page-requires : goal.block_on-page-requires

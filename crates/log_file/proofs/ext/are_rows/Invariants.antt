@@ -1,5 +1,5 @@
 use Rattle.std.proofs.Common.{◌≡◌, ◌-◌, ◌*◌, drop}
-use Rattle.cell_defs.specs.Ext.{are_rows}
+use Rattle.chain_defs.specs.Ext.{are_rows}
 use Rattle.log_file.proofs.ext.are_rows.Given as goal
 
 abbrev pub invariant-rows : goal.invariant-rows

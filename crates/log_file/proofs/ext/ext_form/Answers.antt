@@ -1,7 +1,7 @@
 use Rattle.std.proofs.Common.{◌≡◌, ℕ, ◌+◌, ◌*◌, length, ap, sym, ◌∙◌, arith, rules}
 use Rattle.std.proofs.lemmas.Bool.{ne_eqb}
 use Rattle.std.proofs.lemmas.List.{take_rest}
-use Rattle.cell_defs.specs.Ext.{count_at}
+use Rattle.chain_defs.specs.Ext.{count_at}
 use Rattle.log_file.proofs.Forms.{ext-wrong, ext-right}
 use Rattle.log_file.proofs.ext.ext_form.Goals as goal
 

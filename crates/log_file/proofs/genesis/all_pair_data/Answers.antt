@@ -1,5 +1,5 @@
 use Rattle.std.proofs.Common.{sym, ◌∙◌, rules}
-use Rattle.cell_defs.specs.Cell.{pairs_data}
+use Rattle.chain_defs.specs.Cell.{pairs_data}
 use Rattle.log_file.proofs.Transactions.{all_goes, all_stops}
 use Rattle.log_file.proofs.genesis.all_pair_data.Goals as goal
 

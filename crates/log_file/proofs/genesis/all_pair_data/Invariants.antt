@@ -1,6 +1,6 @@
 use Rattle.std.proofs.Common.{◌≡◌, drop}
 use Rattle.std.specs.List.{list_all}
-use Rattle.cell_defs.specs.Cell.{pairs_data}
+use Rattle.chain_defs.specs.Cell.{pairs_data}
 use Rattle.log_file.proofs.genesis.all_pair_data.Given as goal
 
 abbrev pub invariant-transactions : goal.invariant-transactions

@@ -1,7 +1,7 @@
 use Rattle.std.proofs.Common.{sym, ap, ◌∙◌}
 use Rattle.std.specs.Prelude.{[], slice_get, unwrap_or}
 use Rattle.chain_defs.specs.Schema.{RawTransaction}
-use Rattle.cell_defs.specs.Cell.{holds_its_own, output_holds_its_own}
+use Rattle.chain_defs.specs.Cell.{holds_its_own, output_holds_its_own}
 use Rattle.chain_defs.proofs.WalkLemmas.{all-fails, all-goes-on}
 use Rattle.log_file.proofs.genesis.outputs_hold_their_own.Goals as goal
 

@@ -46,8 +46,12 @@ importing-preserved g c =
       kept = kept ∙ chain_more (items_in items) c.importing.i item within at c.args.opened.chain now c.importing.invariant.kept;
       unchanged = c.in-Ok.ensures.cause.unchanged (no_answer _ _) ∙ c.importing.invariant.unchanged;
       left = omega (arith, c.in-Ok.ensures.stepped.most, left, same, c.importing.invariant.left);
+      rising = omega (arith, c.in-Ok.ensures.stepped.exactly, c.importing.invariant.rising);
       within = omega (arith, c.importing-test.true);
     }
+
+pub returns-in-Err-clause-counted : goal.returns-in-Err-clause-counted
+returns-in-Err-clause-counted g c = λ whole. absurd (c.end_of_import.ensures.stopped whole)
 
 pub returns-in-Err-clause-fault : goal.returns-in-Err-clause-fault
 returns-in-Err-clause-fault g c =

@@ -12,5 +12,6 @@ invariant-importing g l = record {
   kept : l.node.chain ≡ chain_over l.fn.opened.chain (take l.i (items_in l.items));
   unchanged : g.D.Disk.faults l.disk ≡ g.D.Disk.faults l.fn.disk;
   left : l.steps + steps_over l.node.chain (drop l.i (items_in l.items)) ≤ l.fn.steps + steps_over l.fn.opened.chain (items_in l.items);
+  rising : l.fn.steps ≤ l.steps;
   within : l.i ≤ length l.items;
 }

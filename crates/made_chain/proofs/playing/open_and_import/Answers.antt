@@ -55,3 +55,10 @@ returns-in-Err-clause-fault g c =
 pub returns-in-Err-clause-steps : goal.returns-in-Err-clause-steps
 returns-in-Err-clause-steps g c = λ chain only.
     omega (arith, c.in-Err.ensures.most only.now only.told)
+
+pub returns-in-Ok-clause-opened : goal.returns-in-Ok-clause-opened
+returns-in-Ok-clause-opened g c = λ chain only whole.
+    omega (arith, c.in-Ok.ensures.exactly only.now only.told, c.import_items.ensures.counted whole)
+
+pub returns-in-Err-clause-opened : goal.returns-in-Err-clause-opened
+returns-in-Err-clause-opened g c = λ chain only whole. absurd (c.end_of_opening.ensures.stopped whole)

@@ -1,5 +1,6 @@
 use Rattle.std.proofs.Common.{◌+◌, ◌≤◌, List, ℕ, [], ◌∷◌, ◌++◌, map, take, refl, sym, subst, arith}
 use Rattle.outside.specs.Causes.{up_to_last}
+use Rattle.crashing.specs.Arming.{armed_faults}
 use Rattle.verdict_defs.specs.Chain.{chain_over}
 use Rattle.made_chain.specs.declared.outcome.End.{End}
 use Rattle.made_chain.specs.Sessions.{items_of, Outcome, IsKeptAfter, fault_ends}
@@ -42,7 +43,7 @@ playing-preserved g c =
       outcomes = inv.outcomes ++ outcome ∷ [];
       acked_are = acked_more inv.outcomes outcome c.playing.acked.items c.push.new.self.items c.in_ok-push.ensures.items inv.acked_are;
       ends_are = ends_more inv.outcomes outcome c.playing.ends.items c.push-in-playing.new.self.items c.in_ok-push-2.ensures.items inv.ends_are;
-      are = next_session g.D.Disk.content_of g.D.Disk.reads_as g.D.Disk.images g.D.Disk.faults g.D.Crashing.armed c.args.sessions.now c.playing.i session inv.outcomes outcome
+      are = next_session g.D.Disk.content_of g.D.Disk.reads_as g.D.Disk.images g.D.Disk.faults g.D.Crashing.picks c.args.sessions.now c.playing.i session inv.outcomes outcome
           c.args.disk.now c.playing.disk c.session-count.new.disk c.args.steps.now c.playing.steps c.session-count.new.steps
           (omega (arith, c.playing-test.true)) c.index-sessions-i.is inv.are c.session-count.ensures.session;
       sound = (chain_over inv.sound.0 (take made.0 (items_of session)), made.2);
@@ -59,24 +60,24 @@ returns-clause-played g c =
       outcomes = inv.outcomes;
       acked_are = inv.acked_are;
       ends_are = inv.ends_are;
-      are = all_sessions g.D.Disk.content_of g.D.Disk.reads_as g.D.Disk.images g.D.Disk.faults g.D.Crashing.armed c.args.sessions.now c.playing.i inv.outcomes c.args.disk.now c.playing.disk
+      are = all_sessions g.D.Disk.content_of g.D.Disk.reads_as g.D.Disk.images g.D.Disk.faults g.D.Crashing.picks c.args.sessions.now c.playing.i inv.outcomes c.args.disk.now c.playing.disk
           c.args.steps.now c.playing.steps (omega (arith, c.playing-test.false)) inv.are;
     }
 
 pub returns-clause-kept : goal.returns-clause-kept
 returns-clause-kept g c = λ chain only.
     let inv = c.playing.invariant in
-    let are = all_sessions g.D.Disk.content_of g.D.Disk.reads_as g.D.Disk.images g.D.Disk.faults g.D.Crashing.armed c.args.sessions.now c.playing.i inv.outcomes c.args.disk.now c.playing.disk
+    let are = all_sessions g.D.Disk.content_of g.D.Disk.reads_as g.D.Disk.images g.D.Disk.faults g.D.Crashing.picks c.args.sessions.now c.playing.i inv.outcomes c.args.disk.now c.playing.disk
     c.args.steps.now c.playing.steps (omega (arith, c.playing-test.false)) inv.are in
-    let kept = kept_after g.D.Disk.content_of g.D.Disk.reads_as g.D.Disk.images g.D.Disk.faults g.D.Crashing.armed c.args.sessions.now inv.outcomes c.args.disk.now c.playing.disk
+    let kept = kept_after g.D.Disk.content_of g.D.Disk.reads_as g.D.Disk.images g.D.Disk.faults g.D.Crashing.picks c.args.sessions.now inv.outcomes c.args.disk.now c.playing.disk
     c.args.steps.now c.playing.steps are chain only in
     (kept.0, subst (λ (acked : List ℕ). IsKeptAfter chain (map items_of c.args.sessions.now) acked kept.0) (sym inv.acked_are) kept.1, kept.2)
 
 pub returns-clause-faults : goal.returns-clause-faults
 returns-clause-faults g c =
     let inv = c.playing.invariant in
-    let are = all_sessions g.D.Disk.content_of g.D.Disk.reads_as g.D.Disk.images g.D.Disk.faults g.D.Crashing.armed c.args.sessions.now c.playing.i inv.outcomes c.args.disk.now c.playing.disk
+    let are = all_sessions g.D.Disk.content_of g.D.Disk.reads_as g.D.Disk.images g.D.Disk.faults g.D.Crashing.picks c.args.sessions.now c.playing.i inv.outcomes c.args.disk.now c.playing.disk
     c.args.steps.now c.playing.steps (omega (arith, c.playing-test.false)) inv.are in
-    subst (λ (ends : List End). up_to_last (g.D.Disk.faults c.args.disk.now + fault_ends ends) ≤ g.D.Disk.faults c.playing.disk) (sym inv.ends_are)
-    (faults_after g.D.Disk.content_of g.D.Disk.reads_as g.D.Disk.images g.D.Disk.faults g.D.Crashing.armed c.args.sessions.now inv.outcomes c.args.disk.now c.playing.disk
+    subst (λ (ends : List End). up_to_last (armed_faults g.D.Disk.faults c.args.disk.now + fault_ends ends) ≤ armed_faults g.D.Disk.faults c.playing.disk) (sym inv.ends_are)
+    (faults_after g.D.Disk.content_of g.D.Disk.reads_as g.D.Disk.images g.D.Disk.faults g.D.Crashing.picks c.args.sessions.now inv.outcomes c.args.disk.now c.playing.disk
     c.args.steps.now c.playing.steps are)

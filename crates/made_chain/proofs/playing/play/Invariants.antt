@@ -8,8 +8,8 @@ invariant-playing g l = record {
   outcomes : List Outcome;
   acked_are : l.acked.items ≡ map (λ (outcome : Outcome). outcome.acked) outcomes;
   ends_are : l.ends.items ≡ map (λ (outcome : Outcome). outcome.end) outcomes;
-  are : AreSessions g.D.Disk.content_of g.D.Disk.reads_as g.D.Disk.images g.D.Disk.faults g.D.Crashing.armed (take l.i l.sessions) outcomes l.fn.disk l.disk l.fn.steps l.steps;
-  sound : HasSoundImage (g.D.Disk.reads_as l.disk) (g.D.Disk.images l.disk);
+  are : AreSessions g.D.Disk.content_of g.D.Disk.reads_as g.D.Disk.images g.D.Disk.faults g.D.Crashing.picks (take l.i l.sessions) outcomes l.fn.disk l.disk l.fn.steps l.steps;
+  sound : HasSoundImage (g.D.Disk.reads_as l.disk.disk) (g.D.Disk.images l.disk.disk);
   acked_len : vec_len l.acked ≡ l.i;
   ends_len : vec_len l.ends ≡ l.i;
   acked_room : length l.sessions ≤ vec_capacity l.acked;

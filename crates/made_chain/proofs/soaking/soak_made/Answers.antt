@@ -1,6 +1,6 @@
 use Rattle.std.proofs.Common.{List, ℕ, Some, subst, arith}
 use Rattle.std.proofs.lemmas.Result.{IfOk-weaker}
-use Rattle.outside_mem.specs.MemoryDisk.{Recording, reads, MayLeave, disk_faults}
+use Rattle.outside_mem.specs.MemoryDisk.{Recording, reads, MayLeave, IsPick, disk_faults}
 use Rattle.made_chain.specs.Soak.{IsSoaked}
 use Rattle.made_chain.specs.Sessions.{items_in}
 use Rattle.made_chain.proofs.SoakLemmas.{counts-generated, as-many-generated}
@@ -18,6 +18,6 @@ returns g c =
       counts = counts-generated c.soak_laws.ensures.generated_name_no_later c.args.seed c.args.count made.spec.items made.genesis.items (items_in made.blocks.items)
           c.soak_on.result c.in_ok-made.ensures.spec c.in_ok-made.ensures.genesis c.in_ok-made.ensures.blocks c.soak_on.ensures.counts;
       soaked = IfOk-weaker c.soak_on.result _ _ (λ counts soaked. subst (λ (items : List (List ℕ)).
-          IsSoaked (λ (disk : Recording). disk.steps) (λ disk. Some (reads disk.steps)) (λ disk. MayLeave disk.steps) disk_faults (λ disk. disk.plan.armed) c.args.seed items)
+          IsSoaked (λ (disk : Recording). disk.steps) (λ disk. Some (reads disk.steps)) (λ disk. MayLeave disk.steps) disk_faults (λ disk. IsPick disk.steps) c.args.seed items)
           c.in_ok-made.ensures.blocks soaked) c.soak_on.ensures.soaked;
     }

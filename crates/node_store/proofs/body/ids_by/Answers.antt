@@ -1,6 +1,6 @@
 use Rattle.std.proofs.Common.{◌≡◌, ◌<◌, ℕ, List, [], length, take, get_or, Some, arith}
 use Rattle.std.proofs.lemmas.Option.{slice_get-get_or, get_or_from_slice_get}
-use Rattle.cell_model.proofs.ListLemmas.{one_image_more, all_images}
+use Rattle.cell_state.proofs.ListBlockLemmas.{one_image_more, all_images}
 use Rattle.node_store.proofs.body.ids_by.Goals as goal
 
 pub later-preserved : goal.later-preserved

@@ -1,7 +1,7 @@
 use Rattle.std.proofs.Common.{take, ap, ◌∙◌, arith}
 use Rattle.std.proofs.lemmas.Option.{slice_get_within, get_or_from_slice_get}
 use Rattle.chain_defs.specs.Hashes.{proposal_id}
-use Rattle.cell_model.proofs.ListLemmas.{one_image_more, all_images}
+use Rattle.cell_state.proofs.ListBlockLemmas.{one_image_more, all_images}
 use Rattle.node_store.proofs.body.proposal_ids.Goals as goal
 
 pub later-preserved : goal.later-preserved

@@ -1,6 +1,6 @@
 use Rattle.std.proofs.Common.{◌≡◌, ◌++◌, map, drop}
 use Rattle.chain_defs.specs.Hashes.{proposal_id}
-use Rattle.cell_model.specs.ListBlocks.{ids_of}
+use Rattle.cell_state.specs.ListBlocks.{ids_of}
 use Rattle.node_store.proofs.body.proposal_ids.Given as goal
 
 abbrev pub invariant-later : goal.invariant-later

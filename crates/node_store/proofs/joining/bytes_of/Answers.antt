@@ -1,5 +1,5 @@
 use Rattle.std.proofs.Common.{ap, arith, length}
-use Rattle.cell_defs.specs.Ext.{Ext}
+use Rattle.chain_defs.specs.Ext.{Ext}
 use Rattle.node_store.proofs.WritingLemmas.{counts_fees}
 use Rattle.node_store.proofs.joining.bytes_of.Goals as goal
 

@@ -4,7 +4,7 @@ use Rattle.outside.proofs.Endings.{handed, no_answer, no_memory, memory_undamage
 use Rattle.outside.proofs.Moments.{started, leaves_also, now_too}
 use Rattle.outside.specs.declared.disk.Area.TheVariants.{Log}
 use Rattle.chain_defs.proofs.KeptLaws.{place_of-below}
-use Rattle.cell_defs.specs.Ext.{ext_bytes, is_ext, count_at}
+use Rattle.chain_defs.specs.Ext.{ext_bytes, is_ext, count_at}
 use Rattle.verdict_defs.specs.Chain.{Chain, chain_after}
 use Rattle.store_defs.specs.JoinLaws.{record_over}
 use Rattle.log_file.specs.Pieces.{after_gate, block_record}

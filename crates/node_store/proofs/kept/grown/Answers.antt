@@ -1,9 +1,9 @@
 use Rattle.std.proofs.Common.{◌∙◌, arith}
-use Rattle.cell_defs.specs.Events.{events_of_block}
+use Rattle.chain_defs.specs.Events.{events_of_block}
 use Rattle.cell_state.specs.State.{rows}
-use Rattle.cell_defs.specs.Fit.{are_live}
-use Rattle.cell_defs.proofs.FitLemmas.{found-same}
-use Rattle.cell_defs.specs.Row.{row_after}
+use Rattle.chain_defs.specs.Fit.{are_live}
+use Rattle.chain_defs.proofs.FitLemmas.{found-same}
+use Rattle.chain_defs.specs.Row.{row_after}
 use Rattle.cell_state.proofs.FitLemmas.{none-odd}
 use Rattle.cell_state.proofs.BelowLemmas.{below-same, after-below}
 use Rattle.outside.proofs.Endings.{no_answer, no_memory, no_damage, memory_undamaged}

@@ -1,5 +1,5 @@
 use Rattle.std.proofs.Common.{arith}
-use Rattle.cell_model.proofs.ExtLemmas.{fees-within}
+use Rattle.cell_state.proofs.ExtLemmas.{fees-within}
 use Rattle.rewards.proofs.fees.fee_count.Goals as goal
 
 pub slice_bounds-four-end : goal.slice_bounds-four-end

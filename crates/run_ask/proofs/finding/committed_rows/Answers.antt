@@ -1,9 +1,9 @@
-use Rattle.std.proofs.Common.{◌≡◌, subst}
+use Rattle.std.proofs.Common.{subst}
 use Rattle.std.specs.Prelude.{IfOk}
 use Rattle.chain_defs.specs.Tip.{best_branch}
 use Rattle.node_store.specs.Node.{NodeValue}
 use Rattle.node_store.proofs.RecordedLemmas.{read-here, leaves-all}
-use Rattle.transaction_index.specs.Rows.{rows_of}
+use Rattle.run_ask.specs.Finding.{AreRowsOf}
 use Rattle.run_ask.proofs.finding.committed_rows.Goals as goal
 
 pub committed_rows-requires : goal.committed_rows-requires
@@ -20,7 +20,7 @@ returns-clause-left g c =
 
 pub returns-clause-rows : goal.returns-clause-rows
 returns-clause-rows g c = λ some.
-    subst (λ (node : NodeValue). IfOk c.committed_rows.result (λ rows. rows.items ≡ rows_of (best_branch node.chain.blocks))) c.node.view_is
+    subst (λ (node : NodeValue). IfOk c.committed_rows.result (λ rows. AreRowsOf (best_branch node.chain.blocks) rows.items)) c.node.view_is
     (c.committed_rows.ensures.rows some)
 
 pub returns-clause-undamaged : goal.returns-clause-undamaged

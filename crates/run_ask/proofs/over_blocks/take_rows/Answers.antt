@@ -1,6 +1,6 @@
-use Rattle.std.proofs.Common.{◌≡◌, ◌++◌, List, Some, ap, ◌∙◌}
+use Rattle.std.proofs.Common.{◌≡◌, ℕ, ◌++◌, List, Some, ap, ◌∙◌}
 use Rattle.outside.proofs.Endings.{handed, no_answer, memory_undamaged}
-use Rattle.chain_defs.specs.Schema.{Block, Header}
+use Rattle.chain_defs.specs.Schema.{Block}
 use Rattle.chain_defs.specs.Kept.{block_at}
 use Rattle.chain_tree.specs.Told.{blocks_of}
 use Rattle.chain_tree.proofs.ReadLemmas.{read_short}
@@ -40,7 +40,7 @@ returns-in-Ok-push_rows-clause-added g c = λ tells.
       c.block-block.result,
       there,
       c.in-Ok-push_rows.ensures
-          ∙ (λ i. c.args.rows.now.items ++ rows_from ((c.number.ensures ∙ ap (λ (header : Header). header.number) c.header.ensures) i) 0 ((c.deref.ensures.value ∙ c.in-Ok-transaction_hashes.ensures.hashes) i)),
+          ∙ ap (λ (hashes : List (List ℕ)). c.args.rows.now.items ++ rows_from c.args.number 0 hashes) (c.deref.ensures.value ∙ c.in-Ok-transaction_hashes.ensures.hashes),
     )
 
 pub returns-clause-read : goal.returns-clause-read

@@ -2,7 +2,7 @@ use Rattle.std.proofs.Common.{List, sym, ap, ◌∙◌, subst}
 use Rattle.std.specs.List.{filter}
 use Rattle.chain_defs.specs.Schema.{OutPoint}
 use Rattle.cell_state.specs.State.{StateValue, rows}
-use Rattle.cell_defs.specs.Row.{Row, ListsRows}
+use Rattle.chain_defs.specs.Row.{Row, ListsRows}
 use Rattle.run_query.specs.Queries.{is_of}
 use Rattle.run_query.proofs.ListLemmas.{kept-by-lock, listed-at-tip}
 use Rattle.run_query.proofs.list.find_cells.Goals as goal

@@ -1,5 +1,5 @@
 use Rattle.std.proofs.Common.{◌≡◌, ◌≤◌, ◌+◌, ◌*◌, ◌^◌, drop}
-use Rattle.cell_defs.specs.ByLock.{capacity_of}
+use Rattle.chain_defs.specs.ByLock.{capacity_of}
 use Rattle.run_query.proofs.list.held_by.Given as goal
 
 abbrev pub invariant-cells : goal.invariant-cells

@@ -2,8 +2,8 @@ use Rattle.std.proofs.Common.{◌≡◌, ℕ, ◌-◌, List, Some, if◌then◌e
 use Rattle.std.specs.HashMap.{get}
 use Rattle.std.specs.Map.{lookup}
 use Rattle.std.specs.Str.{bytes_eq}
-use Rattle.cell_defs.specs.Row.{Row}
-use Rattle.cell_model.specs.Copies.{ResolvedValue}
+use Rattle.chain_defs.specs.Row.{Row}
+use Rattle.cell_state.specs.Copies.{ResolvedValue}
 use Rattle.script_run.specs.Locating.{first_with_data}
 use Rattle.script_run.proofs.CodeLemmas.{data-more, data-none, all-behind}
 use Rattle.script_run.proofs.codes.places_by_data.Goals as goal

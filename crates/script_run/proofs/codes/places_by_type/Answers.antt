@@ -3,8 +3,8 @@ use Rattle.std.specs.HashMap.{get}
 use Rattle.std.specs.Map.{lookup}
 use Rattle.std.specs.Option.{option_copied}
 use Rattle.std.specs.Str.{bytes_eq}
-use Rattle.cell_defs.specs.Row.{Row}
-use Rattle.cell_model.specs.Copies.{ResolvedValue}
+use Rattle.chain_defs.specs.Row.{Row}
+use Rattle.cell_state.specs.Copies.{ResolvedValue}
 use Rattle.script_run.specs.Locating.{typed_with}
 use Rattle.script_run.proofs.CodeLemmas.{type-more, type-none, type-within, many-none, many-some, inserted-type, untyped-before, all-behind}
 use Rattle.script_run.proofs.codes.places_by_type.Goals as goal

@@ -2,7 +2,7 @@ use Rattle.std.proofs.Common.{◌≡◌, ℕ, List, Some, ap, sym, subst, ◌∙
 use Rattle.chain_defs.specs.Shape.{IsEncoding}
 use Rattle.chain_defs.specs.Schema.{cell_output}
 use Rattle.chain_defs.proofs.ShapeLaws.{IsEncoding-decoded}
-use Rattle.cell_model.specs.Copies.{ResolvedValue}
+use Rattle.cell_state.specs.Copies.{ResolvedValue}
 use Rattle.script_run.proofs.FitLemmas.{output-of}
 use Rattle.script_run.proofs.fitting.output_of.Goals as goal
 

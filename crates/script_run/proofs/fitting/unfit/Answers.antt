@@ -1,6 +1,6 @@
 use Rattle.std.proofs.Common.{◌≡◌, length, ap, sym, ◌∙◌, arith}
 use Rattle.chain_defs.specs.Schema.{RawTransaction}
-use Rattle.cell_model.specs.Copies.{ResolvedTxValue}
+use Rattle.cell_state.specs.Copies.{ResolvedTxValue}
 use Rattle.script_run.specs.Fitting.{unkept, untyped}
 use Rattle.script_run.proofs.FitLemmas.{unfit-uncopied, unfit-inputs, unfit-deps, unfit-headers}
 use Rattle.script_run.proofs.fitting.unfit.Goals as goal

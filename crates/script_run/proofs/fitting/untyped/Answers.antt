@@ -1,6 +1,6 @@
 use Rattle.std.proofs.Common.{◌≡◌, Some, true, false, ap, sym, ◌∙◌, arith}
-use Rattle.cell_defs.specs.Row.{Row}
-use Rattle.cell_model.specs.Copies.{ResolvedValue}
+use Rattle.chain_defs.specs.Row.{Row}
+use Rattle.cell_state.specs.Copies.{ResolvedValue}
 use Rattle.script_run.specs.Fitting.{record_of}
 use Rattle.script_run.proofs.FitLemmas.{untyped-at, untyped-end}
 use Rattle.script_run.proofs.fitting.untyped.Goals as goal

@@ -1,6 +1,6 @@
 use Rattle.std.proofs.Common.{◌≡◌, [], List, map, ap, sym, ◌∙◌, subst}
 use Rattle.std.specs.List.{AllZip}
-use Rattle.cell_model.specs.Copies.{ResolvedValue, ResolvedTxValue}
+use Rattle.cell_state.specs.Copies.{ResolvedValue, ResolvedTxValue}
 use Rattle.script_run.specs.Shown.{IsShownAs, ShownTxValue}
 use Rattle.script_run.proofs.GroupLemmas.{lock_given, type_given, type_made, groups-are, groups-hashed}
 use Rattle.script_run.proofs.groups.groups_of.Goals as goal

@@ -1,6 +1,6 @@
 use Rattle.std.proofs.Common.{Option, ap, subst, sym, ◌∙◌}
 use Rattle.std.specs.Option.{option_map}
-use Rattle.cell_model.specs.Copies.{ResolvedTxValue}
+use Rattle.cell_state.specs.Copies.{ResolvedTxValue}
 use Rattle.machine_defs.specs.World.{Call}
 use Rattle.verdict_defs.specs.Items.{cell_at, listed}
 use Rattle.script_run.specs.declared.bytes.CellPart.{CellPart}

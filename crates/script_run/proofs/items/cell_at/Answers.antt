@@ -2,9 +2,9 @@ use Rattle.std.proofs.Common.{◌≡◌, List, Option, Some, ap, subst, sym, ◌
 use Rattle.std.specs.List.{AllZip}
 use Rattle.std.specs.Option.{option_map, option_and_then}
 use Rattle.std.specs.Prelude.{slice_get}
-use Rattle.cell_defs.specs.Cell.{data_of}
+use Rattle.chain_defs.specs.Cell.{data_of}
 use Rattle.chain_defs.specs.Schema.{CellOutput, Transaction}
-use Rattle.cell_model.specs.Copies.{ResolvedValue, ResolvedTxValue}
+use Rattle.cell_state.specs.Copies.{ResolvedValue, ResolvedTxValue}
 use Rattle.verdict_defs.specs.Items.{OutputWithData, answer, cell_at, item_at, output_of}
 use Rattle.script_run.specs.declared.sources.Place.{Place}
 use Rattle.script_run.specs.Lookups.{cell_part}

@@ -3,7 +3,7 @@ use Rattle.std.specs.Option.{option_map}
 use Rattle.chain_defs.specs.Shape.{encoded}
 use Rattle.chain_defs.specs.Schema.{script, transaction}
 use Rattle.chain_defs.specs.Hashes.{transaction_hash}
-use Rattle.cell_model.specs.Copies.{ResolvedTxValue}
+use Rattle.cell_state.specs.Copies.{ResolvedTxValue}
 use Rattle.machine_defs.specs.World.{Here}
 use Rattle.verdict_defs.specs.Items.{header_at, listed}
 use Rattle.script_run.specs.Lookups.{IsOfKept, ShowsHeaders, header_part}

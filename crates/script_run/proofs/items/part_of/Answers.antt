@@ -2,7 +2,8 @@ use Rattle.std.proofs.Common.{◌≡◌, Some, ap, sym, ◌∙◌, rules}
 use Rattle.std.specs.Option.{option_map}
 use Rattle.chain_defs.specs.Shape.{encoded}
 use Rattle.chain_defs.specs.Schema.{CellOutput, cell_output, script}
-use Rattle.cell_defs.specs.Cell.{occupied_by}
+use Rattle.chain_defs.specs.Cell.{occupied_by}
+use Rattle.chain_defs.specs.Row.{Row}
 use Rattle.verdict_defs.specs.Items.{u64_bytes}
 use Rattle.script_run.specs.declared.bytes.CellPart.TheVariants.{Output, Data, Capacity, Lock, TypeScript, Occupied}
 use Rattle.script_run.proofs.LookLemmas.{part-here}
@@ -42,10 +43,9 @@ returns-in-Some c cell output content row =
 
 pub returns-in-Occupied : goal.returns-in-Occupied
 returns-in-Occupied c cell output content row =
-    let bytes : u64_bytes (occupied_by c.args.output.now c.args.content.now) ≡ u64_bytes (occupied_by cell.output cell.content) =
-    λ t. u64_bytes (occupied_by (output t) (content t)) in
-    part-here cell c.args.part Occupied (u64_bytes (occupied_by c.args.output.now c.args.content.now)) c.in-Occupied.is (ap Some (sym bytes))
-    ∙ c.occupied.ensures
+    let same : c.row.inside.occupied ≡ occupied_by cell.output cell.content = ap (λ (r : Row). r.occupied) c.row.view_is ∙ row.occupied in
+    part-here cell c.args.part Occupied (u64_bytes c.row.inside.occupied) c.in-Occupied.is (ap (λ n. Some (u64_bytes n)) (sym same))
+    ∙ c.number-in-Occupied.ensures
 
 pub returns-in-None-type_hash : goal.returns-in-None-type_hash
 returns-in-None-type_hash c = search rules

@@ -1,10 +1,10 @@
 use Rattle.std.proofs.Common.{◌≡◌, Some, refl, arith, ap, sym, ◌∙◌, subst}
 use Rattle.std.specs.Prelude.{slice_get, IsTrue}
 use Rattle.std.proofs.lemmas.Option.{slice_get_past, slice_get_read}
-use Rattle.cell_model.specs.Copies.{ResolvedValue}
+use Rattle.cell_state.specs.Copies.{ResolvedValue}
 use Rattle.verdict_defs.specs.Items.{output_of}
 use Rattle.script_run.specs.Fitting.{is_typed}
-use Rattle.script_run.proofs.LookLemmas.{none-there, shown-copy, row-has-hashes, same-output}
+use Rattle.script_run.proofs.LookLemmas.{none-there, shown-copy, row-tells-output, same-output}
 use Rattle.script_run.proofs.items.part_of_copy.Goals as goal
 
 pub returns-then-i-copies : goal.returns-then-i-copies
@@ -19,4 +19,4 @@ returns c cells zip =
     let content : c.deref.result.now ≡ c.index-copies-i.result.content = c.deref.ensures.value ∙ ap (λ (r : ResolvedValue). r.content) c.copy.view_is in
     shown-copy cells c.args.copies.now c.args.i c.index-copies-i.result c.args.part c.part_of.result zip here
     (λ cell is. c.part_of.ensures (output_of cell) (same-output c.index-copies-i.result cell c.output_of.result is c.output_of.ensures) (content ∙ is.content)
-    (row-has-hashes c.index-copies-i.result c.copy.inside.meta cell (ap (λ (r : ResolvedValue). r.row) c.copy.view_is) is))
+    (row-tells-output c.index-copies-i.result c.copy.inside.meta cell (ap (λ (r : ResolvedValue). r.row) c.copy.view_is) is))

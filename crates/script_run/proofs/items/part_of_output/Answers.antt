@@ -1,12 +1,12 @@
 use Rattle.std.proofs.Common.{◌≡◌, ◌≤◌, List, length, get_or, refl, ap, ◌∙◌, arith}
 use Rattle.std.specs.Option.{option_map}
 use Rattle.std.proofs.lemmas.Option.{slice_get_past}
-use Rattle.cell_defs.specs.Cell.{data_of}
-use Rattle.cell_defs.specs.Row.{Row}
+use Rattle.chain_defs.specs.Cell.{data_of}
+use Rattle.chain_defs.specs.Row.{Row}
 use Rattle.verdict_defs.specs.Items.{answer}
 use Rattle.script_run.specs.Lookups.{cell_part}
 use Rattle.script_run.specs.Shown.{output_rows}
-use Rattle.script_run.proofs.LookLemmas.{as-many-rows, its-row, row-hashes, one-there}
+use Rattle.script_run.proofs.LookLemmas.{as-many-rows, its-row, own-row-tells, one-there}
 use Rattle.script_run.proofs.items.part_of_output.Goals as goal
 
 pub returns-then-i-rows : goal.returns-then-i-rows
@@ -25,4 +25,4 @@ returns c =
     let its : c.index-rows-i.result ≡ get_or (output_rows c.args.tx.now) c.args.i c.index-rows-i.result =
     c.index-rows-i.is ∙ ap (λ (rows : List Row). get_or rows c.args.i c.index-rows-i.result) c.requires in
     one-there (λ it. cell_part c.args.part (record { output = it; content = data_of tx c.args.i })) tx.raw.outputs c.args.i output c.output_at-output.ensures
-    ∙ c.part_of.ensures (record { output = output; content = data_of tx c.args.i }) refl c.data_at.ensures.«data» (row-hashes tx c.args.i output row (its-row tx c.args.i output row c.output_at-output.ensures its))
+    ∙ c.part_of.ensures (record { output = output; content = data_of tx c.args.i }) refl c.data_at.ensures.«data» (own-row-tells tx c.args.i output row (its-row tx c.args.i output row c.output_at-output.ensures its))

@@ -2,7 +2,7 @@ use Rattle.std.proofs.Common.{◌≡◌, ℕ, List, Option, Some, ap, sym, ◌�
 use Rattle.std.specs.Prelude.{slice_get}
 use Rattle.std.specs.Option.{option_map}
 use Rattle.chain_defs.specs.Schema.{Transaction}
-use Rattle.cell_model.specs.Copies.{ResolvedTxValue}
+use Rattle.cell_state.specs.Copies.{ResolvedTxValue}
 use Rattle.machine_defs.specs.World.{Call}
 use Rattle.verdict_defs.specs.Items.{answer, witness_at}
 use Rattle.script_run.specs.declared.sources.Place.TheVariants.{Input, Output}

@@ -1,5 +1,5 @@
 use Rattle.std.proofs.Common.{◌≡◌, Err, refl, sym, ap, ◌∙◌}
-use Rattle.cell_model.specs.Copies.{ResolvedTxValue}
+use Rattle.cell_state.specs.Copies.{ResolvedTxValue}
 use Rattle.verdict_defs.specs.Codes.{NoCode, ManyCodes, code_of, is_type_id}
 use Rattle.script_run.specs.Shown.{GroupValue, ShownTxValue}
 use Rattle.script_run.proofs.ShowingLemmas.{shown-over}

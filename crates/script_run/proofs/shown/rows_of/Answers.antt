@@ -1,6 +1,6 @@
 use Rattle.std.proofs.Common.{◌≡◌, ℕ, List, length, ap, ◌∙◌, arith}
 use Rattle.chain_defs.specs.Schema.{RawTransaction}
-use Rattle.cell_defs.specs.Row.{row_of}
+use Rattle.chain_defs.specs.Row.{row_of}
 use Rattle.script_run.proofs.WalkLemmas.{row-more, rows-all}
 use Rattle.script_run.proofs.shown.rows_of.Goals as goal
 

@@ -1,6 +1,6 @@
 use Rattle.std.proofs.Common.{rules}
-use Rattle.cell_defs.specs.Ext.{row_bytes}
-use Rattle.cell_model.proofs.ExtLemmas.{one_put_more}
+use Rattle.chain_defs.specs.Ext.{row_bytes}
+use Rattle.cell_state.proofs.ExtLemmas.{one_put_more}
 use Rattle.snapshots.proofs.BodyLemmas.{one-more-fits}
 use Rattle.snapshots.proofs.body.put_rows.Goals as goal
 

@@ -1,7 +1,7 @@
 use Rattle.std.proofs.Common.{◌≡◌, ◌++◌, map, take}
 use Rattle.std.specs.List.{All, concat}
-use Rattle.cell_defs.specs.Ext.{row_bytes}
-use Rattle.cell_defs.specs.Fits.{FitsRow}
+use Rattle.chain_defs.specs.Ext.{row_bytes}
+use Rattle.chain_defs.specs.Fits.{FitsRow}
 use Rattle.snapshots.proofs.body.put_rows.Given as goal
 
 abbrev pub invariant-rows : goal.invariant-rows

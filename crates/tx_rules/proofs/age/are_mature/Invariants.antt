@@ -1,7 +1,7 @@
 use Rattle.std.proofs.Common.{◌≡◌, List, Option, map, drop}
 use Rattle.std.specs.List.{list_all}
 use Rattle.chain_defs.specs.Schema.{OutPoint}
-use Rattle.cell_defs.specs.Row.{Row}
+use Rattle.chain_defs.specs.Row.{Row}
 use Rattle.chain_tree.specs.Told.{Stored, blocks_of}
 use Rattle.rule_defs.specs.Site.{Site, Found}
 use Rattle.rule_defs.specs.Age.{is_mature}

@@ -1,7 +1,7 @@
 use Rattle.std.proofs.Common.{ℕ, refl, sym, ap, ◌∙◌, eqb}
 use Rattle.chain_defs.specs.Specification.{Specification}
 use Rattle.chain_defs.specs.Epochs.{is_span_over}
-use Rattle.cell_defs.specs.Row.{Row}
+use Rattle.chain_defs.specs.Row.{Row}
 use Rattle.rule_defs.specs.Site.{height_at}
 use Rattle.tx_rules.specs.At.{AtValue}
 use Rattle.outside.proofs.Endings.{handed}

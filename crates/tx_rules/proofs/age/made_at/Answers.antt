@@ -1,5 +1,5 @@
 use Rattle.std.proofs.Common.{length, sym, ap, ◌∙◌, arith}
-use Rattle.cell_defs.specs.Row.{Row}
+use Rattle.chain_defs.specs.Row.{Row}
 use Rattle.chain_tree.specs.Entries.{entry_at}
 use Rattle.tx_rules.specs.At.{AtValue}
 use Rattle.tx_rules.proofs.AgeLemmas.{made-own, made-past, made-kept}

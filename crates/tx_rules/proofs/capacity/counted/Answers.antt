@@ -4,8 +4,8 @@ use Rattle.std.proofs.lemmas.Bool.{and_parts}
 use Rattle.chain_defs.specs.Dao.{as_u64}
 use Rattle.chain_defs.specs.Branch.{branch_places}
 use Rattle.chain_tree.specs.Told.{blocks_of}
-use Rattle.cell_defs.specs.Row.{Row}
-use Rattle.cell_model.specs.Copies.{ResolvedValue}
+use Rattle.chain_defs.specs.Row.{Row}
+use Rattle.cell_state.specs.Copies.{ResolvedValue}
 use Rattle.rule_defs.specs.Resolving.{heights}
 use Rattle.rule_defs.specs.Withdrawals.{is_dao_script, has_withdrawing_data, is_withdrawing, deposit_height}
 use Rattle.rule_defs.specs.Capacity.{counted}

@@ -1,8 +1,8 @@
 use Rattle.std.proofs.Common.{ℕ, length, ap, ◌∙◌, arith}
 use Rattle.std.specs.Prelude.{pos}
 use Rattle.chain_defs.specs.Dao.{counted_capacity, as_u64}
-use Rattle.cell_defs.specs.Cell.{occupied_by}
-use Rattle.cell_defs.specs.Row.{Row}
+use Rattle.chain_defs.specs.Cell.{occupied_by}
+use Rattle.chain_defs.specs.Row.{Row}
 use Rattle.rule_defs.specs.Capacity.{rate_at}
 use Rattle.tx_rules.specs.At.{AtValue}
 use Rattle.tx_rules.proofs.MoneyLemmas.{rate-same, made-below, made-place, made-holds, four-same}

@@ -4,8 +4,8 @@ use Rattle.std.specs.List.{AllZip}
 use Rattle.std.proofs.lemmas.List.{take_all, length-set}
 use Rattle.std.proofs.lemmas.Option.{slice_get_read}
 use Rattle.chain_defs.specs.Schema.{OutPoint}
-use Rattle.cell_defs.specs.Row.{Row}
-use Rattle.cell_model.specs.Copies.{ResolvedValue}
+use Rattle.chain_defs.specs.Row.{Row}
+use Rattle.cell_state.specs.Copies.{ResolvedValue}
 use Rattle.chain_tree.specs.Told.{Stored}
 use Rattle.tx_rules.specs.Copying.{AreRowsCopied, IsCopyOfRow}
 use Rattle.outside.proofs.Endings.{no_answer, memory_undamaged, handed}

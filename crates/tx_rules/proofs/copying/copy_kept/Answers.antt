@@ -1,7 +1,7 @@
 use Rattle.std.proofs.Common.{◌≡◌, Some, Err, ap, ◌∙◌, subst, rules}
 use Rattle.chain_defs.specs.Schema.{Block}
-use Rattle.cell_model.specs.Copies.{CopiesOutput, output_in}
-use Rattle.cell_model.proofs.CopyLemmas.{named_output, in-hand}
+use Rattle.cell_state.specs.Copies.{CopiesOutput, output_in}
+use Rattle.cell_state.proofs.CopyLemmas.{named_output, in-hand}
 use Rattle.outside.proofs.Endings.{is_told, handed, no_answer}
 use Rattle.chain_tree.proofs.ReadLemmas.{read_on}
 use Rattle.tx_rules.proofs.copying.copy_kept.Goals as goal

@@ -1,6 +1,6 @@
 use Rattle.std.proofs.Common.{◌≡◌, Some, refl, ◌∙◌}
-use Rattle.cell_defs.specs.Cell.{Cell}
-use Rattle.cell_model.proofs.CopyLemmas.{copies, same_output}
+use Rattle.chain_defs.specs.Cell.{Cell}
+use Rattle.cell_state.proofs.CopyLemmas.{copies, same_output}
 use Rattle.outside.proofs.Endings.{no_answer, no_memory, memory_undamaged}
 use Rattle.tx_rules.proofs.copying.copy_read.Goals as goal
 

@@ -5,7 +5,7 @@ use Rattle.std.proofs.lemmas.List.{take_at}
 use Rattle.std.proofs.lemmas.List.Elements.{All-same}
 use Rattle.std.proofs.lemmas.Result.{IfOk-weaker}
 use Rattle.chain_tree.specs.Told.{Stored, blocks_of}
-use Rattle.cell_model.specs.Copies.{ResolvedValue}
+use Rattle.cell_state.specs.Copies.{ResolvedValue}
 use Rattle.tx_rules.specs.Copying.{AreRowsCopied, CopiesItsRow, HoldsOutput, IsCopyOfRow, ServesAgain, row_in}
 use Rattle.tx_rules.specs.Outcome.{Copies}
 use Rattle.outside.proofs.Endings.{memory_undamaged, handed}

@@ -1,6 +1,6 @@
 use Rattle.std.proofs.Common.{◌≡◌, List, length, take, drop, ◌++◌, Option, None, ap, sym, subst, ◌∙◌, arith}
 use Rattle.std.proofs.lemmas.List.{take_at, length-replicate}
-use Rattle.cell_model.specs.Copies.{ResolvedValue}
+use Rattle.cell_state.specs.Copies.{ResolvedValue}
 use Rattle.tx_rules.specs.Copying.{AreRowsCopied}
 use Rattle.tx_rules.proofs.TakenLemmas.{taken-none}
 use Rattle.tx_rules.proofs.copying.taken_before.Goals as goal

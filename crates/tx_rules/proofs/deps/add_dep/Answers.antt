@@ -4,7 +4,7 @@ use Rattle.std.specs.Option.{option_map}
 use Rattle.std.proofs.lemmas.Bool.{ne_eqb}
 use Rattle.chain_defs.specs.Schema.{OutPoint}
 use Rattle.chain_tree.specs.Told.{blocks_of}
-use Rattle.cell_defs.specs.Row.{Row}
+use Rattle.chain_defs.specs.Row.{Row}
 use Rattle.rule_defs.specs.Site.{Found}
 use Rattle.rule_defs.specs.Resolving.{cells_of_dep}
 use Rattle.tx_rules.specs.At.{found_row, find_row}

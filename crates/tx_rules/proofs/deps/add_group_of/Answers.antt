@@ -1,7 +1,7 @@
 use Rattle.std.proofs.Common.{◌≡◌, Option, Some, Err, length, ap, ◌∙◌, arith}
 use Rattle.chain_defs.specs.Schema.{OutPoint}
-use Rattle.cell_defs.specs.Row.{Row}
-use Rattle.cell_model.specs.Copies.{NamesOutput, output_in}
+use Rattle.chain_defs.specs.Row.{Row}
+use Rattle.cell_state.specs.Copies.{NamesOutput, output_in}
 use Rattle.tx_rules.specs.At.{AtValue}
 use Rattle.tx_rules.proofs.SiteLemmas.{IsOwnRow, output-of}
 use Rattle.tx_rules.proofs.DepLemmas.{kept-names, own-row}

@@ -1,8 +1,8 @@
 use Rattle.std.proofs.Common.{◌≡◌, Some, Err, ap, ◌∙◌}
 use Rattle.chain_defs.specs.Schema.{Block}
-use Rattle.cell_defs.specs.Row.{Row}
-use Rattle.cell_model.specs.Copies.{output_in}
-use Rattle.cell_model.proofs.CopyLemmas.{named_output, in-hand}
+use Rattle.chain_defs.specs.Row.{Row}
+use Rattle.cell_state.specs.Copies.{output_in}
+use Rattle.cell_state.proofs.CopyLemmas.{named_output, in-hand}
 use Rattle.outside.proofs.Endings.{handed, is_told, no_answer}
 use Rattle.chain_tree.proofs.ReadLemmas.{read_on}
 use Rattle.tx_rules.proofs.deps.add_kept_group.Goals as goal

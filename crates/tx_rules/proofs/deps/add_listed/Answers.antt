@@ -2,7 +2,7 @@ use Rattle.std.proofs.Common.{◌++◌, Some, List, ap, sym, ◌∙◌, map, app
 use Rattle.std.specs.Option.{option_map}
 use Rattle.std.proofs.lemmas.List.{take_all}
 use Rattle.chain_defs.specs.Schema.{OutPoint}
-use Rattle.cell_defs.specs.Row.{Row}
+use Rattle.chain_defs.specs.Row.{Row}
 use Rattle.rule_defs.specs.Site.{all_there}
 use Rattle.tx_rules.specs.At.{find_row}
 use Rattle.tx_rules.proofs.AllThere.{there-more-behind, there-none}

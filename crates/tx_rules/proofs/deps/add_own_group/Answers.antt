@@ -1,7 +1,7 @@
 use Rattle.std.proofs.Common.{◌≡◌, Some, sym, ap, ◌∙◌}
 use Rattle.std.proofs.lemmas.Option.{same_Some}
 use Rattle.chain_defs.specs.Schema.{Block}
-use Rattle.cell_model.specs.Copies.{output_in}
+use Rattle.cell_state.specs.Copies.{output_in}
 use Rattle.tx_rules.specs.At.{AtValue}
 use Rattle.tx_rules.proofs.deps.add_own_group.Goals as goal
 

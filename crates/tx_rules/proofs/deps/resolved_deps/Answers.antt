@@ -3,7 +3,7 @@ use Rattle.std.specs.Option.{option_map}
 use Rattle.std.proofs.lemmas.List.{take_all}
 use Rattle.chain_defs.specs.Schema.{OutPoint, CellDep, RawTransaction}
 use Rattle.chain_tree.specs.Told.{blocks_of}
-use Rattle.cell_defs.specs.Row.{Row}
+use Rattle.chain_defs.specs.Row.{Row}
 use Rattle.rule_defs.specs.Site.{all_there}
 use Rattle.rule_defs.specs.Resolving.{cells_of_dep, dep_cells}
 use Rattle.tx_rules.specs.At.{found_row}

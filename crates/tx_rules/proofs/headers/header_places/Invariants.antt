@@ -3,7 +3,7 @@ use Rattle.std.specs.Prelude.{slice_index}
 use Rattle.std.specs.Option.{option_map}
 use Rattle.std.specs.List.{AllZip}
 use Rattle.chain_defs.specs.Schema.{OutPoint}
-use Rattle.cell_defs.specs.Row.{Row}
+use Rattle.chain_defs.specs.Row.{Row}
 use Rattle.chain_defs.specs.Branch.{branch_places}
 use Rattle.chain_tree.specs.Entries.{place_of_hash}
 use Rattle.chain_tree.specs.Told.{Stored, blocks_of}

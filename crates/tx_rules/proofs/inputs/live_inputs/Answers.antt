@@ -1,6 +1,6 @@
 use Rattle.std.proofs.Common.{◌≡◌, Option, Some, None, List, map, ap, sym, ◌∙◌, arith}
 use Rattle.chain_defs.specs.Schema.{OutPoint, CellInput, RawTransaction}
-use Rattle.cell_defs.specs.Row.{Row}
+use Rattle.chain_defs.specs.Row.{Row}
 use Rattle.rule_defs.specs.Site.{all_there}
 use Rattle.tx_rules.specs.At.{find_row}
 use Rattle.tx_rules.proofs.AllThere.{there-more, there-none, there-all}

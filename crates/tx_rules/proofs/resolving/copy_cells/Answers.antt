@@ -2,7 +2,7 @@ use Rattle.std.proofs.Common.{List, [], Option, Some, Err, length, ap, subst, sy
 use Rattle.std.specs.List.{All, AllZip}
 use Rattle.std.proofs.lemmas.List.{length-map}
 use Rattle.std.proofs.lemmas.List.Elements.{All-append, All-nil, All-same}
-use Rattle.cell_model.specs.Copies.{ResolvedValue}
+use Rattle.cell_state.specs.Copies.{ResolvedValue}
 use Rattle.chain_tree.specs.Told.{Stored, blocks_of}
 use Rattle.rule_defs.specs.Resolving.{inputs, deps}
 use Rattle.tx_rules.specs.Copying.{row_in, CopiesItsRow, ServesAgain, HoldsOutput}

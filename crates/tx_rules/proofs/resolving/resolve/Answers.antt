@@ -1,8 +1,9 @@
-use Rattle.std.proofs.Common.{◌<◌, ◌^◌, ℤ, nat_abs, ◌++◌, List, Option, subst, sym, ◌∙◌, rules}
+use Rattle.std.proofs.Common.{◌<◌, ◌^◌, ℤ, nat_abs, ◌++◌, List, Option, Some, subst, sym, ap, ◌∙◌, rules}
 use Rattle.std.specs.Int.{w128}
 use Rattle.std.specs.List.{All}
 use Rattle.std.proofs.lemmas.Int.{to_z-of_z}
-use Rattle.chain_defs.specs.Schema.{CellInput}
+use Rattle.chain_defs.specs.Schema.{CellInput, OutPoint}
+use Rattle.chain_defs.specs.Row.{Row}
 use Rattle.chain_tree.specs.Told.{Stored}
 use Rattle.tx_rules.specs.At.{find_row}
 use Rattle.tx_rules.specs.Copying.{CopiesItsRow, ServesAgain}
@@ -33,6 +34,7 @@ returns-in-Err g c = record {
   fits = tt;
   exact = λ stored site told is.
       stops-front (finding_rules c.args.judged.now.proposed site c.args.judged.now.tx.now) (paying_rules site c.args.judged.now.tx.now) c.in-Err.stop (c.in-Err.ensures.exact stored site told is);
+  rows = tt;
 }
 
 pub returns-in-Err-copy_cells : goal.returns-in-Err-copy_cells
@@ -48,6 +50,7 @@ returns-in-Err-copy_cells g c = record {
       let found = c.in-Ok.ensures.exact stored site told is in
       stops-back (finding_rules c.args.judged.now.proposed site c.args.judged.now.tx.now) (paying_rules site c.args.judged.now.tx.now) c.in-Err-copy_cells.stop found.0
       (c.in-Err-copy_cells.ensures.exact stored (g.C.Cells.rows c.args.cells.now) site (c.in-Ok.ensures.read.told ∙ told) is found.1);
+  rows = tt;
 }
 
 pub returns : goal.returns
@@ -81,6 +84,7 @@ returns g c = record {
           interest_is = to_z-of_z w128 c.in-Ok-copy_cells.copied.balance.interest (search rules) ∙ copied.1.paid.interest_is;
         },
       );
+  rows = c.in-Ok.ensures.spent ∙ ap (λ (rows : List (OutPoint × Row)). Some rows) (sym c.in-Ok-copy_cells.ensures.rows);
 }
 
 pub copy_cells-requires-clause-before : goal.copy_cells-requires-clause-before

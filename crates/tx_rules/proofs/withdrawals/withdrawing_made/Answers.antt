@@ -3,7 +3,7 @@ use Rattle.std.proofs.lemmas.Option.{same_Some}
 use Rattle.chain_defs.specs.Shape.{decoded}
 use Rattle.chain_defs.specs.Schema.{cell_output, CellOutput}
 use Rattle.chain_tree.specs.Told.{blocks_of}
-use Rattle.cell_model.specs.Copies.{ResolvedValue}
+use Rattle.cell_state.specs.Copies.{ResolvedValue}
 use Rattle.rule_defs.specs.Withdrawals.{is_dao_script, has_withdrawing_data}
 use Rattle.tx_rules.specs.At.{AtValue}
 use Rattle.chain_defs.specs.Specification.{Specification}

@@ -1,6 +1,6 @@
 use Rattle.std.proofs.Common.{length, ap, ◌∙◌}
-use Rattle.cell_defs.specs.Events.{events_of}
-use Rattle.cell_defs.specs.Row.{row_after}
+use Rattle.chain_defs.specs.Events.{events_of}
+use Rattle.chain_defs.specs.Row.{row_after}
 use Rattle.block_judge.specs.BlockCells.{rows_in}
 use Rattle.block_judge.proofs.ChangeLemmas.{row_after-same}
 use Rattle.block_judge.proofs.NextLemmas.{few-cycles}

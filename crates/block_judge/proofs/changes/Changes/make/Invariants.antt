@@ -1,7 +1,7 @@
 use Rattle.std.proofs.Common.{◌≡◌, ℕ, Option, take}
 use Rattle.chain_defs.specs.Schema.{OutPoint}
-use Rattle.cell_defs.specs.Events.{makes_from}
-use Rattle.cell_defs.specs.Row.{Row, row_after}
+use Rattle.chain_defs.specs.Events.{makes_from}
+use Rattle.chain_defs.specs.Row.{Row, row_after}
 use Rattle.block_judge.specs.Changes.{with_changes}
 use Rattle.block_judge.proofs.changes.Changes.make.Given as goal
 

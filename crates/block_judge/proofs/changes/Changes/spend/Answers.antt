@@ -1,7 +1,7 @@
 use Rattle.std.proofs.Common.{List, take, sym, ap, ◌∙◌, subst, arith}
 use Rattle.chain_defs.specs.Schema.{OutPoint}
-use Rattle.cell_defs.specs.Events.{Event, Spends}
-use Rattle.cell_defs.specs.Row.{row_after}
+use Rattle.chain_defs.specs.Events.{Event, Spends}
+use Rattle.chain_defs.specs.Row.{row_after}
 use Rattle.block_judge.specs.Changes.{with_changes}
 use Rattle.block_judge.proofs.ChangeLemmas.{row_after-nil, IsChanged, changed-push, spends, spends-push, spends-all}
 use Rattle.block_judge.proofs.changes.Changes.spend.Goals as goal

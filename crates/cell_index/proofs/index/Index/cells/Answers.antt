@@ -6,8 +6,8 @@ use Rattle.std.specs.declared.ops.Bound.TheVariants.{Included}
 use Rattle.std.specs.Map.Iter.{deref_pair}
 use Rattle.std.proofs.lemmas.Map.Iter.{iter_end}
 use Rattle.chain_defs.specs.Schema.{OutPoint}
-use Rattle.cell_defs.specs.Row.{Row}
-use Rattle.cell_defs.specs.ByLock.{IsByLock}
+use Rattle.chain_defs.specs.Row.{Row}
+use Rattle.chain_defs.specs.ByLock.{IsByLock}
 use Rattle.cell_index.specs.Index.{Key, IndexValue, IndexesBranch, key_cmp}
 use Rattle.cell_index.proofs.ListedLemmas.{row_by, least_of, range-forward, range-listed, lists-cells}
 use Rattle.cell_index.proofs.index.Index.cells.Goals as goal

@@ -4,7 +4,7 @@ use Rattle.std.proofs.lemmas.Option.{same_Some}
 use Rattle.chain_defs.specs.Branch.{branch_places}
 use Rattle.chain_tree.specs.Told.{Stored, blocks_of}
 use Rattle.chain_tree.proofs.ReadLemmas.{read_on}
-use Rattle.cell_defs.specs.Row.{live_row}
+use Rattle.chain_defs.specs.Row.{live_row}
 use Rattle.outside.proofs.Endings.{handed}
 use Rattle.cell_state.proofs.PathLemmas.{height_after, read-at, on-path, path-start, path-top}
 use Rattle.cell_state.proofs.WayLemmas.{stored-there}

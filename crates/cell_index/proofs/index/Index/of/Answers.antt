@@ -1,7 +1,7 @@
 use Rattle.std.proofs.Common.{List, sym, subst}
 use Rattle.std.proofs.lemmas.Result.{IfOk-weaker}
 use Rattle.chain_defs.specs.Schema.{OutPoint}
-use Rattle.cell_defs.specs.Row.{Row, live_row, ListsRows}
+use Rattle.chain_defs.specs.Row.{Row, live_row, ListsRows}
 use Rattle.cell_state.specs.State.{rows}
 use Rattle.cell_index.specs.Index.{Holds, IndexesBranch}
 use Rattle.cell_index.proofs.FollowLemmas.{holds-same}

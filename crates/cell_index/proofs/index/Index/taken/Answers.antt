@@ -1,8 +1,8 @@
 use Rattle.std.proofs.Common.{List, None, sym, ◌∙◌, subst}
 use Rattle.chain_defs.specs.Schema.{OutPoint}
-use Rattle.cell_defs.specs.Events.{events_of_block}
-use Rattle.cell_defs.specs.Row.{Row, row_after, ListsRows}
-use Rattle.cell_defs.specs.Undo.{with_rows}
+use Rattle.chain_defs.specs.Events.{events_of_block}
+use Rattle.chain_defs.specs.Row.{Row, row_after, ListsRows}
+use Rattle.chain_defs.specs.Undo.{with_rows}
 use Rattle.cell_index.specs.Index.{without_all}
 use Rattle.cell_index.proofs.FollowLemmas.{takes-it, rows-at, holds-same}
 use Rattle.cell_index.proofs.index.Index.taken.Goals as goal

@@ -4,21 +4,21 @@ use Rattle.std.specs.Map.{lookup, values_of}
 use Rattle.std.specs.BTreeMap.{insert_entry, is_at}
 use Rattle.std.specs.Ordering.{nat_cmp, is_eq}
 use Rattle.std.specs.Cmp.Lexicographic.{slice_cmp}
-use Rattle.cell_defs.specs.Row.{Row}
-use Rattle.cell_defs.specs.ByLock.{of_lock}
-use Rattle.cell_defs.proofs.NamingLemmas.{true-false}
+use Rattle.chain_defs.specs.Row.{Row}
+use Rattle.chain_defs.specs.ByLock.{of_lock}
+use Rattle.chain_defs.proofs.NamingLemmas.{true-false}
 use Rattle.cell_index.specs.Index.{Key, IndexValue, at, key_of, key_cmp, counts, holds, total_of}
 use Rattle.cell_index.proofs.EntryLemmas.{with-one, fits-more, totalled-more, not-there}
 use Rattle.cell_index.proofs.index.Index.with.Goals as goal
 
-pub returns-then-contains_key-clause-odd : goal.returns-then-contains_key-clause-odd
-returns-then-contains_key-clause-odd c rows has free same =
+pub returns-then-is_some-clause-odd : goal.returns-then-is_some-clause-odd
+returns-then-is_some-clause-odd c rows has free same =
     let lock = c.row.inside.lock_hash in
     let entries = c.self.inside.rows.entries in
     let none : at entries lock c.args.o ≡ None =
     ap (λ (v : IndexValue). at v.entries lock c.args.o) c.self.view_is ∙ has lock c.args.o ∙ ap (of_lock lock) free in
     let found : true ≡ is_some (at entries lock c.args.o) =
-    sym c.if-contains_key.true ∙ c.contains_key.ensures ∙ ap (λ (k : Key). is_some (lookup (is_at (key_cmp k)) entries)) c.key_by-key.ensures.key in
+    sym c.if-is_some.true ∙ c.is_some.ensures ∙ ap is_some (c.in-Ok.ensures.old ∙ ap (λ (k : Key). lookup (is_at (key_cmp k)) entries) c.key_by-key.ensures.key) in
     true-false true refl (found ∙ ap is_some none)
 
 pub overflow_add-count : goal.overflow_add-count
@@ -53,7 +53,7 @@ invariant_of-result c =
     let own : c.row.inside.lock_hash ≡ row.lock_hash = ap (λ (r : Row). r.lock_hash) c.row.view_is in
     let key : c.key_by-key.result ≡ key_of row.lock_hash c.args.o = c.key_by-key.ensures.key ∙ ap (λ (l : List ℕ). key_of l c.args.o) own in
     let none : at entries row.lock_hash c.args.o ≡ None =
-    sym (ap (λ (k : Key). lookup (is_at (key_cmp k)) entries) key) ∙ not-there (lookup (is_at (key_cmp c.key_by-key.result)) entries) (sym c.contains_key.ensures ∙ c.if-contains_key.false) in
+    sym (ap (λ (k : Key). lookup (is_at (key_cmp k)) entries) key) ∙ not-there (lookup (is_at (key_cmp c.key_by-key.result)) entries) (sym (c.is_some.ensures ∙ ap is_some c.in-Ok.ensures.old) ∙ c.if-is_some.false) in
     let total : c.total-count.result ≡ total_of row.lock_hash entries =
     c.total-count.ensures.kept ∙ ap (λ (v : IndexValue). total_of c.row.inside.lock_hash v.entries) (sym c.self.view_is) ∙ ap (λ (l : List ℕ). total_of l entries) own in
     let capacity : c.from.result ≡ row.capacity = c.from.ensures ∙ ap (λ (r : Row). r.capacity) c.row-2.view_is in

@@ -1,6 +1,6 @@
 use Rattle.std.proofs.Common.{◌+◌, List, drop, refl, sym, subst}
 use Rattle.chain_defs.specs.Schema.{OutPoint}
-use Rattle.cell_defs.specs.Row.{Row}
+use Rattle.chain_defs.specs.Row.{Row}
 use Rattle.outside.proofs.Endings.{handed}
 use Rattle.cell_index.proofs.LoopLemmas.{rows-from, rows-over, Coming, next-free, come-one, come-all}
 use Rattle.cell_index.proofs.index.Index.with_all.Goals as goal

@@ -1,7 +1,7 @@
 use Rattle.std.proofs.Common.{◌≡◌, Option, None, drop}
 use Rattle.chain_defs.specs.Schema.{OutPoint}
-use Rattle.cell_defs.specs.Row.{Row}
-use Rattle.cell_defs.specs.Undo.{first_live}
+use Rattle.chain_defs.specs.Row.{Row}
+use Rattle.chain_defs.specs.Undo.{first_live}
 use Rattle.cell_index.specs.Index.{Holds}
 use Rattle.cell_index.proofs.LoopLemmas.{Coming}
 use Rattle.cell_index.proofs.index.Index.with_all.Given as goal

@@ -2,8 +2,8 @@ use Rattle.std.proofs.Common.{◌≡◌, ◌-◌, ℕ, cond, Option, Some, None,
 use Rattle.std.specs.List.{sum_by}
 use Rattle.std.specs.Map.{lookup, values_of, remove_entry}
 use Rattle.std.specs.BTreeMap.{is_at}
-use Rattle.cell_defs.specs.Row.{Row}
-use Rattle.cell_defs.specs.ByLock.{of_lock}
+use Rattle.chain_defs.specs.Row.{Row}
+use Rattle.chain_defs.specs.ByLock.{of_lock}
 use Rattle.cell_index.specs.Index.{Key, IndexValue, at, key_of, key_cmp, counts, holds, total_of}
 use Rattle.cell_index.proofs.EntryLemmas.{without-one, counts-in, totalled-less}
 use Rattle.cell_index.proofs.index.Index.without.Goals as goal

@@ -1,7 +1,7 @@
 use Rattle.std.proofs.Common.{◌+◌, ℕ, List, IsSome, drop, refl, sym, ap, subst}
 use Rattle.chain_defs.specs.Schema.{OutPoint}
-use Rattle.cell_defs.specs.Row.{Row}
-use Rattle.cell_defs.specs.ByLock.{of_lock}
+use Rattle.chain_defs.specs.Row.{Row}
+use Rattle.chain_defs.specs.ByLock.{of_lock}
 use Rattle.outside.proofs.Endings.{handed}
 use Rattle.cell_index.proofs.LoopLemmas.{rows-from, rows-over, Going, go-one, go-all}
 use Rattle.cell_index.proofs.index.Index.without_all.Goals as goal

@@ -1,6 +1,6 @@
 use Rattle.std.proofs.Common.{Option, drop}
 use Rattle.chain_defs.specs.Schema.{OutPoint}
-use Rattle.cell_defs.specs.Row.{Row}
+use Rattle.chain_defs.specs.Row.{Row}
 use Rattle.cell_index.specs.Index.{Holds, AreThere}
 use Rattle.cell_index.proofs.LoopLemmas.{Going}
 use Rattle.cell_index.proofs.index.Index.without_all.Given as goal

@@ -1,6 +1,6 @@
 use Rattle.std.proofs.Common.{◌≡◌, ◌∷◌, List, ap, ◌∙◌, subst}
 use Rattle.std.proofs.lemmas.Result.{err_from_is_err_and}
-use Rattle.cell_defs.specs.Events.{Event, Makes, Spends}
+use Rattle.chain_defs.specs.Events.{Event, Makes, Spends}
 use Rattle.cell_state.specs.Walk.{made_cell, value_of}
 use Rattle.cell_state.specs.Passes.{made_mark, spent_mark}
 use Rattle.cell_state.specs.declared.events.Event as walked

@@ -1,6 +1,6 @@
 use Rattle.std.proofs.Common.{◌≡◌, ◌∷◌, List, refl, sym, ap, ◌∙◌, subst}
-use Rattle.cell_defs.specs.Events.{Event, Makes, Spends}
-use Rattle.cell_defs.specs.CellLaws.{makes}
+use Rattle.chain_defs.specs.Events.{Event, Makes, Spends}
+use Rattle.chain_defs.specs.CellLaws.{makes}
 use Rattle.cell_state.specs.Walk.{made_cell, value_of}
 use Rattle.cell_state.specs.Passes.{spent_mark}
 use Rattle.cell_state.specs.Slots.{at}

@@ -1,5 +1,5 @@
 use Rattle.std.proofs.Common.{length}
-use Rattle.cell_defs.specs.CellLaws.{makes}
+use Rattle.chain_defs.specs.CellLaws.{makes}
 use Rattle.cell_state.specs.Passes.{spent_mark}
 use Rattle.cell_state.proofs.UndoPasses.{Passing}
 use Rattle.cell_state.proofs.slots.Slots.mark_made_dropped.Given as goal

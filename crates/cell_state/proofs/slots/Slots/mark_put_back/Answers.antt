@@ -1,7 +1,7 @@
 use Rattle.std.proofs.Common.{◌≡◌, ◌+◌, List, [], ◌∷◌, drop, refl, sym, ap, ◌∙◌, subst}
 use Rattle.std.proofs.lemmas.Result.{err_from_is_err_and}
 use Rattle.chain_defs.specs.Schema.{OutPoint}
-use Rattle.cell_defs.specs.Row.{Row}
+use Rattle.chain_defs.specs.Row.{Row}
 use Rattle.cell_state.specs.Passes.{made_mark}
 use Rattle.cell_state.proofs.UndoPasses.{PuttingBack, putting-push, put-free, put-odd, put-unnamed, row-changes, rows-from, rows-over}
 use Rattle.cell_state.proofs.slots.Slots.mark_put_back.Goals as goal

@@ -1,6 +1,6 @@
 use Rattle.std.proofs.Common.{◌≡◌, ◌∷◌, List, Some, if◌then◌else◌, ap, ◌∙◌, subst}
-use Rattle.cell_defs.specs.Events.{Event, Makes, Spends, same_out_point}
-use Rattle.cell_defs.specs.Row.{Row}
+use Rattle.chain_defs.specs.Events.{Event, Makes, Spends, same_out_point}
+use Rattle.chain_defs.specs.Row.{Row}
 use Rattle.cell_state.specs.Slots.{at}
 use Rattle.cell_state.specs.Walk.{made_cell, value_of}
 use Rattle.cell_state.specs.declared.slots.Slot.TheVariants.{Live}

@@ -1,6 +1,6 @@
 use Rattle.std.proofs.Common.{◌≡◌, ◌∷◌, List, ap, ◌∙◌, subst}
-use Rattle.cell_defs.specs.Events.{Event, Makes, Spends}
-use Rattle.cell_defs.specs.Row.{row_of}
+use Rattle.chain_defs.specs.Events.{Event, Makes, Spends}
+use Rattle.chain_defs.specs.Row.{row_of}
 use Rattle.cell_state.specs.Walk.{made_cell, value_of}
 use Rattle.cell_state.specs.Passes.{settled_made, settled_spent}
 use Rattle.cell_state.specs.declared.events.Event as walked

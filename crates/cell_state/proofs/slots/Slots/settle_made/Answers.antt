@@ -1,6 +1,6 @@
 use Rattle.std.proofs.Common.{Some, Option, if◌then◌else◌, ap, sym, ◌∙◌}
-use Rattle.cell_defs.specs.Events.{same_out_point}
-use Rattle.cell_defs.specs.Row.{Row, row_of}
+use Rattle.chain_defs.specs.Events.{same_out_point}
+use Rattle.chain_defs.specs.Row.{Row, row_of}
 use Rattle.cell_state.specs.Walk.{made_cell}
 use Rattle.cell_state.specs.Slots.{at}
 use Rattle.cell_state.specs.Passes.{settled_made}

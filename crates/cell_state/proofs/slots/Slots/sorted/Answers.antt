@@ -2,7 +2,7 @@ use Rattle.std.proofs.Common.{List, subst, rules}
 use Rattle.std.specs.List.Sorted.{IsPermutation}
 use Rattle.std.proofs.lemmas.List.Sorted.{answers_always}
 use Rattle.chain_defs.specs.Schema.{OutPoint}
-use Rattle.cell_defs.specs.Row.{Row}
+use Rattle.chain_defs.specs.Row.{Row}
 use Rattle.cell_state.proofs.ListLemmas.{lists-rows}
 use Rattle.cell_state.proofs.slots.Slots.sorted.Goals as goal
 

@@ -1,9 +1,9 @@
 use Rattle.std.proofs.Common.{List, ap, ◌∙◌}
 use Rattle.std.specs.Option.{option_map}
 use Rattle.chain_defs.specs.Schema.{OutPoint}
-use Rattle.cell_defs.specs.Events.{Event, events_of_block, last_naming}
-use Rattle.cell_defs.specs.CellLaws.{makes}
-use Rattle.cell_defs.specs.Undo.{without_made}
+use Rattle.chain_defs.specs.Events.{Event, events_of_block, last_naming}
+use Rattle.chain_defs.specs.CellLaws.{makes}
+use Rattle.chain_defs.specs.Undo.{without_made}
 use Rattle.cell_state.specs.Slots.{at, rows}
 use Rattle.cell_state.specs.Passes.{spent_mark, settled_spent, unmarked_by}
 use Rattle.cell_state.specs.Undo.{passed}

@@ -1,6 +1,6 @@
 use Rattle.std.proofs.Common.{List, if◌then◌else◌, ap, ◌∙◌, subst}
 use Rattle.chain_defs.specs.Schema.{OutPoint}
-use Rattle.cell_defs.specs.Events.{Event, same_out_point}
+use Rattle.chain_defs.specs.Events.{Event, same_out_point}
 use Rattle.cell_state.specs.Slots.{at}
 use Rattle.cell_state.specs.Walk.{value_of}
 use Rattle.cell_state.specs.Passes.{unmarked}

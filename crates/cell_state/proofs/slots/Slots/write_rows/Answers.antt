@@ -1,6 +1,6 @@
 use Rattle.std.proofs.Common.{◌+◌, List, drop, refl, sym, subst}
 use Rattle.chain_defs.specs.Schema.{OutPoint}
-use Rattle.cell_defs.specs.Row.{Row}
+use Rattle.chain_defs.specs.Row.{Row}
 use Rattle.cell_state.specs.Undo.{is_at, row_written}
 use Rattle.cell_state.proofs.UndoPasses.{Passing, passing-push, row-changes, rows-from}
 use Rattle.cell_state.proofs.slots.Slots.write_rows.Goals as goal

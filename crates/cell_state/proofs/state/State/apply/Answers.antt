@@ -1,8 +1,8 @@
 use Rattle.std.proofs.Common.{List, ap, sym, ◌∙◌, subst, arith, rules}
-use Rattle.cell_defs.specs.Events.{Event, events_of_block, last_naming}
-use Rattle.cell_defs.specs.Row.{row_after}
+use Rattle.chain_defs.specs.Events.{Event, events_of_block, last_naming}
+use Rattle.chain_defs.specs.Row.{row_after}
 use Rattle.cell_state.specs.Fit.{IsFirstOdd}
-use Rattle.cell_defs.specs.Fit.{are_live, AllFit}
+use Rattle.chain_defs.specs.Fit.{are_live, AllFit}
 use Rattle.cell_state.specs.Slots.{StateValue, at, rows}
 use Rattle.cell_state.specs.Passes.{makes_in, Settles}
 use Rattle.cell_state.proofs.HeightLemmas.{rows-above, all-above, odd-above, makes-block}

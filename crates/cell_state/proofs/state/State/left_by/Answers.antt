@@ -1,6 +1,6 @@
 use Rattle.std.proofs.Common.{List, None, ap, ◌∙◌}
-use Rattle.cell_defs.specs.Events.{Event}
-use Rattle.cell_defs.specs.Row.{row_after}
+use Rattle.chain_defs.specs.Events.{Event}
+use Rattle.chain_defs.specs.Row.{row_after}
 use Rattle.cell_state.proofs.ApplyLemmas.{settled-rows, are-settled}
 use Rattle.cell_state.proofs.HeightLemmas.{rows-above}
 use Rattle.cell_state.proofs.state.State.left_by.Goals as goal

@@ -1,5 +1,5 @@
 use Rattle.std.proofs.Common.{sym, ◌∙◌, subst}
-use Rattle.cell_defs.specs.Row.{ListsRows}
+use Rattle.chain_defs.specs.Row.{ListsRows}
 use Rattle.cell_state.specs.Slots.{StateValue, rows}
 use Rattle.cell_state.proofs.ListLemmas.{counted}
 use Rattle.cell_state.proofs.state.State.rows.Goals as goal

@@ -1,9 +1,9 @@
 use Rattle.std.proofs.Common.{◌≡◌, List, ap, sym, ◌∙◌, arith}
 use Rattle.std.specs.Option.{option_map}
 use Rattle.chain_defs.specs.Schema.{OutPoint}
-use Rattle.cell_defs.specs.Events.{events_of_block}
-use Rattle.cell_defs.specs.Row.{Row}
-use Rattle.cell_defs.specs.Undo.{undone, first_clash}
+use Rattle.chain_defs.specs.Events.{events_of_block}
+use Rattle.chain_defs.specs.Row.{Row}
+use Rattle.chain_defs.specs.Undo.{undone, first_clash}
 use Rattle.cell_state.specs.Slots.{StateValue, rows}
 use Rattle.cell_state.specs.declared.odd.Odd.TheVariants.{Live}
 use Rattle.cell_state.proofs.ApplyLemmas.{settled-rows}

@@ -1,6 +1,6 @@
 use Rattle.std.proofs.Common.{◌≡◌, ℕ, ◌+◌, ◌≤◌, List, length, subst, arith}
 use Rattle.std.specs.Prelude.{slice_index}
-use Rattle.cell_defs.specs.Ext.{count_at}
+use Rattle.chain_defs.specs.Ext.{count_at}
 use Rattle.log_file.proofs.Pieces.{told_none, told_whole}
 use Rattle.log_file.proofs.Exits.{on_each, told_first, as_before_then, stop_counts, answer_counts, answer_still, counts_on}
 use Rattle.log_file.proofs.reading.Reader.fill_record.Goals as goal

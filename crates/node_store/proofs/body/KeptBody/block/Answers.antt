@@ -2,8 +2,8 @@ use Rattle.std.proofs.Common.{◌-◌, ℕ, List, take, drop, ap, ◌∙◌}
 use Rattle.chain_defs.specs.Schema.{block}
 use Rattle.chain_defs.proofs.ShapeLaws.{IsEncoding-decoded}
 use Rattle.chain_tree.specs.Told.{Stored}
-use Rattle.cell_model.specs.ListBlocks.{IsCanonical}
-use Rattle.cell_model.proofs.ListLemmas.{canonical-decoded}
+use Rattle.cell_state.specs.ListBlocks.{IsCanonical}
+use Rattle.cell_state.proofs.ListBlockLemmas.{canonical-decoded}
 use Rattle.node_store.proofs.body.KeptBody.block.Goals as goal
 
 pub from_encoding-requires : goal.from_encoding-requires

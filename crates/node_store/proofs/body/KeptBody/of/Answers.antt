@@ -3,8 +3,8 @@ use Rattle.std.proofs.Math.Seq.{take-append_seam, drop-append_seam}
 use Rattle.std.proofs.lemmas.List.{length-append}
 use Rattle.chain_defs.specs.Schema.{Block, block}
 use Rattle.chain_defs.specs.Hashes.{transaction_hash}
-use Rattle.cell_model.specs.ListBlocks.{ids_of, IsCanonical}
-use Rattle.cell_model.proofs.ListLemmas.{canonical-decoded, decoding-is}
+use Rattle.cell_state.specs.ListBlocks.{ids_of, IsCanonical}
+use Rattle.cell_state.proofs.ListBlockLemmas.{canonical-decoded, decoding-is}
 use Rattle.node_store.proofs.StoredLemmas.{ids-by}
 use Rattle.node_store.proofs.body.KeptBody.of.Goals as goal
 

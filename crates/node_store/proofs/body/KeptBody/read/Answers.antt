@@ -1,7 +1,7 @@
 use Rattle.std.proofs.Common.{◌≡◌, ◌-◌, ◌≤◌, ℕ, List, length, take, drop, Some, ap, sym, subst, ◌∙◌}
 use Rattle.chain_defs.specs.Shape.{decoded}
 use Rattle.chain_defs.specs.Schema.{block}
-use Rattle.cell_model.proofs.ListLemmas.{decoding-is}
+use Rattle.cell_state.proofs.ListBlockLemmas.{decoding-is}
 use Rattle.node_store.specs.Stored.{parts_in}
 use Rattle.node_store.proofs.StoredLemmas.{body-read, is-canonical}
 use Rattle.node_store.proofs.body.KeptBody.read.Goals as goal

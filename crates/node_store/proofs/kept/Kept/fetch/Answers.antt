@@ -1,7 +1,7 @@
 use Rattle.std.proofs.Common.{◌≡◌, List, Option, length, refl, sym, ap, ◌∙◌, subst, arith}
 use Rattle.outside.proofs.Endings.{handed, no_answer}
 use Rattle.chain_defs.specs.Schema.{Block}
-use Rattle.cell_defs.specs.Row.{Row}
+use Rattle.chain_defs.specs.Row.{Row}
 use Rattle.chain_tree.specs.Damages.{IsOfBlock}
 use Rattle.chain_tree.specs.Told.{blocks_of}
 use Rattle.chain_tree.proofs.BlockLemmas.{len-same}

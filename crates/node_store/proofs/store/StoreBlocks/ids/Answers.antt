@@ -3,8 +3,8 @@ use Rattle.outside.proofs.Endings.{no_fault}
 use Rattle.outside.specs.declared.disk.ReadStop.TheVariants.{DiskFault, Damaged}
 use Rattle.chain_tree.specs.Told.{Stored}
 use Rattle.chain_tree.proofs.ReadLemmas.{no_stop, finds_none, finds_after}
-use Rattle.cell_model.specs.ListBlocks.{ids_of}
-use Rattle.cell_model.proofs.ListLemmas.{if_ok-so}
+use Rattle.cell_state.specs.ListBlocks.{ids_of}
+use Rattle.cell_state.proofs.ListBlockLemmas.{if_ok-so}
 use Rattle.node_store.specs.Held.{CacheValue, IsInHand}
 use Rattle.node_store.proofs.StoredLemmas.{kept-counted, hand-told}
 use Rattle.node_store.proofs.store.StoreBlocks.ids.Goals as goal

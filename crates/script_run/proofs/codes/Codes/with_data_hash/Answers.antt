@@ -1,6 +1,6 @@
 use Rattle.std.proofs.Common.{◌≡◌, ◌<◌, None, Some, length, ap, sym, ◌∙◌, arith}
 use Rattle.std.specs.Option.{option_copied}
-use Rattle.cell_model.specs.Copies.{ResolvedValue}
+use Rattle.cell_state.specs.Copies.{ResolvedValue}
 use Rattle.verdict_defs.specs.Codes.{Is}
 use Rattle.script_run.specs.Locating.{first_with_data}
 use Rattle.script_run.specs.Shown.{CodesValue}

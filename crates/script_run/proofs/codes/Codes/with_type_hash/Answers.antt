@@ -1,6 +1,6 @@
 use Rattle.std.proofs.Common.{◌≡◌, None, Some, ap, sym, ◌∙◌, subst, arith}
 use Rattle.std.specs.Option.{option_copied}
-use Rattle.cell_model.specs.Copies.{ResolvedValue}
+use Rattle.cell_state.specs.Copies.{ResolvedValue}
 use Rattle.verdict_defs.specs.Codes.{Is}
 use Rattle.script_run.specs.Locating.{typed_with}
 use Rattle.script_run.specs.Shown.{AreCodesIn, CodesValue}

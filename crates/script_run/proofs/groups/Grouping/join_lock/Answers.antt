@@ -1,8 +1,8 @@
 use Rattle.std.proofs.Common.{◌≡◌, ap, ◌∙◌}
 use Rattle.chain_defs.specs.Schema.{CellOutput}
-use Rattle.cell_defs.specs.Cell.{script_hash}
-use Rattle.cell_defs.specs.Row.{Row}
-use Rattle.cell_model.specs.Copies.{ResolvedValue}
+use Rattle.chain_defs.specs.Cell.{script_hash}
+use Rattle.chain_defs.specs.Row.{Row}
+use Rattle.cell_state.specs.Copies.{ResolvedValue}
 use Rattle.script_run.proofs.GroupLemmas.{joined-input}
 use Rattle.script_run.proofs.LookLemmas.{same-output}
 use Rattle.script_run.proofs.groups.Grouping.join_lock.Goals as goal

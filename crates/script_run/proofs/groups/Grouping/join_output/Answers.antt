@@ -1,8 +1,8 @@
 use Rattle.std.proofs.Common.{◌≡◌, [], ◌∷◌, ◌++◌, Option, None, refl, ap, sym, ◌∙◌}
 use Rattle.std.specs.Option.{option_map}
 use Rattle.chain_defs.specs.Schema.{Script}
-use Rattle.cell_defs.specs.Cell.{script_hash}
-use Rattle.cell_defs.specs.Row.{Row}
+use Rattle.chain_defs.specs.Cell.{script_hash}
+use Rattle.chain_defs.specs.Row.{Row}
 use Rattle.script_run.specs.Grouping.{grouped}
 use Rattle.script_run.proofs.GroupLemmas.{joined-output, grouped-output-none, hashed, typed-none, typed-some}
 use Rattle.script_run.proofs.groups.Grouping.join_output.Goals as goal

@@ -1,9 +1,9 @@
 use Rattle.std.proofs.Common.{◌≡◌, [], ◌∷◌, ◌++◌, Option, None, refl, ap, sym, ◌∙◌}
 use Rattle.std.specs.Option.{option_map}
 use Rattle.chain_defs.specs.Schema.{CellOutput, Script}
-use Rattle.cell_defs.specs.Cell.{script_hash}
-use Rattle.cell_defs.specs.Row.{Row}
-use Rattle.cell_model.specs.Copies.{ResolvedValue}
+use Rattle.chain_defs.specs.Cell.{script_hash}
+use Rattle.chain_defs.specs.Row.{Row}
+use Rattle.cell_state.specs.Copies.{ResolvedValue}
 use Rattle.script_run.specs.Grouping.{grouped}
 use Rattle.script_run.proofs.GroupLemmas.{joined-input, grouped-input-none, hashed, typed-none, typed-some}
 use Rattle.script_run.proofs.LookLemmas.{same-output}

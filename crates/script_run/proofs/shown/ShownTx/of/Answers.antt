@@ -1,5 +1,5 @@
 use Rattle.std.proofs.Common.{ℕ, ap, sym, subst, ◌∙◌}
-use Rattle.cell_model.specs.Copies.{ResolvedTxValue}
+use Rattle.cell_state.specs.Copies.{ResolvedTxValue}
 use Rattle.script_run.specs.Fitting.{Fits}
 use Rattle.script_run.specs.Shown.{output_rows}
 use Rattle.script_run.proofs.FitLemmas.{fits}

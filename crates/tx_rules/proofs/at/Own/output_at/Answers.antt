@@ -1,6 +1,6 @@
 use Rattle.std.proofs.Common.{ap, sym, ◌∙◌}
 use Rattle.chain_defs.specs.Schema.{Block}
-use Rattle.cell_model.specs.Copies.{output_in}
+use Rattle.cell_state.specs.Copies.{output_in}
 use Rattle.tx_rules.specs.Own.{block_of}
 use Rattle.tx_rules.proofs.at.Own.output_at.Goals as goal
 

@@ -1,5 +1,0 @@
-use Rattle.cell_defs.proofs.SpentLaws.{spends-rows-once}
-use Rattle.cell_defs.proofs.undo.spent_rows.Goals as goal
-
-pub returns : goal.returns
-returns c = record { once = spends-rows-once }

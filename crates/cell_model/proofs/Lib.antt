@@ -1,4 +1,0 @@
-pub mod CopyLemmas
-pub mod RowLemmas
-pub mod ExtLemmas
-pub mod ListLemmas

@@ -1,5 +1,0 @@
-use Rattle.std.proofs.Common.{◌≡◌, take}
-use Rattle.cell_model.proofs.list_blocks.copied_ids.Given as goal
-
-abbrev pub invariant-ids : goal.invariant-ids
-invariant-ids l = l.copied.items ≡ take l.i l.ids
