@@ -1,5 +1,5 @@
 #!/usr/bin/env python3
-"""Runs all scripts beside this one, and writes the table of the README.
+"""Runs all scripts beside this one but ask.py, which wants two programs, and writes the table of the README.
 
     python3 bench/all.py [--only exec,opening] [--rounds 3] [--write]
 

@@ -48,6 +48,23 @@ SMALL = 1000 * SHANNONS
 MOST_MICROSECONDS = 2.0
 
 
+def paid(fields, h):
+    """The outputs of the cellbase of height h, where no block before it has fees, and what they occupy."""
+    if h <= W_FAR + 1:
+        return [], 0
+    t = h - W_FAR - 1
+    c, _, _, u = fields[t - 1]
+    reward = primary(t) + share(t, SECONDARY) * u // c
+    return ([output(reward)], OCCUPIED) if reward >= OCCUPIED else ([], 0)
+
+
+def field_after(field, h, made):
+    """The DAO field of height h after its parent's, where the block occupies so much more."""
+    c, ar, s, u = field
+    second = share(h, SECONDARY)
+    return c + primary(h) + second, ar + ar * second // c, s + second - second * u // c, u + made
+
+
 class Deps:
     """A chain whose transactions pay no fee: each moves a cell of the genesis."""
 
@@ -71,19 +88,11 @@ class Deps:
         genesis, top = block(0, 0, 1000, ZERO_HASH, fields[0], 0, [first], [])
         items, lines = [], []
         for h in range(1, last + 1):
-            outputs, made = [], 0
-            if h > W_FAR + 1:
-                t = h - W_FAR - 1
-                c, _, _, u = fields[t - 1]
-                reward = primary(t) + share(t, SECONDARY) * u // c
-                if reward >= OCCUPIED:
-                    outputs, made = [output(reward)], OCCUPIED
+            outputs, made = paid(fields, h)
             if 3 <= h < last:
                 made += self.long - OCCUPIED
             cellbase = transaction([], [cell_input(NULL_OUT_POINT, h)], outputs, [b''] * len(outputs), [witness()])
-            c, ar, s, u = fields[h - 1]
-            second = share(h, SECONDARY)
-            fields.append((c + primary(h) + second, ar + ar * second // c, s + second - second * u // c, u + made))
+            fields.append(field_after(fields[h - 1], h, made))
             item, top = block(h, h // L + (h % L << 24) + (L << 40), 1000 + 1000 * h, top, fields[h], 0,
                               [cellbase] + commits.get(h, []), [tx[1][:10] for tx in commits.get(h + 2, [])])
             items.append(item)
@@ -167,17 +176,9 @@ class Headers:
         genesis, top = block(0, 0, 1000, ZERO_HASH, fields[0], 0, [first], [])
         items, lines, tops = [], [], []
         for h in range(1, headers + 1):
-            outputs, made = [], 0
-            if h > W_FAR + 1:
-                t = h - W_FAR - 1
-                c, _, _, u = fields[t - 1]
-                reward = primary(t) + share(t, SECONDARY) * u // c
-                if reward >= OCCUPIED:
-                    outputs, made = [output(reward)], OCCUPIED
+            outputs, made = paid(fields, h)
             cellbase = transaction([], [cell_input(NULL_OUT_POINT, h)], outputs, [b''] * len(outputs), [witness(bytes(1_040_000))])
-            c, ar, s, u = fields[h - 1]
-            second = share(h, SECONDARY)
-            fields.append((c + primary(h) + second, ar + ar * second // c, s + second - second * u // c, u + made))
+            fields.append(field_after(fields[h - 1], h, made))
             item, top = block(h, h // L + (h % L << 24) + (L << 40), 1000 + 1000 * h, top, fields[h], 0, [cellbase], [])
             items.append(item)
             tops.append(top)

@@ -8,6 +8,7 @@
 set -e
 here=$(dirname "$(readlink -f "$0")")
 name=ckbdev
+case ${1:-} in -*) set -- ;; esac
 if [ $# -eq 0 ] || [ $# -gt 2 ] || [ "${2:---without-signatures}" != --without-signatures ]; then
     echo 'usage: sh examples/devnet.sh FOLDER [--without-signatures]' >&2
     exit 2

@@ -40,8 +40,8 @@ class Store:
         """What a command prints. Any status but these is the end."""
         ran = subprocess.run([self.program, self.folder, *words], input=given, stdout=subprocess.PIPE)
         if ran.returncode not in good:
-            raise Failed('`%s` ended with status %d: docs/COMMANDS.md says what to look at' % (' '.join(words), ran.returncode),
-                         ran.returncode)
+            raise Failed('`%s` ended with status %d, which docs/COMMANDS.md explains; is %s the folder of a store?'
+                         % (' '.join(words), ran.returncode, self.folder), ran.returncode)
         return ran.stdout
 
     def line(self, *words):

@@ -468,11 +468,12 @@ def segments(f):
     return number(24, 8), found
 
 
-def run(code, budget, items):
+def run(code, budget, items, make=None):
+    """`make` makes the machine, where it is one that notes more than this."""
     program = segments(code)
     if isinstance(program, int):
         return 'bad elf', program
-    machine = Machine(budget, items)
+    machine = (make or Machine)(budget, items)
     machine.pc = program[0]
     try:
         machine.charge((sum(len(content) for _, content, _, _ in program[1]) + 3) // 4)

@@ -239,6 +239,14 @@ def check_ask_words(program):
         must_answer(Ran([asker(), folder], b'tip\nt', piped=True), 0, (tip + NO_QUESTION).encode(), 'two lines')
 
 
+def check_ask_words_of_the_script(_):
+    for words, why in (([], 'there are no words'), ([''], 'the folder is empty'), (['--hlep'], "there is no option '--hlep'"),
+                       (['chain', 'tip'], 'it takes one word, the folder, and here there are 2: questions are lines of standard input')):
+        ran = Ran([os.path.join(TOP, 'ckbask'), *words], b'tip\n')
+        must_be((ran.status, ran.out), (2, b''), repr(words))
+        must_be(ran.err.split(b'\nusage: ckbask FOLDER ')[0].decode(), 'ckbask: ' + why, repr(words))
+
+
 def check_ask_limits(program):
     """A line of as many bytes as one has, and one more; words of the program; a folder that is no store, or is held."""
     chain, tips = next(trees())

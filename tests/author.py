@@ -17,7 +17,6 @@ import re
 import shutil
 import subprocess
 import sys
-from unittest import mock
 
 sys.dont_write_bytecode = True
 from harness import SCRIPT, SCRIPTS, TOP, Wrong, must, must_be, new_folder  # noqa: E402
@@ -92,8 +91,8 @@ def texts_of(path):
                 texts.append(bytes(self.memory[self.x[10]:]).split(b'\0')[0].decode())
             super().syscall()
 
-    with open(path, 'rb') as f, mock.patch.object(script_machine, 'Machine', Listening):
-        script_machine.run(f.read(), int(BUDGET), lambda *_: script_machine.UNKNOWN)
+    with open(path, 'rb') as f:
+        script_machine.run(f.read(), int(BUDGET), lambda *_: script_machine.UNKNOWN, Listening)
     return texts
 
 

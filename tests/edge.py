@@ -28,6 +28,7 @@ import documents  # noqa: E402
 import editions  # noqa: E402
 import explaining  # noqa: E402
 import folders  # noqa: E402
+import group_pages  # noqa: E402
 import json_program  # noqa: E402
 import json_texts  # noqa: E402
 import layers  # noqa: E402
@@ -52,7 +53,7 @@ def main():
     a.add_argument('words', nargs='*')
     a = a.parse_args()
     modules = (runs, streams, assembling, making, pages, json_texts, folders, editions, allocations, chain_snapshots, script, unproved, layers,
-               documents, tracing, explaining, json_program, asking, stored)
+               documents, tracing, explaining, group_pages, json_program, asking, stored)
     checks = [it for module in modules for it in checks_of(module)]
     checks = [it for it in checks if not a.words or any(word in it[0] for word in a.words)]
     program = a.program and os.path.abspath(a.program)

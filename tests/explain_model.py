@@ -7,7 +7,7 @@ import sys
 TOP = os.path.dirname(os.path.dirname(os.path.abspath(__file__)))
 sys.path.insert(0, os.path.join(TOP, 'examples'))
 
-from encoding import ckbhash, data_hash, fields_of, hash_of_all, items_of, number_of, transactions_root  # noqa: E402
+from encoding import NULL_OUT_POINT, ckbhash, data_hash, fields_of, hash_of_all, items_of, number_of, transactions_root  # noqa: E402
 
 MOST = 2 ** 64 - 1
 
@@ -581,6 +581,43 @@ class Replay:
         return after if all(0 <= it <= MOST for it in after) else None
 
 
+def is_cellbase(tx):
+    return [point for _, point in tx.inputs] == [NULL_OUT_POINT]
+
+
+def cellbases(block):
+    """J16: the transaction that is a cellbase and should be none, the first that is none, or one that stands there twice."""
+    txs = block.transactions
+    if not txs:
+        return ['place transactions', 'found none', 'wanted a cellbase']
+    if not is_cellbase(txs[0]):
+        return ['place transaction 0', 'found no cellbase', 'wanted one input, whose out-point is the null one']
+    later = [i for i, tx in enumerate(txs) if i and is_cellbase(tx)]
+    if later:
+        return ['place transaction %d' % later[0], 'found a cellbase', 'wanted a transaction that spends cells']
+    later, earlier = first_twice([it.hash for it in txs])
+    return ['place transaction %d' % later, 'found the hash of transaction %d' % earlier, 'wanted another']
+
+
+def cellbase_form(block):
+    """J17: the first of what "The cellbase" asks that is not so."""
+    tx = block.transactions[0]
+    types = [bool(fields_of(it)[2]) for it in tx.outputs]
+    good_witness = tx.witnesses and wrong_bytes('CellbaseWitness', tx.witnesses[0]) is None
+    found = 'bytes that are none' if tx.witnesses else 'none'
+    for part, found, wrong, wanted in (
+            ('version', tx.version, tx.version != 0, '0'), ('cell deps', len(tx.deps), tx.deps, '0'),
+            ('header deps', len(tx.headers), tx.headers, '0'),
+            ('since', tx.inputs[0][0], tx.inputs[0][0] != block.number, '%d, the number of the block' % block.number),
+            ('outputs', len(types), len(types) > 1, 'at most 1'),
+            ('outputs_data', len(tx.data), len(tx.data) != len(types), 'one for each output'),
+            ('output', 'a type script', any(types), 'none'), ('outputs_data', 'data', any(tx.data), 'none'),
+            ('witness', found, not good_witness, 'a CellbaseWitness'), ('output', 'a live cell with its out-point', True, 'none')):
+        if wrong:
+            return ['place cellbase, ' + part, 'found %s' % found, 'wanted ' + wanted]
+    return None
+
+
 def output_text(output):
     capacity, lock, kind = fields_of(output)
     return '%d shannons to lock 0x%s%s' % (number_of(capacity), ckbhash(lock).hex(), ', with a type script' if kind else '')
@@ -621,6 +658,7 @@ FORMS = {
     'Raw': [('version', 4), ('cell_deps', (37,)), ('header_deps', (32,)), ('inputs', (44,)), ('outputs', ['Output']), ('outputs_data', [(1,)])],
     'Output': [('capacity', 8), ('lock', 'Script'), ('type_', 'Option')],
     'Script': [('code_hash', 32), ('hash_type', 1), ('args', (1,))],
+    'CellbaseWitness': [('lock', 'Script'), ('message', (1,))],
 }
 
 
@@ -682,6 +720,8 @@ def of_block(store, content, rule):
         return in_block(store, block, rule)
     if rule == 15:
         return uncles(Branch(store, parent), block)
+    if rule in (16, 17):
+        return (cellbases if rule == 16 else cellbase_form)(block)
     if rule in (31, 32):
         return (payment if rule == 31 else dao)(store, block)
     if rule == 6:

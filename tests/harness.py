@@ -61,6 +61,12 @@ def must_be(got, wanted, what):
         raise Wrong('%s: %r, and not %r' % (what, got, wanted))
 
 
+def must_be_lines(got, wanted, what):
+    """Each line is the one that is wanted; the first that is not is named."""
+    for i, (line, other) in enumerate(zip([*got, None], [*wanted, None])):
+        must_be(line, other, '%s: line %d' % (what, i + 1))
+
+
 # ------------------------------------------------------------------ running
 
 def status_of(process):

@@ -7,7 +7,7 @@ import re
 
 from harness import TOP, must
 
-PATHS_OF_THE_PROGRAM, PATHS_OF_ALL = 13_500, 110_000
+PATHS_OF_THE_PROGRAM, PATHS_OF_ALL = 10_000, 60_000
 
 
 def listed():

@@ -23,6 +23,8 @@ from making import contract_cell_line, live_line, mined_on_page
 from streams import BAD_WORDS
 from tracing import tracer
 
+TRACER = os.path.join(TOP, 'ckbtrace')
+
 
 def check_script_passes_on(_):
     """Words, streams, status and folder go through the script as they are."""
@@ -32,7 +34,7 @@ def check_script_passes_on(_):
             os.mkdir(os.path.join(away, name))
             must_answer(Ran([SCRIPT, name, 'init'], FIRST_INIT, cwd=away), 0, FIRST_LINE, 'init in %r' % name)
             ran = Ran([SCRIPT, name, 'import'], given, name == '*', cwd=away)
-            must_be((ran.status, ran.out, ran.err), (1, text, why_of_import(name)), 'import in %r' % name)
+            must_be((ran.status, ran.out, ran.err), (1, text, why_of_import(TRACER, name)), 'import in %r' % name)
         link = os.path.join(away, 'a link')
         os.symlink(SCRIPT, link)
         tip = ('%s\n' % first.tip(first.first_blocks()[1])).encode()
@@ -98,7 +100,7 @@ def check_script_explains_statuses(_):
         must_tell(['store', 'migrate', '7'], 14, b'edition 1\n', 'the store has an edition, which the line names')
         must_tell(['store', 'import'], 9, b'bad size 0\n', 'the size at the start', b'\3\0\0\0')
         must_tell(['store', 'import'], 9, b'bad size 0\n', "begins as JSON does, and ckbdev 'store' unjson", b'{"header":{}}')
-        must_tell(['empty', 'exec', '5'], 12, b'extra 1048576\n', 'bytes follow', bytes((1 << 20) + 1))
+        must_tell(['empty', 'exec', '5'], 12, b'extra 1048576\n', 'more than 1,048,576 bytes', bytes((1 << 20) + 1))
         must_tell(['empty', 'init'], 8, b'cut 0\n', 'a specification and a genesis')
         must_tell(['store', 'assemble'], 8, b'cut 0\n', "its cellbase's witness")
         bad = first.changed(first.SPEC, epoch_length=0).item() + first.GENESIS.item()
@@ -261,7 +263,8 @@ def check_script_answers_words_without_a_build(_):
                            (['import', 'any'], 'ckbdev FOLDER import'), (['any', 'Import'], "did you mean 'import'?"),
                            (['any', 'tpi'], "did you mean 'tip'?"), (['any', 'chekc', '5'], "did you mean 'check'?"),
                            (['any', 'zzzz'], "no command 'zzzz'\n"), (['any', '--help'], 'no command'),
-                           (['any', ''], 'no command'), (['any', '*'], "no command '*'\n")):
+                           (['any', ''], 'no command'), (['any', '*'], "no command '*'\n"), (['--verison'], "no option '--verison': --help,"),
+                           (['help'], "no option 'help'")):
             status, out, err = it.run(words=words)
             must_be((status, out), (2, b''), repr(words))
             must(why.encode() in err, '%r: %r is not named, but %r' % (words, why, err))
@@ -302,8 +305,8 @@ def refused_words():
     for word in ('abc', '', '01', '00', '-1', '+1', '0x1', '1 ', '\u0663'):
         for before, name, after in ((['header'], 'N', []), (['exec'], 'N', []), (['dao', HASH], 'N', []), (['make'], 'N', ['1']), (['make', '5'], 'M', [])):
             yield [*before, word, *after], NOT_A_NUMBER % (name, before[0], word)
-    for word, why in ((HASH[:-1], 'of digits it has 63'), (HASH + '0', 'of digits it has 65'), (HASH.upper(), 'it does not begin with 0x'),
-                      (HASH.replace('a', 'A'), 'it has another character'), (HASH[2:], 'it does not begin with 0x'), ('5', 'it does not begin with 0x')):
+    for word, why in ((HASH[:-1], 'it has 63 digits'), (HASH + '0', 'it has 65 digits'), (HASH.upper(), 'it does not begin with 0x'),
+                      (HASH.replace('a', 'A'), 'it has a character that is none of 0 to 9 and a to f'), (HASH[2:], 'it does not begin with 0x'), ('5', 'it does not begin with 0x')):
         yield ['cell', word, '0'], NOT_A_HASH % ('cell', word, why)
     for before, name, most, shown in (
             (['exec'], 'N of exec, the budget in cycles,', 2 ** 40, '%d (2^40)'), (['json'], 'N of json', MOST, '%d (2^64 - 1)'),
@@ -346,6 +349,7 @@ ANSWERS = r'''#!/bin/sh
 case $2 in
     exec) exec cat ;;
     check) read line; case $line in refused*) echo "$line"; exit 1 ;; ok*) echo "$line" ;; *) exit 9 ;; esac ;;
+    unjson | asm) read line; case $line in bad*) echo "$line"; exit 1 ;; *) exit 9 ;; esac ;;
     tip) flock -n "$1/log.bin" sleep 0.1 || exit 5 ;;
     epoch) echo >"$1/begun"; while [ ! -e "$1/go" ]; do sleep 0.01; done; exit 5 ;;
     *) exit 9 ;;
@@ -415,9 +419,10 @@ def check_script_explains_lines_of_exec(_):
     """The line comes as the program wrote it, or the status for a line that is lost; then where to look, once."""
     elf = ('ckbdev: bad elf %s: docs/MACHINE.md has what meets E %s, and what to look at first ("A program as an ELF file")\n')
     fault = ('ckbdev: fault %s: docs/MACHINE.md has what could not be done ("A step"), and what that usually means ("Building a '
-             'program"); ./ckbtrace 1000 < PROGRAM shows where, the last jumps and the registers\n')
+             'program"); {} 1000 < PROGRAM shows where, the last jumps and the registers\n')
     with new_folder() as top:
         it = Answering(top)
+        fault = fault.format(it.at('ckbtrace'))
         for line, said in (('exit 1 5', ''), ('exit -1 505', ''), ('spent', ''), ('bad elf 1', elf % (1, 1)), ('bad elf 8', elf % (8, 8)),
                            ('fault 5 505', fault % 5), ('fault 1 0', fault % 1)):
             for piped in (False, True):
@@ -435,21 +440,21 @@ def check_script_explains_lines_of_exec(_):
         must('## ' + part in parts, 'docs/MACHINE.md has no part %r' % part)
 
 
-def why_text(what, folder, command, rule):
-    """What the script says of a refusal."""
-    return ("ckbdev: %s: ./ckbtrace '%s' %s explains it; docs/RULES.md has what breaks %s, and what to look at first (\"A block\")\n"
-            % (what, folder, command, rule))
+def why_text(what, ckbtrace, folder, command, rule):
+    """What the script says of a refusal, with the script beside it that explains."""
+    return ("ckbdev: %s: %s '%s' %s explains it; docs/RULES.md has what breaks %s, and what to look at first (\"A block\")\n"
+            % (what, ckbtrace, folder, command, rule))
 
 
-def why_of_import(folder):
-    return why_text('a block is refused', folder, 'import < BLOCK', 'each rule').encode()
+def why_of_import(ckbtrace, folder):
+    return why_text('a block is refused', ckbtrace, folder, 'import < BLOCK', 'each rule').encode()
 
 
 def check_script_explains_refused_transactions(_):
     """After the line of `check` which command explains it, once, and the status of the program; after `import` that of a block."""
-    refused = why_text('refused J%d', 'any', 'check < TRANSACTION', 'J%d')
     with new_folder() as top:
         it = Answering(top)
+        refused = why_text('refused J%d', it.at('ckbtrace'), 'any', 'check < TRANSACTION', 'J%d')
         for line, status, said in (('ok 10000 505', 0, ''), ('refused J1', 1, refused % (1, 1)), ('refused J29', 1, refused % (29, 29))):
             for piped in (False, True):
                 ran = it.ran(['check'], line.encode() + b'\n', piped)
@@ -460,16 +465,30 @@ def check_script_explains_refused_transactions(_):
         must('## A block' in f.read().splitlines(), "docs/RULES.md has no part 'A block'")
 
 
+def check_script_explains_other_refusals(_):
+    """After a text that says no where to look, once, and the status of the program."""
+    with new_folder() as top:
+        it = Answering(top)
+        for command, line, said in (
+                ('unjson', 'bad json', 'bad json: %s block < TEXT says in which line and at which path, and what is wanted there' % it.at('ckbjson')),
+                ('asm', 'bad line 3', 'bad line: docs/MACHINE.md has what a line may be ("The text of an instruction")')):
+            ran = it.ran([command], line.encode() + b'\n')
+            must_be((ran.status, ran.out.decode(), ran.err.decode()), (1, line + '\n', 'ckbdev: %s\n' % said), line)
+    with open(os.path.join(TOP, 'docs', 'MACHINE.md'), encoding='utf-8') as f:
+        must('## The text of an instruction' in f.read().splitlines(), "docs/MACHINE.md has no part 'The text of an instruction'")
+
+
 def check_script_names_json(_):
     """Where a size word is none, the script says of an input in JSON what makes bytes of it."""
     of_block = "ckbdev 'any' unjson writes the bytes of a block\n"
+    of_store = 'ckbjson spec and ckbjson block write the bytes of a specification and of a block\n'
     of_one = 'ckbjson transaction writes the bytes of a transaction\n'
     of_items = 'ckbjson writes the bytes of a transaction and of a witness\n'
     begins, may_be = 'the input begins as JSON does, and ', 'the input is something else. If it is JSON: '
     with new_folder() as top:
         it = Answering(top)
         for given, piped, command, said in (
-                (b'{}', False, 'import', begins + of_block), (b' \r\n\t[1]', False, 'init', begins + of_block),
+                (b'{}', False, 'import', begins + of_block), (b' \r\n\t[1]', False, 'init', begins + of_store),
                 (b'{', False, 'check', begins + of_one), (b'{', False, 'assemble', begins + of_items),
                 (b'{}', True, 'import', may_be + of_block), (b'{}', True, 'check', may_be + of_one),
                 (b'\3\0\0\0', False, 'import', 'the input is something else\n'), (b'0x{}', False, 'init', 'the input is something else\n')):
@@ -670,7 +689,7 @@ def check_documents(_):
         must_answer(Ran([SCRIPT, 'chain', 'init'], FIRST_INIT, cwd=away), 0, FIRST_LINE, 'init')
         given, text = first.input_and_text(first.first_blocks()[0])
         ran = Ran([SCRIPT, 'chain', 'import'], given, cwd=away)
-        must_be((ran.status, ran.out, ran.err), (1, text, why_of_import('chain')), 'import')
+        must_be((ran.status, ran.out, ran.err), (1, text, why_of_import(TRACER, 'chain')), 'import')
         for name, line, wanted in shown:
             with open(os.path.join(TOP, 'docs', name), encoding='utf-8') as f:
                 document = f.read()
@@ -775,8 +794,9 @@ def check_readme(_):
     rule = contract.refused()[1].split(' ')[1]
     refuses = './ckbdev contract check < examples/refused.bin'
     imports = './ckbdev contract import < examples/contract-chain.bin | grep refused'
-    told_after = {refuses: why_text('refused ' + rule, 'contract', 'check < TRANSACTION', rule).encode(), imports: why_of_import('contract'),
-                  './ckbdev chain import < examples/first-blocks.bin': why_of_import('chain')}
+    told_after = {refuses: why_text('refused ' + rule, './ckbtrace', 'contract', 'check < TRANSACTION', rule).encode(),
+                  imports: why_of_import('./ckbtrace', 'contract'),
+                  './ckbdev chain import < examples/first-blocks.bin': why_of_import('./ckbtrace', 'chain')}
     coin = './ckbdev contract cell 0x%s 1' % contract.First.hash.hex()
     text_of_contract = first.input_and_text(contract.contract_chain()[0])[1]
     of_contract = [

@@ -31,7 +31,7 @@ PARTS = {
 # of a script that makes both: the rows of lists of runs, and those of runs by themselves
 ROWS_OF = {'crates/run_vectors/stdin': lambda row: is_of_list(row), 'tests/rows/runs.txt': lambda row: not is_of_list(row)}
 # scripts that make no rows by themselves, or rows of a folder that is not here, or rows that are not stored
-NO_PARTS = {'common', 'judge_runs', 'spec_items', 'wrong_texts'}
+NO_PARTS = {'common', 'judge_runs', 'spec_items', 'told_chain', 'wrong_texts'}
 # those that take longest begin first
 SLOWEST = ('script_groups', 'moves', 'live_cells')
 

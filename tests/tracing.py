@@ -1,19 +1,17 @@
-"""The pages of ckbtrace: its lines beside those of `exec` on every stored program, and whole pages beside a plain machine."""
+"""The pages of ckbtrace: its lines beside those of `exec` on every stored program, and whole pages beside the plain machine of
+trace_model.py; and the listing of code beside that of the model."""
 
 import functools
 import os
 import subprocess
 import sys
-from unittest import mock
+from random import Random
 
 from harness import PRIMES, SCRIPTS, TOP, Ran, must, must_answer, must_be, new_folder
 import runs
-import script_machine
-
-NAMES = ('zero ra sp gp tp t0 t1 t2 s0 s1 a0 a1 a2 a3 a4 a5 a6 a7 s2 s3 s4 s5 s6 s7 s8 s9 s10 s11 t3 t4 t5 t6').split()
-# how many jumps and how many bytes of a text a page shows
-JUMPS, SHOWN = 16, 1024
-ESCAPES = {10: '\\n', 9: '\\t', 34: '\\"', 92: '\\\\'}
+import trace_model
+from encoding import uint
+from trace_model import SHOWN
 
 
 @functools.lru_cache(None)
@@ -23,110 +21,6 @@ def tracer():
     program = os.path.join(TOP, 'build', 'ckbtrace')
     must(os.access(program, os.X_OK), 'there is no program %s' % program)
     return program
-
-
-# ------------------------------------------------------------ a plain machine
-
-def shown(memory, at):
-    """The line of a text in memory."""
-    text = bytes(memory[at:at + SHOWN])
-    whole = b'\0' in text
-    text = text.split(b'\0')[0]
-    parts = (ESCAPES.get(byte) or (chr(byte) if 32 <= byte < 127 else '\\x%02x' % byte) for byte in text)
-    return 'text "%s"%s\n' % (''.join(parts), '' if whole else ' cut')
-
-
-class Traced(script_machine.Machine):
-    """The machine of examples/, which notes its jumps and what it prints."""
-
-    made = None
-
-    def __init__(self, *words):
-        super().__init__(*words)
-        Traced.made = self
-        self.texts, self.jumps = [], []
-
-    def go(self):
-        while True:
-            cycles, effect = self.decoded.get(self.pc) or self.decode()
-            self.charge(cycles)
-            at, self.pc = self.pc, effect()
-            if self.pc - at not in (2, 4):
-                if self.jumps and self.jumps[-1][:2] == [at, self.pc]:
-                    self.jumps[-1][2] += 1
-                else:
-                    self.jumps.append([at, self.pc, 1])
-
-    def syscall(self):
-        if self.x[17] == 2177:
-            self.texts.append(shown(self.memory, self.x[10]))
-        super().syscall()
-
-    def size_at(self, at):
-        """How many bytes the instruction at an address has, or why there is none."""
-        if at % 2:
-            return 'odd address'
-        self.pc = at
-        try:
-            return self.instruction()[2] - at
-        except script_machine.Fault as fault:
-            return 'no instruction' if fault.args[0] == 4 else 'no code'
-
-
-def symbols_of(file):
-    """The symbols of the file's first symbol table that have no type, or are data or functions: the name, the address and the size of each."""
-    def at(place, size):
-        return int.from_bytes(file[place:place + size], 'little')
-    headers = [at(40, 8) + 64 * i for i in range(at(60, 2))]
-    table = next((it for it in headers if at(it + 4, 4) == 2), None)
-    if table is None:
-        return []
-    names = at(headers[at(table + 40, 4)] + 24, 8)
-    found = []
-    for it in range(at(table + 24, 8), at(table + 24, 8) + at(table + 32, 8), 24):
-        name = file[names + at(it, 4):].split(b'\0')[0].decode('latin1')
-        if at(it + 4, 1) % 16 < 3:
-            found.append((name, at(it + 8, 8), at(it + 16, 8)))
-    return found
-
-
-def named(symbols, address):
-    """The name of an address, behind a space, where it has one."""
-    for name, value, size in symbols:
-        if name and name[0] != '$' and value <= address < value + max(size, 1):
-            past = '+0x%x' % (address - value) if address > value else ''
-            return ' (%s%s)' % (name[:80], past)
-    return ''
-
-
-def page_of(program, code, budget):
-    """The page of a file, worked out by the plain machine. The texts of instructions are those of `dis`."""
-    with mock.patch.object(script_machine, 'Machine', Traced):
-        end = script_machine.run(code, budget, lambda *_: script_machine.UNKNOWN)
-    if end[0] == 'bad elf':
-        return 'bad elf %d\n' % end[1]
-    machine = Traced.made
-    if not machine.code.count(1):
-        return 'spent\ncycles %d of %d, for loading alone\n' % (machine.cycles, budget)
-    pc, jumps = machine.pc, machine.jumps[-JUMPS:]
-    if end[0] == 'fault':
-        end += (machine.cycles,)
-    lines = [' '.join(map(str, end)), 'cycles %d of %d' % (machine.cycles, budget)]
-    texts = texts_at(program, machine, [pc] + [jump[0] for jump in jumps])
-    names = functools.partial(named, symbols_of(code))
-    lines += ['pc 0x%x%s %s' % (pc, names(pc), texts[0]), 'last jumps']
-    for (at, to, times), text in zip(jumps, texts[1:]):
-        lines.append('  0x%x%s %s to 0x%x%s' % (at, names(at), text, to, names(to)) + (', %d times' % times if times > 1 else ''))
-    cells = ['  x%-2d %-4s 0x%016x' % (i, NAMES[i], machine.x[i]) for i in range(32)]
-    lines += ['registers', *(cells[i] + cells[i + 1] for i in range(0, 32, 2))]
-    return ''.join(machine.texts) + ''.join(line + '\n' for line in lines)
-
-
-def texts_at(program, machine, places):
-    sizes = [machine.size_at(at) for at in places]
-    code = b''.join(bytes(machine.memory[at:at + size]) for at, size in zip(places, sizes) if isinstance(size, int))
-    listing = iter(Ran([program, 'any', 'dis'], code).out.decode().splitlines())
-    return [next(listing).split(' ', 1)[1] if isinstance(size, int) else size for size in sizes]
 
 
 # ------------------------------------------------------------------- programs
@@ -168,6 +62,51 @@ def programs(program):
     yield 'an odd entry', odd_entry(elf_of(program, EXITS))
     yield 'a loop', elf_of(program, 'addi x5,x0,100\naddi x5,x5,-1\nbne x5,x0,-4\njal x0,-12\n')
     yield '17 jumps', elf_of(program, 'jal x0,8\naddi x0,x0,0\n' * 17 + EXITS)
+    yield from with_each_symbol(program)
+
+
+# the types of symbols, and of sections
+NO_TYPE, OBJECT, FUNCTION, SECTION, FILE_NAME = range(5)
+SYMBOL_TABLE, STRINGS, DYNAMIC_SYMBOLS = 2, 3, 11
+
+
+def with_symbols(file, symbols, kind=SYMBOL_TABLE, **changed):
+    """The file with a section of symbols behind it, each a name, an address, a size and a type, and one of their names. Of the
+    header of the first `changed` changes fields: where it lies, how long it is, and which section has the names."""
+    names, table = b'\0', bytes(24)
+    for name, address, size, its_type in symbols:
+        table += uint(len(names), 4) + bytes([its_type, 0]) + uint(1, 2) + uint(address, 8) + uint(size, 8)
+        names += name + b'\0'
+    start = len(file)
+    heads = b''.join(
+        uint(0, 4) + uint(it['kind'], 4) + bytes(16) + uint(it['at'], 8) + uint(it['size'], 8) + uint(it['names'], 4) + bytes(20)
+        for it in (dict(kind=0, at=0, size=0, names=0), dict(dict(kind=kind, at=start, size=len(table), names=2), **changed),
+                   dict(kind=STRINGS, at=start + len(table), size=len(names), names=0)))
+    made = file + table + names + heads
+    return made[:40] + uint(start + len(table) + len(names), 8) + made[48:58] + uint(64, 2) + uint(3, 2) + made[62:]
+
+
+def with_each_symbol(program):
+    """A file whose jumps and end have names of each kind, and files whose tables are not as they should be."""
+    plain = elf_of(program, 'addi x5,x0,3\naddi x5,x5,-1\nbne x5,x0,-4\njal x0,8\necall\njal x0,8\necall\nlw x10,-4(x0)\n')
+    start = 0x10078
+    # the branch at 8, the jumps at 12 and 20, and the load at 28 past the start
+    symbols = [
+        (b'section', start, 64, SECTION), (b'file.c', start, 64, FILE_NAME), (b'', start, 64, FUNCTION), (b'$x', start, 64, NO_TYPE),
+        (b'loop', start + 4, 8, FUNCTION), (b'behind the first', start + 4, 8, FUNCTION), (b'one address', start + 12, 0, NO_TYPE),
+        (b'data', start + 20, 4, OBJECT), (b'\x01\xff ' + b'n' * 90, start + 28, 4, FUNCTION), (b'global', start, 64, FUNCTION | 1 << 4)]
+    yield 'a name of each kind', with_symbols(plain, symbols)
+    yield 'no name that covers an address', with_symbols(plain, symbols[:4])
+    yield 'an empty table', with_symbols(plain, [])
+    yield 'names at the end of addresses', with_symbols(plain, [(b'last', 2 ** 64 - 1, 2, FUNCTION), (b'first', 0, 2 ** 64 - 1, FUNCTION)])
+    yield 'symbols of what is linked at the start', with_symbols(plain, symbols, DYNAMIC_SYMBOLS)
+    yield 'a table past the file', with_symbols(plain, symbols, at=2 ** 63)
+    yield 'a table that ends past the file', with_symbols(plain, symbols, size=10 ** 6)
+    yield 'a table that is cut inside a symbol', with_symbols(plain, symbols, size=24 * 6 + 23)
+    named = with_symbols(plain, symbols)
+    yield 'sections past the file', named[:40] + uint(2 ** 64 - 64, 8) + named[48:]
+    yield 'more sections than there are', named[:60] + uint(0xffff, 2) + named[62:]
+    yield 'stripped', plain
 
 
 def odd_entry(file):
@@ -176,23 +115,36 @@ def odd_entry(file):
 
 # --------------------------------------------------------------------- checks
 
+def check_listings_beside_a_second_decoder(program):
+    """`dis` of random bytes, of random full forms and of each pattern of two bytes lists what the model does."""
+    random = Random(2)
+    codes = [random.randbytes(200000), b''.join(uint(random.getrandbits(30) << 2 | 3, 4) for _ in range(50000)),
+             b''.join(uint(it, 2) for it in range(1 << 16) if it & 3 != 3), b'\x13', b'\x13\0\0', b'\x01']
+    # each opcode of the table with each function, over all else at random
+    codes.append(b''.join(uint(random.getrandbits(32) & 0xffff8f80 | opcode | it << 12, 4) for _ in range(64) for it in range(8)
+                          for opcode in (0x03, 0x0f, 0x13, 0x17, 0x1b, 0x23, 0x33, 0x37, 0x3b, 0x63, 0x67, 0x6f, 0x73)))
+    # and with each of the high bits that choose an operation
+    codes.append(b''.join(uint(random.getrandbits(25) & 0x1ff8f80 | opcode | it << 12 | high << 25, 4) for high in range(128)
+                          for it in range(8) for opcode in (0x13, 0x1b, 0x33, 0x3b)) + uint(0x73, 4) + uint(0x100073, 4))
+    for code in codes:
+        must_be(Ran([program, 'any', 'dis'], code).out.decode().splitlines(), trace_model.listing(code), 'the listing of %d bytes' % len(code))
+
+
 def check_trace_pages(program):
     """Whole pages are those of the plain machine, with an ample budget, with just enough, and with a cycle less."""
     for name, file in programs(program):
-        page = page_of(program, file, 100000)
-        must_answer(Ran([tracer(), '100000'], file), 0, page.encode(), name)
-        cycles = Traced.made.cycles
-        if cycles <= 100000:
-            for budget in (cycles, cycles - 1):
-                wanted = page_of(program, file, budget)
-                must_answer(Ran([tracer(), str(budget)], file), 0, wanted.encode(), '%s with %d cycles' % (name, budget))
+        ended = trace_model.Ended(file, 100000)
+        must_answer(Ran([tracer(), '100000'], file), 0, ended.text(), name)
+        cycles = ended.cycles()
+        for budget in (cycles, cycles - 1) if 0 < cycles <= 100000 else ():
+            must_answer(Ran([tracer(), str(budget)], file), 0, trace_model.Ended(file, budget).text(), '%s with %d cycles' % (name, budget))
 
 
-def check_trace_stored(program):
+def check_trace_stored(_):
     """The stored run of the crate has the page of the plain machine."""
     crate = os.path.join(TOP, 'crates', 'ckbtrace')
     with open(os.path.join(crate, 'stdin'), 'rb') as given, open(os.path.join(crate, 'stdout'), encoding='ascii') as text:
-        must_be(text.read(), page_of(program, given.read(), 1000), 'crates/ckbtrace/stdout')
+        must_be(text.read(), trace_model.Ended(given.read(), 1000).text().decode(), 'crates/ckbtrace/stdout')
 
 
 def check_trace_lines(_):
@@ -223,7 +175,7 @@ def check_trace_words_and_streams(_):
     must_be(Ran(['sh', '-c', 'exec "$@" <&-', '', tracer(), '5']).status, 3, 'a closed standard input')
 
 
-def check_trace_document(program):
+def check_trace_document(_):
     """What docs/COMMANDS.md shows of a page is what comes, and is the plain machine's."""
     with open(os.path.join(TOP, 'docs', 'COMMANDS.md'), encoding='utf-8') as f:
         lines = f.read().split('\n## How a program ended, on a page\n')[1].splitlines()
@@ -238,4 +190,4 @@ def check_trace_document(program):
         must_answer(Ran(['sh', '-c', made.replace('| ckbdev', '| ./ckbdev')], cwd=away), 0, b'', made)
         must_answer(Ran(['sh', '-c', './' + traced], cwd=away), 0, ''.join(line + '\n' for line in page).encode(), traced)
         with open(os.path.join(away, 'fault.elf'), 'rb') as f:
-            must_be(page_of(program, f.read(), 1000).splitlines()[:5], page, 'the page of a plain machine')
+            must_be(trace_model.Ended(f.read(), 1000).text().decode().splitlines()[:5], page, 'the page of a plain machine')

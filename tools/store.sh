@@ -1,5 +1,5 @@
 # shellcheck shell=sh disable=SC2154
-# What the scripts share whose program opens a store. Such a script sets `folder`, and `log` by `name_log`; `waited` is not
+# What ckbdev and ckbtrace share, whose programs open a store. Such a script sets `folder`, and `log` by `name_log`; `waited` is not
 # empty where it waited for another run to no end.
 waited=
 
@@ -47,7 +47,13 @@ say_status() {
         9) why="the size at the start of an item is below 4 or above its limit: $(what_of_the_input)" ;;
         10) why="the folder '$folder' has a log.bin already, of a store or of something else: take another" ;;
         11) why='the specification or the genesis breaks the rule that the line names; docs/RULES.md has it' ;;
-        12) why='bytes follow what the command takes' ;;
+        12) case $name:$command in
+                *:check) why='bytes follow the transaction: the command takes one' ;;
+                ckbtrace:import) why='bytes follow the block: the command takes one' ;;
+                *:exec | *:asm | *:dis) why='the input has more than 1,048,576 bytes' ;;
+                *:unjson) why='the text has more than 16,777,216 bytes' ;;
+                *) why='bytes follow what the command takes' ;;
+            esac ;;
         13) why="the tip has reached the epoch that the line names; an edition begins in a later one, or on a store with the genesis alone" ;;
         14) why='the store has an edition, which the line names, and keeps it' ;;
         *) why='it is none of the statuses of docs/COMMANDS.md' ;;
@@ -81,7 +87,8 @@ is_held() {
 # What the input may be whose size words are none.
 what_of_the_input() {
     case $command in
-        init | import | watch) bytes="ckbdev '$folder' unjson writes the bytes of a block" ;;
+        init) bytes='ckbjson spec and ckbjson block write the bytes of a specification and of a block' ;;
+        import | watch) bytes="ckbdev '$folder' unjson writes the bytes of a block" ;;
         check) bytes='ckbjson transaction writes the bytes of a transaction' ;;
         *) bytes='ckbjson writes the bytes of a transaction and of a witness' ;;
     esac

@@ -45,6 +45,8 @@ READ_NOTHING = ('migrate', 'tip', 'header', 'json', 'epoch', 'audit', 'cell', 'l
 WRITE = {'init': 'a store may be made: ./%s FOLDER tip tells', 'import': 'blocks may be kept: ./%s FOLDER tip tells',
          'watch': 'blocks may be kept: ./%s FOLDER tip tells', 'migrate': 'the store may have its edition: the same command tells, ./%s FOLDER migrate N'}
 IN_A_FOLDER = ('ckbdev', 'ckbask')
+# of the words after a folder, those that do not look at it
+IN_NO_FOLDER = ('exec', 'asm', 'dis', 'unjson', 'make', 'soak')
 # programs whose first word is a folder, where others follow it
 MAY_BE_IN_A_FOLDER = ('ckbtrace',)
 SIGNALS = (signal.SIGHUP, signal.SIGINT, signal.SIGQUIT, signal.SIGTERM)
@@ -130,29 +132,49 @@ def tried(words, given, text):
             status = process.wait()
         except Stopped:
             process.terminate()
-            try:
-                process.wait(20)
-            except subprocess.TimeoutExpired:
+            if not has_ended(process.pid, 20):
                 process.kill()
-                process.wait()
             # `rt` loses what it has started just as it is asked to end
-            end_all_with(room)
+            end_all_of(process.pid, room)
+            process.wait()
             raise
         said.seek(0)
         return status, said.read().decode(errors='replace')
 
 
-def end_all_with(room):
-    """Kills the processes that a file of this folder was given to: no others know its name."""
+def has_ended(pid, seconds):
+    """Whether a child ends within some seconds. It is not waited for, so its number stays its own."""
+    until = time.monotonic() + seconds
+    with contextlib.suppress(ChildProcessError):
+        while not os.waitid(os.P_PID, pid, os.WEXITED | os.WNOHANG | os.WNOWAIT):
+            if time.monotonic() > until:
+                return False
+            time.sleep(0.02)
+    return True
+
+
+def end_all_of(leader, room):
+    """Kills the processes of a session, and those that a file of this folder was given to: no others know its name."""
     found = True
     while found:
         found = False
-        for pid in filter(str.isdigit, os.listdir('/proc')):
-            with contextlib.suppress(OSError), open('/proc/%s/cmdline' % pid, 'rb') as f:
-                if int(pid) != os.getpid() and os.fsencode(room) + b'/' in f.read():
-                    os.kill(int(pid), signal.SIGKILL)
+        for pid in map(int, filter(str.isdigit, os.listdir('/proc'))):
+            with contextlib.suppress(OSError):
+                if pid not in (leader, os.getpid()) and (is_in_session(pid, leader) or knows(pid, os.fsencode(room) + b'/')):
+                    os.kill(pid, signal.SIGKILL)
                     found = True
         time.sleep(0.02)
+
+
+def is_in_session(pid, leader):
+    with open('/proc/%d/stat' % pid, 'rb') as f:
+        state, _, _, session = f.read().rpartition(b')')[2].split()[:4]
+    return int(session) == leader and state != b'Z'
+
+
+def knows(pid, text):
+    with open('/proc/%d/cmdline' % pid, 'rb') as f:
+        return text in f.read()
 
 
 def why_not(said, status, words):
@@ -187,6 +209,8 @@ def run(words):
     reads = NAME not in IN_A_FOLDER or words[1:2] == [] or words[1] not in READ_NOTHING
     waits = reads and not stat.S_ISREG(os.fstat(INPUT).st_mode)
     tell('rt try compiles the program and runs this one command%s' % (' when its input has ended' if waits else ''))
+    if NAME in IN_A_FOLDER and words[1:2] and words[1] not in IN_NO_FOLDER and words[0] and not os.path.isdir(words[0]):
+        say("there is no folder '%s': an interrupt spares the wait" % words[0])
     with tempfile.TemporaryFile() as given, tempfile.TemporaryFile() as text:
         if reads:
             input_whole(given)

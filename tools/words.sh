@@ -1,6 +1,7 @@
 # shellcheck shell=sh disable=SC2154
-# What is wrong with words that are not in the grammar of docs/COMMANDS.md, in one line. The scripts ckbdev and ckbjson take
-# this in where there are such words: each has `commands` and `is_command`, and ckbjson a sentence for each case of its own.
+# What is wrong with words that are not in the grammar of docs/COMMANDS.md, in one line. The scripts ckbdev, ckbjson
+# and ckbtrace take this in where there are such words: the first two have `commands` and `is_command`, and each but ckbdev
+# sentences of its own.
 
 # A word as it can stand in a line.
 shown() {
@@ -15,12 +16,22 @@ nearest() {
 print(*difflib.get_close_matches(sys.argv[1].lower(), sys.argv[2].split(), 1))' "$1" "$commands" </dev/null 2>/dev/null
 }
 
+# Whether a word that stands alone was to be an option.
+is_option() {
+    case $1 in
+        -* | help | version | build) [ ! -d "$1" ] ;;
+        *) return 1 ;;
+    esac
+}
+
 # Says what is wrong with words whose second is no command.
 say_unknown() {
     if [ $# -eq 0 ]; then
         say 'there are no words'
     elif is_command "$1"; then
         say "the folder comes first: ckbdev FOLDER $1"
+    elif [ $# -eq 1 ] && is_option "$1"; then
+        say "there is no option $(shown "$1"): --help, --version and --build stand alone"
     elif [ $# -eq 1 ]; then
         say "there is no command after the folder $(shown "$1")"
     else
@@ -78,9 +89,9 @@ why_bad() {
 must_be_hash() {
     digits=${1#0x}
     case $1 in
-        0x*[!0123456789abcdef]*) why='it has another character' ;;
+        0x*[!0123456789abcdef]*) why='it has a character that is none of 0 to 9 and a to f' ;;
         0x*) [ ${#digits} -ne 64 ] || return 0
-            why="of digits it has ${#digits}" ;;
+            why="it has ${#digits} digits" ;;
         *) why='it does not begin with 0x' ;;
     esac
     echo "HASH of $command is 0x and 64 hex digits in lower case, and $(shown "$1") is not: $why"

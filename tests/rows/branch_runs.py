@@ -17,13 +17,12 @@ the program.
 
 from common import emit, emit_listed
 
-import paying_chain
-from encoding import ckbhash
 from make_contract_chain import ANYONE, First, Transaction
-from make_first_blocks import genesis_line, joined, known
+from make_first_blocks import genesis_line, known
 from make_store import COIN
 from paying_chain import ancestors
 from script_scene import Cell, data_hash
+from told_chain import Chain
 
 NAME = 'branches that spend a cell differently'
 
@@ -66,26 +65,6 @@ def line_of(cells, output):
     cell, height = found
     return 'live %d %d %d 0x%s - 0x%s %d' % (cell.capacity, cell.occupied(), height, cell.lock.hash().hex(),
                                              data_hash(cell.content).hex(), len(cell.content))
-
-
-class Chain(paying_chain.Chain):
-    """Each item with its line, and the tip after it: the first that is highest."""
-
-    def __init__(self):
-        super().__init__(w_close=1, w_far=10)
-        self.best = [self.genesis]
-
-    def says(self, block, line):
-        self.items.append((block.item(), line))
-        self.best.append(block if line == joined(block) and block.number > self.best[-1].number else self.best[-1])
-
-    def joins(self, parent, **parts):
-        block = self.block(parent=parent, **parts)
-        self.says(block, joined(block))
-        return block
-
-    def refuses(self, rule, parent, **parts):
-        self.says(self.block(parent=parent, **parts), 'refused J%d' % rule)
 
 
 def branches():

@@ -21,13 +21,13 @@ from common import emit
 TESTS = os.path.dirname(os.path.dirname(os.path.abspath(__file__)))
 sys.path[1:1] = [os.path.join(os.path.dirname(TESTS), 'bench')]
 import chaingen  # noqa: E402 (beside the line above)
-import paying_chain  # noqa: E402
 from encoding import ckbhash  # noqa: E402
 from make_contract_chain import ANYONE, First, Transaction  # noqa: E402
-from make_first_blocks import genesis_line, joined, known  # noqa: E402
+from make_first_blocks import genesis_line, known  # noqa: E402
 from make_store import COIN, PROGRAM, SHANNONS  # noqa: E402
 from paying_chain import ancestors  # noqa: E402
 from script_scene import Cell, Script  # noqa: E402
+from told_chain import Chain  # noqa: E402
 
 SEEDS, BLOCKS, TRANSACTIONS = (1, 2, 3), 36, 40
 # above it a cellbase pays
@@ -72,27 +72,6 @@ def total_of(tip, lock):
 def listed(tip, lock):
     lines = ['cell %s %d %d' % (hexed(key[0]), key[1], capacity) for key, capacity in cells_of(tip, lock)]
     return ''.join(line + '\n' for line in lines + ['total ' + total_of(tip, lock)])
-
-
-class Chain(paying_chain.Chain):
-    """Each item with its line and the tip after it: the first that is highest."""
-
-    def __init__(self):
-        super().__init__(w_close=1, w_far=10)
-        self.kept, self.best = [self.genesis], [self.genesis]
-
-    def says(self, block, line):
-        self.items.append((block.item(), line))
-        self.best.append(block if line == joined(block) and block.number > self.best[-1].number else self.best[-1])
-
-    def joins(self, parent, **parts):
-        block = self.block(parent=parent, **parts)
-        self.says(block, joined(block))
-        self.kept.append(block)
-        return block
-
-    def refuses(self, rule, parent, **parts):
-        self.says(self.block(parent=parent, **parts), 'refused J%d' % rule)
 
 
 # ------------------------------------------------------------------ the rows
