@@ -15,34 +15,34 @@ import store_model  # noqa: E402
 import stream_faults  # noqa: E402
 
 # Stands before the C library's allocations. It refuses the one whose number REFUSED gives, and at the end writes to the
-# file COUNT how many were asked for.
+# file COUNT how many were asked for, and how many bytes.
 SHIM = r'''
 #include <stddef.h>
 #include <stdio.h>
 #include <stdlib.h>
 extern void *__libc_malloc(size_t), *__libc_calloc(size_t, size_t), *__libc_realloc(void *, size_t), *__libc_memalign(size_t, size_t);
-static long asked, refused = -1;
-static int refuses(void) { return __atomic_fetch_add(&asked, 1, __ATOMIC_RELAXED) == refused; }
+static long asked, bytes, refused = -1;
+static int refuses(size_t n) { __atomic_fetch_add(&bytes, (long)n, __ATOMIC_RELAXED); return __atomic_fetch_add(&asked, 1, __ATOMIC_RELAXED) == refused; }
 __attribute__((constructor)) static void begin(void) {
     const char *number = getenv("REFUSED");
     refused = number ? atol(number) : -1;
-    asked = 0;
+    asked = bytes = 0;
 }
 __attribute__((destructor)) static void end(void) {
-    long all = asked;
+    long all = asked, size = bytes;
     const char *name = getenv("COUNT");
     FILE *file = name ? fopen(name, "w") : NULL;
-    if (file) { fprintf(file, "%ld", all); fclose(file); }
+    if (file) { fprintf(file, "%ld %ld", all, size); fclose(file); }
 }
-void *malloc(size_t n) { return refuses() ? NULL : __libc_malloc(n); }
-void *calloc(size_t n, size_t m) { return refuses() ? NULL : __libc_calloc(n, m); }
-void *realloc(void *p, size_t n) { return refuses() ? NULL : __libc_realloc(p, n); }
-void *aligned_alloc(size_t to, size_t n) { return refuses() ? NULL : __libc_memalign(to, n); }
-int posix_memalign(void **p, size_t to, size_t n) { return refuses() || !(*p = __libc_memalign(to, n)) ? 12 : 0; }
+void *malloc(size_t n) { return refuses(n) ? NULL : __libc_malloc(n); }
+void *calloc(size_t n, size_t m) { return refuses(n * m) ? NULL : __libc_calloc(n, m); }
+void *realloc(void *p, size_t n) { return refuses(n) ? NULL : __libc_realloc(p, n); }
+void *aligned_alloc(size_t to, size_t n) { return refuses(n) ? NULL : __libc_memalign(to, n); }
+int posix_memalign(void **p, size_t to, size_t n) { return refuses(n) || !(*p = __libc_memalign(to, n)) ? 12 : 0; }
 '''
-# The live cells of the stores whose allocations are compared, the blocks that come, and the least of allocations that an index
-# of so many cells more takes more. A block that makes or spends a cell may split or join a node of the index or two.
-FEW, MANY, BLOCKS, LEAST_MORE, MOST_OF_A_CELL = 1000, 9000, 24, 500, 8
+# The live cells of the stores whose allocations are compared, the blocks that come, the least of bytes that a balance made of
+# live cells takes for each, and the most that a block may take more on one store than on the other: a line may be longer.
+FEW, MANY, BLOCKS, LEAST_OF_A_CELL, MOST_OF_A_BLOCK = 1000, 9000, 24, 100, 100
 # The status of a run without memory. What an adapter lacks is a fault of its stream or of the disk.
 WITHOUT_MEMORY = 3, 4, 5, 6
 
@@ -71,13 +71,13 @@ class Runs:
         return Ran([self.program, folder] + words, given, env=environment)
 
     def asked(self, folder, words, given, text):
-        """How many allocations a run asks for, over a copy of a store."""
+        """How many bytes a run asks for, over a copy of a store."""
         with new_folder() as top:
             count, copy = os.path.join(top, 'count'), os.path.join(top, 'store')
             shutil.copytree(folder, copy)
             must_answer(self.run(copy, words, given, -1, count), 0, text, words[0])
             with open(count, encoding='utf-8') as f:
-                return int(f.read())
+                return int(f.read().split()[1])
 
     def must_bear(self, store, words, given, status, text, again, what):
         """`again` is the text of the same run once more, by whether this one answered the first of its lines and so on."""
@@ -91,7 +91,7 @@ class Runs:
             begins()
             must_answer(self.run(folder, words, given, -1, count), status, text, what)
             with open(count, encoding='utf-8') as f:
-                asked = int(f.read())
+                asked = int(f.read().split()[0])
             for number in range(asked):
                 begins()
                 ran = self.run(folder, words, given, number, count)
@@ -168,7 +168,7 @@ def lines_of(lines):
 # --------------------------------------------------- a lock that is watched
 
 def following(runs, cells, plain):
-    """What `watch` asks for more than `import`: for the index of so many live cells, and then for the blocks."""
+    """The bytes that `watch` asks for more than `import`: to make the balance of so many live cells, and then for the blocks."""
     spec, genesis, blocks, _, _ = chaingen.make(1, BLOCKS, plain=plain, far=BLOCKS, cells=cells)
     chain, lock = store_model.Chain(spec, genesis, blocks), chaingen.ckbhash(chaingen.LOCK)
     lines = [chain.line(b'joined', at) for at in range(1, BLOCKS + 1)]
@@ -182,16 +182,14 @@ def following(runs, cells, plain):
 
 
 def check_watch_follows(program):
-    """The index is made once, and then follows the tip, across blocks that are detached too: what it asks for at blocks that make
-    and spend no cell is the same over few live cells and over many, and at others nearly so. An index that were made anew
-    would ask for as much again at each block."""
+    """The balance is made once, and then follows the tip, across blocks that are detached too: the memory that it asks for at a
+    block is nearly the same over few live cells and over many. One that were made anew would ask for as much again."""
     with shim() as library:
         if not library or Ran([program], env=dict(os.environ, LD_PRELOAD=library)).err:
             return
         runs = Runs(program, library)
         for plain in (True, False):
             (made_of_few, of_few), (made_of_many, of_many) = (following(runs, cells, plain) for cells in (FEW, MANY))
-            must(made_of_many - made_of_few >= LEAST_MORE, 'an index of more cells asks for %d and for %d' % (made_of_few, made_of_many))
-            must(of_few >= BLOCKS, 'following asks for %d' % of_few)
-            apart = 0 if plain else MOST_OF_A_CELL * BLOCKS
-            must(abs(of_many - of_few) <= apart, '%d blocks ask for %d over few live cells, and for %d over many' % (BLOCKS, of_few, of_many))
+            must(made_of_many - made_of_few >= LEAST_OF_A_CELL * (MANY - FEW), 'a balance of more cells asks for %d and for %d bytes' % (made_of_few, made_of_many))
+            must(of_few > 0, 'following asks for nothing')
+            must(abs(of_many - of_few) <= MOST_OF_A_BLOCK * BLOCKS, '%d blocks ask for %d bytes over few live cells, and for %d over many' % (BLOCKS, of_few, of_many))

@@ -11,15 +11,18 @@ use Rattle.chain_tree.specs.Told.{Stored, blocks_of}
 use Rattle.chain_defs.specs.Events.{events_of_block}
 use Rattle.chain_defs.specs.Row.{Row, row_after, live_row, ListsRows}
 use Rattle.chain_defs.specs.ByLock.{of_lock}
-use Rattle.cell_state.specs.Moves.{CanBeTakenBack}
+use Rattle.cell_state.specs.Moves.{CanBeTakenBack, IsOnTheWay}
 use Rattle.cell_state.proofs.PlaceLemmas.{branch-linked}
 use Rattle.cell_state.proofs.HeightLemmas.{rows-above}
 use Rattle.cell_state.proofs.RowLemmas.{live_row-step}
+use Rattle.cell_index.specs.Follow.{IsStep, CanBeFollowed}
 use Rattle.cell_index.specs.Index.{IndexValue, Holds, IndexesBranch}
 use Rattle.cell_index.proofs.ChangeLemmas.{Takes, takes, TakesBack, takes_back}
 
-pub stands-at : (kept : List Block) (index : IndexValue) (place other : ℕ) → place ≡ other → IndexesBranch kept place index → IndexesBranch kept other index
-stands-at kept index place other same stands = subst (λ (n : ℕ). IndexesBranch kept n index) same stands
+-- A block on the way is a step of it.
+pub step-on : (stored : List Stored) (from to parent place : ℕ) (it : Stored) → CanBeFollowed stored from to → IsOnTheWay (blocks_of stored) from to place
+    → slice_get stored place ≡ Some it → parent_place (blocks_of stored) place ≡ Some parent → IsStep stored parent place
+step-on stored from to parent place it can on there named = record { it = it; there = there; named = named; can = can place parent it on there named }
 
 -- the same rows under another name
 pub holds-same : (f g : OutPoint → Option Row) (index : IndexValue) → ((o : OutPoint) → f o ≡ g o) → Holds f index → Holds g index
@@ -68,3 +71,12 @@ takes-it-back place b bytes after before spent left can same lists =
 pub rows-at : (place one other : ℕ) (b : Block) (rows : OutPoint → Option Row) (o : OutPoint) → 0 < one → 0 < other
     → row_after place (events_of_block one b) rows o ≡ row_after place (events_of_block other b) rows o
 rows-at place one other b rows o above_one above_other = sym (rows-above place one b rows o above_one) ∙ rows-above place other b rows o above_other
+
+-- The rows of a block's branch are those after its events, from those of its parent's.
+pub rows-of-step : (stored : List Stored) (parent place : ℕ) (step : IsStep stored parent place) (o : OutPoint)
+    → row_after place (events_of_block step.can.height step.it.block) (live_row (blocks_of stored) parent) o ≡ live_row (blocks_of stored) place o
+rows-of-step stored parent place step o =
+    let block : block_at (blocks_of stored) place ≡ Some step.it.block =
+    slice_get-map (λ (s : Stored). s.block) stored place ∙ ap (option_map (λ (s : Stored). s.block)) step.there in
+    let grown = live_row-step (blocks_of stored) parent place step.it.block block step.named in
+    rows-at place step.can.height grown.height step.it.block (live_row (blocks_of stored) parent) o step.can.above grown.above ∙ sym (grown.row o)

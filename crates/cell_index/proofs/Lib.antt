@@ -5,3 +5,8 @@ pub mod ListedLemmas
 pub mod FollowLemmas
 pub mod LoopLemmas
 pub mod HoldLemmas
+pub mod OfLockLemmas
+pub mod SumLemmas
+pub mod EventSums
+pub mod BalanceLemmas
+pub mod OutputSums

@@ -28,7 +28,7 @@ pub record Coming (rows : OutPoint → Option Row) (all left : List (OutPoint ×
   pub free : first_live left now ≡ None
   pub same : with_rows left now ≡ with_rows all rows
 
-free-parts : (one : OutPoint × Row) (later : List (OutPoint × Row)) (now : OutPoint → Option Row) → first_live (one ∷ later) now ≡ None
+pub free-parts : (one : OutPoint × Row) (later : List (OutPoint × Row)) (now : OutPoint → Option Row) → first_live (one ∷ later) now ≡ None
     → (now one.0 ≡ None) × (first_live later (with_row one now) ≡ None)
 free-parts one later now free = by_row (now one.0) refl free
   where

@@ -74,6 +74,10 @@ Holds rows index = (lock : List ℕ) (o : OutPoint) → at index.entries lock o 
 abbrev pub IndexesBranch : List Block → ℕ → IndexValue → Type 0
 IndexesBranch kept place index = Holds (live_row kept place) index
 
+-- The same, as what an index is asked: it is one for every lock.
+abbrev pub stands_for_all : Unit {0} → List Block → ℕ → IndexValue → Type 0
+stands_for_all all kept place index = IndexesBranch kept place index
+
 -- ---- Without some rows
 
 abbrev pub without_all : List (OutPoint × Row) → (OutPoint → Option Row) → OutPoint → Option Row

@@ -1,21 +1,25 @@
 // What one kept block changes, and an index that takes it.
-ghost use Rattle.std.specs.Prelude.{◌≡◌, ◌<◌, ℕ, List, Option, Some, None, Err, length, IfOk, IsSome, slice_get};
+ghost use Rattle.std.specs.Prelude.{◌≡◌, ◌<◌, ℕ, List, Option, Some, None, Err, length, IfOk, OnOk, IsSome, slice_get};
 ghost use Rattle.chain_defs.specs.Schema.{OutPoint as out_point};
 ghost use Rattle.outside.specs.declared.disk.Damage.{Damage};
 ghost use Rattle.outside.specs.declared.disk.ReadStop.TheVariants.{Damaged};
 ghost use Rattle.chain_tree.specs.Damages.{IsAtRecord};
-ghost use Rattle.chain_tree.specs.Told.{Stored};
+ghost use Rattle.chain_tree.specs.Told.{Stored, blocks_of};
 ghost use Rattle.chain_tree.specs.Reading.{HasRead, stop_of};
 ghost use Rattle.chain_defs.specs.Events.{events_of_block};
 ghost use Rattle.chain_defs.specs.Ext as exts;
 ghost use Rattle.chain_defs.specs.Fits.{FitsExt};
 ghost use Rattle.chain_defs.specs.Row.{Row, row_after, ListsRows};
 ghost use Rattle.chain_defs.specs.Undo.{with_rows, first_live};
-ghost use Rattle.cell_state.specs.Moves.{CanBeTakenBack};
+ghost use Rattle.chain_defs.specs.Schema.{Block};
+ghost use Rattle.chain_tree.specs.Blocks.{IndexesBlocks};
+ghost use Rattle.cell_state.specs.Moves.{IsOnTheWay};
 ghost use Rattle.cell_index.specs.declared.stop.Stop.TheVariants.{Odd};
-ghost use Rattle.cell_index.specs.Index.{Holds, without_all, AreThere};
+ghost use Rattle.cell_index.specs.Index.{Holds, IndexesBranch, without_all, AreThere};
+ghost use Rattle.cell_index.specs.Follow.{CanBeFollowed};
 
 use crate::Index;
+use crate::following::{Follows, moved};
 use crate::stop::Stop;
 use cell_state::{CellMeta, Ext, OutPoint, State};
 use chain_tree::{Blocks, Tree, damaged_at};
@@ -33,7 +37,7 @@ struct Change {
 }
 
 /// The rows of the cells that a block at a place makes and does not spend itself.
-fn left_by(
+pub(crate) fn left_by(
     alloc: Global,
     block: &BlockView<'_>,
     place: u32,
@@ -43,6 +47,31 @@ fn left_by(
     let hashes = transaction_hashes(alloc, block)?;
     let state = State::left_by(alloc, block, &hashes, place)?;
     state.sorted(alloc)
+}
+
+/// The rows that the kept block at a place spends, which is not the genesis. It is then the current one.
+pub(crate) fn spent_at<B: Blocks>(
+    alloc: Global,
+    blocks: &mut B,
+    place: u32,
+) -> Result<Vec<(OutPoint, CellMeta)>, ReadStop>
+    requires later { 0 < place }
+    requires within { place < B.count blocks.old }
+    ensures read { HasRead B.told B.count B.loans_of B.faults B.damages blocks.old blocks.new (stop_of result) }
+    ensures taken { OnOk result (B.in_hand blocks.new ≡ Some place) }
+    ensures spent { (stored : List Stored) (it : Stored) (ext : exts.Ext) → B.told blocks.old ≡ Some stored → slice_get stored place ≡ Some it
+        → FitsExt ext → exts.ext_bytes ext ≡ it.ext → IfOk result (λ spent. spent.items ≡ ext.spent) }
+    ensures undamaged { IsSome (B.told blocks.old) → (damage : Damage) → result ≡ Err (Damaged damage) → ⊥ }
+{
+    match blocks.bring(place) {
+        Ok(()) => {}
+        Err(stop) => return Err(stop),
+    }
+    match Ext::read(alloc, blocks.spent()) {
+        Ok(Some(ext)) => Ok(ext.spent),
+        Ok(None) => unreachable!(),
+        Err(_) => Err(ReadStop::NoMemory),
+    }
 }
 
 /// What the kept block at a place changes, which is not the genesis.
@@ -56,14 +85,9 @@ fn change_at<B: Blocks>(alloc: Global, blocks: &mut B, place: u32) -> Result<Cha
         → 0 < height → IfOk result (λ change. ListsRows (row_after place (events_of_block height it.block) (λ _. None)) change.left.items) }
     ensures undamaged { IsSome (B.told blocks.old) → (damage : Damage) → result ≡ Err (Damaged damage) → ⊥ }
 {
-    match blocks.bring(place) {
-        Ok(()) => {}
+    let spent = match spent_at(alloc, blocks, place) {
+        Ok(spent) => spent,
         Err(stop) => return Err(stop),
-    }
-    let spent = match Ext::read(alloc, blocks.spent()) {
-        Ok(Some(ext)) => ext.spent,
-        Ok(None) => unreachable!(),
-        Err(_) => return Err(ReadStop::NoMemory),
     };
     match left_by(alloc, &blocks.block(), place) {
         Ok(left) => Ok(Change { spent, left }),
@@ -88,27 +112,22 @@ impl Index {
             Err(stop) => Err(stop),
         }
     }
+}
 
-    /// With the kept block at a place taken, which is not the genesis. Damaged where the source finds it damaged, or the index
-    /// does not fit what it changes.
-    pub(crate) fn taken<B: Blocks>(
+impl Follows for Index {
+    ghost use Rattle.cell_index.specs.Index.{stands_for_all};
+
+    ghost What = { Unit {0} };
+
+    ghost stands = { stands_for_all };
+
+    fn taken<B: Blocks>(
         self,
         alloc: Global,
         tree: &Tree,
         blocks: &mut B,
         place: u32,
-    ) -> Result<Index, ReadStop>
-        requires later { 0 < place }
-        requires within { place < length tree.now.entries }
-        requires counts { B.count blocks.old ≡ length tree.now.entries }
-        ensures read { HasRead B.told B.count B.loans_of B.faults B.damages blocks.old blocks.new (stop_of result) }
-        ensures rows { (stored : List Stored) (it : Stored) (after before : out_point → Option Row) → B.told blocks.old ≡ Some stored → slice_get stored place ≡ Some it
-            → CanBeTakenBack it.block it.ext after before → Holds before self → (height : ℕ) → 0 < height
-            → IfOk result (Holds (row_after place (events_of_block height it.block) before)) }
-        ensures undamaged { (stored : List Stored) (it : Stored) (after before : out_point → Option Row) → B.told blocks.old ≡ Some stored → slice_get stored place ≡ Some it
-            → CanBeTakenBack it.block it.ext after before → Holds before self → (damage : Damage) → result ≡ Err (Damaged damage) → ⊥ }
-        ensures at_record { IsSome (B.told blocks.old) → (damage : Damage) → result ≡ Err (Damaged damage) → IsAtRecord tree.now.entries place damage }
-    {
+    ) -> Result<Index, ReadStop> {
         let change = match change_at(alloc, blocks, place) {
             Ok(change) => change,
             Err(stop) => return Err(stop),
@@ -120,25 +139,13 @@ impl Index {
         }
     }
 
-    /// With the kept block at a place taken back, which is not the genesis. Damaged where the source finds it damaged, or the
-    /// index does not fit what it changes.
-    pub(crate) fn taken_back<B: Blocks>(
+    fn taken_back<B: Blocks>(
         self,
         alloc: Global,
         tree: &Tree,
         blocks: &mut B,
         place: u32,
-    ) -> Result<Index, ReadStop>
-        requires later { 0 < place }
-        requires within { place < length tree.now.entries }
-        requires counts { B.count blocks.old ≡ length tree.now.entries }
-        ensures read { HasRead B.told B.count B.loans_of B.faults B.damages blocks.old blocks.new (stop_of result) }
-        ensures rows { (stored : List Stored) (it : Stored) (after before : out_point → Option Row) → B.told blocks.old ≡ Some stored → slice_get stored place ≡ Some it
-            → CanBeTakenBack it.block it.ext after before → Holds after self → IfOk result (Holds before) }
-        ensures undamaged { (stored : List Stored) (it : Stored) (after before : out_point → Option Row) → B.told blocks.old ≡ Some stored → slice_get stored place ≡ Some it
-            → CanBeTakenBack it.block it.ext after before → Holds after self → (damage : Damage) → result ≡ Err (Damaged damage) → ⊥ }
-        ensures at_record { IsSome (B.told blocks.old) → (damage : Damage) → result ≡ Err (Damaged damage) → IsAtRecord tree.now.entries place damage }
-    {
+    ) -> Result<Index, ReadStop> {
         let change = match change_at(alloc, blocks, place) {
             Ok(change) => change,
             Err(stop) => return Err(stop),
@@ -148,5 +155,32 @@ impl Index {
             Err(Stop::Odd) => Err(damaged_at(tree, blocks, place)),
             Err(Stop::NoMemory) => Err(ReadStop::NoMemory),
         }
+    }
+}
+
+impl Index {
+    /// The index of the branch of one place, moved to that of another: down to their fork, a block taken back each step, and up
+    /// from there, a block taken each step. It looks at the blocks on the way and at nothing else. Damaged, at its record, where
+    /// the source finds a block on the way damaged, or what it changes does not fit the index. After an error the index is gone.
+    pub fn follow<B: Blocks>(
+        self,
+        alloc: Global,
+        tree: &Tree,
+        blocks: &mut B,
+        from: u32,
+        to: u32,
+    ) -> Result<Index, ReadStop>
+        requires from { from < length tree.now.entries }
+        requires to { to < length tree.now.entries }
+        requires counts { B.count blocks.old ≡ length tree.now.entries }
+        ensures read { HasRead B.told B.count B.loans_of B.faults B.damages blocks.old blocks.new (stop_of result) }
+        ensures stands { (stored : List Stored) → B.told blocks.old ≡ Some stored → IndexesBlocks (blocks_of stored) tree.now.entries
+            → CanBeFollowed stored from to → IndexesBranch (blocks_of stored) from self → IfOk result (IndexesBranch (blocks_of stored) to) }
+        ensures undamaged { (stored : List Stored) → B.told blocks.old ≡ Some stored → IndexesBlocks (blocks_of stored) tree.now.entries
+            → CanBeFollowed stored from to → IndexesBranch (blocks_of stored) from self → (damage : Damage) → result ≡ Err (Damaged damage) → ⊥ }
+        ensures at_record { (kept : List Block) → IndexesBlocks kept tree.now.entries → IsSome (B.told blocks.old) → (damage : Damage) → result ≡ Err (Damaged damage)
+            → (place : ℕ) × (IsOnTheWay kept from to place × IsAtRecord tree.now.entries place damage) }
+    {
+        moved(alloc, self, tree, blocks, from, to)
     }
 }

@@ -17,7 +17,7 @@ use Rattle.node_store.specs.Node.{NodeValue, IsOwnDisk, IsOwnDiskWhereTold, IsSo
 use Rattle.run_text.proofs.StoreLemmas.{if_told}
 use Rattle.run_store.proofs.DiskLemmas.{sound_after}
 use Rattle.run_store.proofs.LookLemmas.{leaves_looked}
-use Rattle.run_import.specs.declared.watching.Watch.{Watch}
+use Rattle.cell_index.specs.Balance.{BalanceValue}
 use Rattle.run_import.specs.Watching.{IsWatchAt, IsWatching, IsSoundWatching, IsFollowed}
 use Rattle.run_import.proofs.WatchLemmas.{after-more, watch-more, watch-at}
 
@@ -26,7 +26,7 @@ use Rattle.run_import.proofs.WatchLemmas.{after-more, watch-more, watch-at}
 abbrev blocks_after : Chain → List ℕ → List Block
 blocks_after chain item = (chain_after chain item).blocks
 
-pub watch-there : (before : Chain) (mid : NodeValue) (item : List ℕ) (watched : Option (List ℕ)) (watch : Option Watch) (place : ℕ)
+pub watch-there : (before : Chain) (mid : NodeValue) (item : List ℕ) (watched : Option (List ℕ)) (watch : Option BalanceValue) (place : ℕ)
     → tip_place before.blocks ≡ Some place → mid.chain ≡ chain_after before item → IsWatching watched before.blocks watch
     → IsWatchAt watched mid.chain.blocks place watch
 watch-there before mid item watched watch place is kept watching =
@@ -92,7 +92,7 @@ module _ {D C : Type 0} (content_of : D → C) (reads_as : D → Option Image) (
             (settled-still (reads_as mid) (reads_as new) (images mid) (images new) as_before.reads as_before.images node.place later settled),
       )
 
-  pub followed : {faults : D → ℕ} (old mid new : D) (before node next : NodeValue) (watch later : Option Watch) (item : List ℕ) (answer : Verdict)
+  pub followed : {faults : D → ℕ} (old mid new : D) (before node next : NodeValue) (watch later : Option BalanceValue) (item : List ℕ) (answer : Verdict)
       → IsImported before node item answer (reads_as old) (reads_as mid) (images old) (images mid)
       → LeavesAll content_of reads_as images faults mid new node next None
       → ((watched : Option (List ℕ)) → IsSoundWatching watched before watch (reads_as old) → IsWatching watched node.chain.blocks later)
@@ -123,7 +123,7 @@ sound-there before mid reads_old reads_mid told sound is = sound_after mid reads
 
 -- ---- The line of an item that was kept
 
-pub line-there : (before after : NodeValue) (watch later : Option Watch) (item : List ℕ) (answer : Verdict) (reads_old reads_new : Option Image)
+pub line-there : (before after : NodeValue) (watch later : Option BalanceValue) (item : List ℕ) (answer : Verdict) (reads_old reads_new : Option Image)
     (old new : Image → Type 0) → IsFollowed before after watch later item answer reads_old reads_new old new → (watched : Option (List ℕ))
     → IsSoundWatching watched before watch reads_old → (balance : Option (ℕ × ℕ)) → balance ≡ balance_over watched after.chain
     → line answer balance ≡ line_over watched before.chain item

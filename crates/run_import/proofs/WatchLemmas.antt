@@ -16,7 +16,7 @@ use Rattle.chain_defs.specs.ByLock.{of_lock, cells_by_lock, IsByLock}
 use Rattle.chain_defs.specs.Row.{Row, live_row}
 use Rattle.chain_defs.proofs.ByLockLaws.{lists-by-lock}
 use Rattle.cell_state.proofs.RowLemmas.{live_row-prefix}
-use Rattle.cell_index.specs.Index.{IndexValue, IndexesBranch}
+use Rattle.cell_index.specs.Balance.{BalanceValue, IsBalance, sum_of}
 use Rattle.cell_index.specs.Follow.{CanBeFollowed}
 use Rattle.verdict_defs.specs.Chain.{Chain}
 use Rattle.report_defs.specs.Queries.{cells_on, total_of}
@@ -26,8 +26,7 @@ use Rattle.store_defs.specs.Store.{AreJoined}
 use Rattle.rewards.specs.Reading.{YieldsUndamaged}
 use Rattle.node_store.specs.Kept.{KeptValue, kept_of, AreKept}
 use Rattle.node_store.proofs.WayLaws.{joined-can-be-taken-back}
-use Rattle.run_import.specs.declared.watching.Watch.{Watch}
-use Rattle.run_import.specs.Watching.{StandsForTip, IsWatchAt, IsWatching}
+use Rattle.run_import.specs.Watching.{IsTipBalance, IsWatchAt, IsWatching}
 
 -- ---- The way
 
@@ -52,9 +51,26 @@ comes-then P Q (Err stop) more has = has
 
 -- ---- Blocks more
 
--- an index stands for a branch still where blocks came behind
-pub stands-more : (kept more : List Block) (place : ℕ) (index : IndexValue) → place < length kept → IndexesBranch kept place index → IndexesBranch (kept ++ more) place index
-stands-more kept more place index below stands lock o = stands lock o ∙ sym (ap (of_lock lock) (live_row-prefix kept more place o below))
+-- the cells of a lock on a branch are the same still where blocks came behind
+cells-more : (kept more : List Block) (place : ℕ) (lock : List ℕ) → place < length kept → cells_by_lock kept place lock ≡ cells_by_lock (kept ++ more) place lock
+cells-more kept more place lock below = (lists-by-lock (kept ++ more) place lock (cells_by_lock kept place lock)).0 (record {
+  rising = by.rising;
+  each = λ o row. (
+    λ has. ap (of_lock lock) (live_row-prefix kept more place o below) ∙ (by.each o row).0 has,
+    λ is. (by.each o row).1 (sym (ap (of_lock lock) (live_row-prefix kept more place o below)) ∙ is),
+  );
+})
+  where
+    by : IsByLock kept place lock (cells_by_lock kept place lock)
+    by = (lists-by-lock kept place lock (cells_by_lock kept place lock)).1 refl
+
+-- and so is their balance
+pub stands-more : (lock : List ℕ) (kept more : List Block) (place : ℕ) (balance : BalanceValue) → place < length kept → IsBalance lock kept place balance
+    → IsBalance lock (kept ++ more) place balance
+stands-more lock kept more place balance below is = record {
+  lock_is = is.lock_is;
+  sum_is = is.sum_is ∙ ap (λ (cells : List (OutPoint × Row)). sum_of cells) (cells-more kept more place lock below);
+}
 
 -- the blocks after an item are those before it, and perhaps more
 pub after-more : (spec : Specification) (kept : List Block) (item : List ℕ) → (more : List Block) × (kept_after spec kept item ≡ kept ++ more)
@@ -65,41 +81,36 @@ after-more spec kept item = by_test (joins (verdict spec kept item))
     by_test true = (blocks_of_item item, refl)
     by_test false = ([], sym (append-nil kept))
 
-pub watch-more : (watched : Option (List ℕ)) (kept more : List Block) (place : ℕ) (watch : Option Watch) → place < length kept
+pub watch-more : (watched : Option (List ℕ)) (kept more : List Block) (place : ℕ) (watch : Option BalanceValue) → place < length kept
     → IsWatchAt watched kept place watch → IsWatchAt watched (kept ++ more) place watch
 watch-more None kept more place watch below at = at
-watch-more (Some lock) kept more place watch below (w, is, own, stands) = (w, is, own, stands-more kept more place w.index below stands)
+watch-more (Some lock) kept more place watch below (balance, is, stands) = (balance, is, stands-more lock kept more place balance below stands)
 
 -- what is watched of the tip is watched of the place that is the tip
-pub watch-at : (watched : Option (List ℕ)) (kept : List Block) (place : ℕ) (watch : Option Watch) → tip_place kept ≡ Some place → IsWatching watched kept watch
+pub watch-at : (watched : Option (List ℕ)) (kept : List Block) (place : ℕ) (watch : Option BalanceValue) → tip_place kept ≡ Some place → IsWatching watched kept watch
     → IsWatchAt watched kept place watch
 watch-at watched kept place watch is watching =
     subst (λ (p : ℕ). IsWatchAt watched kept p watch) (same_Some watching.tip place (sym watching.is_tip ∙ is)) watching.at
 
--- an index that stands for the tip, with its lock
-pub watching-is : (lock : List ℕ) (kept : List Block) (w : Watch) → w.lock ≡ lock → StandsForTip kept w.index → IsWatching (Some lock) kept (Some w)
-watching-is lock kept w own stands = record { tip = stands.tip; is_tip = stands.is_tip; at = (w, refl, own, stands.stands) }
+-- a balance on the best branch
+pub watching-is : (lock : List ℕ) (kept : List Block) (balance : BalanceValue) → IsTipBalance lock kept balance → IsWatching (Some lock) kept (Some balance)
+watching-is lock kept balance stands = record { tip = stands.tip; is_tip = stands.is_tip; at = (balance, refl, stands.stands) }
 
 -- nothing is watched
-pub watching-none : (watched : Option (List ℕ)) (kept : List Block) (from place : ℕ) (watch : Option Watch) → tip_place kept ≡ Some place → watch ≡ None
+pub watching-none : (watched : Option (List ℕ)) (kept : List Block) (from place : ℕ) (watch : Option BalanceValue) → tip_place kept ≡ Some place → watch ≡ None
     → IsWatchAt watched kept from watch → IsWatching watched kept None
 watching-none None kept from place watch is none at = record { tip = place; is_tip = is; at = refl }
-watching-none (Some lock) kept from place watch is none (w, some, own, stands) = absurd (cc)
+watching-none (Some lock) kept from place watch is none (balance, some, stands) = absurd (cc)
 
 -- ---- The balance
 
--- what an index says of its lock is the balance
-pub balance-is : (watched : Option (List ℕ)) (chain : Chain) (watch : Option Watch) (w : Watch) (total : ℕ × ℕ) → watch ≡ Some w
-    → ((place : ℕ) (list : List (OutPoint × Row)) → IndexesBranch chain.blocks place w.index → IsByLock chain.blocks place w.lock list → total ≡ total_of list)
-    → IsWatching watched chain.blocks watch → Some total ≡ balance_over watched chain
-balance-is None chain watch w total some says watching = let none : watch ≡ None = watching.at in absurd (cc)
-balance-is (Some lock) chain watch w total some says watching =
+-- what is watched is the balance that is to be said
+pub balance-is : (watched : Option (List ℕ)) (chain : Chain) (watch : Option BalanceValue) (balance : BalanceValue) → watch ≡ Some balance
+    → IsWatching watched chain.blocks watch → Some balance.sum ≡ balance_over watched chain
+balance-is None chain watch balance some watching = let none : watch ≡ None = watching.at in absurd (cc)
+balance-is (Some lock) chain watch balance some watching =
     let at = watching.at in
-    let same : at.0 ≡ w = same_Some at.0 w (sym at.1 ∙ some) in
-    let own : w.lock ≡ lock = sym (ap (λ (it : Watch). it.lock) same) ∙ at.2 in
-    let stands : IndexesBranch chain.blocks watching.tip w.index = subst (λ (it : Watch). IndexesBranch chain.blocks watching.tip it.index) same at.3 in
-    let list = cells_by_lock chain.blocks watching.tip lock in
-    let by : IsByLock chain.blocks watching.tip w.lock list =
-    subst (λ (l : List ℕ). IsByLock chain.blocks watching.tip l list) (sym own) ((lists-by-lock chain.blocks watching.tip lock list).1 refl) in
-    ap (λ (t : ℕ × ℕ). Some t) (says watching.tip list stands by)
+    let same : at.0 ≡ balance = same_Some at.0 balance (sym at.1 ∙ some) in
+    let sum : balance.sum ≡ sum_of (cells_by_lock chain.blocks watching.tip lock) = sym (ap (λ (b : BalanceValue). b.sum) same) ∙ at.2.sum_is in
+    ap (λ (t : ℕ × ℕ). Some t) sum
     ∙ ap (λ (found : Option ℕ). Some (total_of (cells_on chain.blocks lock found))) (sym watching.is_tip)

@@ -27,7 +27,8 @@ ghost use Rattle.report_defs.specs.Report.{line_over};
 ghost use Rattle.run_import.specs.Watching.{IsSoundWatching, IsFollowed};
 
 use crate::lines::item_line;
-use crate::watching::{Watch, balance_of, follow, watch_of};
+use crate::watching::{balance_of, follow, watch_of};
+use cell_index::Balance;
 use node_core::Rules;
 use node_store::Node;
 use outside::{Disk, NoMemory, Sink, Source, Steps};
@@ -83,10 +84,10 @@ fn keep_item<D: Disk, L: Ledger>(
     alloc: Global,
     disk: &mut D,
     node: Node,
-    watch: Option<Watch>,
+    watch: Option<Balance>,
     item: &[u8],
     steps: &mut Steps<L>,
-) -> Result<(Node, Option<Watch>, Verdict), Status>
+) -> Result<(Node, Option<Balance>, Verdict), Status>
     requires size { length item.now < 2 ^ 31 }
     requires own { IsOwnDiskWhereTold node (D.reads_as disk.old) (D.images disk.old) }
     ensures imported { IfOk result (λ answer. IsFollowed node answer.0 watch answer.1 item.now answer.2 (D.reads_as disk.old) (D.reads_as disk.new) (D.images disk.old) (D.images disk.new)) }
@@ -126,10 +127,10 @@ fn import_item<K: Sink, D: Disk, L: Ledger>(
     out: &mut K,
     disk: &mut D,
     node: Node,
-    watch: Option<Watch>,
+    watch: Option<Balance>,
     item: &[u8],
     steps: &mut Steps<L>,
-) -> Result<(Node, Option<Watch>, Verdict), Status>
+) -> Result<(Node, Option<Balance>, Verdict), Status>
     requires size { length item.now < 2 ^ 31 }
     requires own { IsOwnDiskWhereTold node (D.reads_as disk.old) (D.images disk.old) }
     ensures imported { IfOk result (λ answer. IsFollowed node answer.0 watch answer.1 item.now answer.2 (D.reads_as disk.old) (D.reads_as disk.new) (D.images disk.old) (D.images disk.new)) }

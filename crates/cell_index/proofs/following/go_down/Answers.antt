@@ -3,12 +3,12 @@ use Rattle.std.specs.Prelude.{IsSome}
 use Rattle.chain_tree.specs.Told.{Stored, blocks_of}
 use Rattle.chain_tree.proofs.BlockLemmas.{len-same}
 use Rattle.chain_tree.proofs.ReadLemmas.{unread, read_on}
-use Rattle.chain_defs.specs.Row.{live_row}
 use Rattle.outside.proofs.Endings.{handed}
 use Rattle.cell_state.specs.Moves.{IsOnTheWay}
 use Rattle.cell_state.proofs.PathLemmas.{path-none, path-more}
 use Rattle.cell_state.proofs.WayLemmas.{each-none, each-more, stored-there, parent-there}
 use Rattle.cell_state.proofs.OnWayLemmas.{high-on-way, low-on-way, way-by-high, way-by-low}
+use Rattle.cell_index.proofs.FollowLemmas.{step-on}
 use Rattle.cell_index.proofs.following.go_down.Goals as goal
 
 pub down-init : goal.down-init
@@ -22,7 +22,7 @@ down-init g c =
       path = λ kept indexes. path-none kept c.args.to c.new-up.result.items none;
       way = λ kept indexes place way. way;
       on_way = λ kept indexes. each-none (IsOnTheWay kept c.args.from c.args.to) c.new-up.result.items none;
-      stands = λ stored tells indexes can stands. stands;
+      stands = λ what stored tells indexes can stands. stands;
     }
 
 pub down-preserved-in-Some : goal.down-preserved-in-Some
@@ -50,13 +50,13 @@ down-preserved-in-Some g c =
     }
 
 pub returns-in-Err-taken_back-clause-undamaged : goal.returns-in-Err-taken_back-clause-undamaged
-returns-in-Err-taken_back-clause-undamaged g c stored tells indexes can stands damage same =
+returns-in-Err-taken_back-clause-undamaged g c what stored tells indexes can stands damage same =
     let it = stored-there stored c.args.tree.now.entries c.down.low indexes c.down.invariant.low in
     let parent = parent-there (blocks_of stored) c.args.tree.now.entries c.down.low indexes c.down.invariant.low (omega arith) in
-    c.in-Err-taken_back.ensures.undamaged stored it.0 (live_row (blocks_of stored) c.down.low) (live_row (blocks_of stored) parent.0) (c.down.invariant.read.told ∙ tells) it.1
-    (can c.down.low parent.0 it.0
+    c.in-Err-taken_back.ensures.undamaged what stored parent.0 (c.down.invariant.read.told ∙ tells)
+    (step-on stored c.args.from c.args.to parent.0 c.down.low it.0 can
     (c.down.invariant.way (blocks_of stored) indexes c.down.low (low-on-way (blocks_of stored) c.down.low c.down.high (omega arith))) it.1 parent.1)
-    (c.down.invariant.stands stored tells indexes can stands)
+    (c.down.invariant.stands what stored tells indexes can stands)
     damage (handed c.in-Err-taken_back.stop _ same)
 
 pub down-preserved : goal.down-preserved
@@ -69,14 +69,13 @@ down-preserved g c = record {
   way = λ kept indexes place way. c.down.invariant.way kept indexes place
       (way-by-low kept c.down.low c.down.high c.in-Some-parent_in.parent place (omega arith) (sym (c.in-Some-parent_in.ensures.of_blocks kept indexes)) way);
   on_way = c.down.invariant.on_way;
-  stands = λ stored tells indexes can stands.
+  stands = λ what stored tells indexes can stands.
       let it = stored-there stored c.args.tree.now.entries c.down.low indexes c.down.invariant.low in
-      c.in-Ok-taken_back.ensures.rows stored it.0 (live_row (blocks_of stored) c.down.low) (live_row (blocks_of stored) c.in-Some-parent_in.parent)
-      (c.down.invariant.read.told ∙ tells) it.1
-      (can c.down.low c.in-Some-parent_in.parent it.0
+      c.in-Ok-taken_back.ensures.stands what stored c.in-Some-parent_in.parent (c.down.invariant.read.told ∙ tells)
+      (step-on stored c.args.from c.args.to c.in-Some-parent_in.parent c.down.low it.0 can
       (c.down.invariant.way (blocks_of stored) indexes c.down.low (low-on-way (blocks_of stored) c.down.low c.down.high (omega arith))) it.1
       (sym (c.in-Some-parent_in.ensures.of_blocks (blocks_of stored) indexes)))
-      (c.down.invariant.stands stored tells indexes can stands);
+      (c.down.invariant.stands what stored tells indexes can stands);
 }
 
 pub returns-in-Err-taken_back-clause-at_record : goal.returns-in-Err-taken_back-clause-at_record

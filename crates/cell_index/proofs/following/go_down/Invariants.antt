@@ -5,11 +5,10 @@ use Rattle.chain_tree.specs.Blocks.{IndexesBlocks}
 use Rattle.chain_tree.specs.Told.{Stored, blocks_of}
 use Rattle.chain_tree.specs.Reading.{HasRead}
 use Rattle.cell_state.specs.Moves.{IsPathUp, IsOnTheWay, AreOnTheWay}
-use Rattle.cell_index.specs.Index.{IndexesBranch}
 use Rattle.cell_index.specs.Follow.{CanBeFollowed}
 use Rattle.cell_index.proofs.following.go_down.Given as goal
 
--- The index is that of the branch of the lower place. What is on the way between the two was so at first.
+-- What stands for the branch of the first place stands for that of the lower one. What is on the way between the two was so at first.
 abbrev pub invariant-down : goal.invariant-down
 invariant-down g l = record {
   read : HasRead g.B.Blocks.told g.B.Blocks.count g.B.Blocks.loans_of g.B.Blocks.faults g.B.Blocks.damages l.fn.blocks l.blocks None;
@@ -19,8 +18,8 @@ invariant-down g l = record {
   path : (kept : List Block) → IndexesBlocks kept l.tree.entries → IsPathUp kept l.to l.up.items l.high;
   way : (kept : List Block) → IndexesBlocks kept l.tree.entries → (place : ℕ) → IsOnTheWay kept l.low l.high place → IsOnTheWay kept l.from l.to place;
   on_way : (kept : List Block) → IndexesBlocks kept l.tree.entries → AreOnTheWay kept l.from l.to l.up.items;
-  stands : (stored : List Stored) → g.B.Blocks.told l.fn.blocks ≡ Some stored → IndexesBlocks (blocks_of stored) l.tree.entries → CanBeFollowed stored l.from l.to
-      → IndexesBranch (blocks_of stored) l.from l.fn.index → IndexesBranch (blocks_of stored) l.low l.index;
+  stands : (what : g.S.Follows.What) (stored : List Stored) → g.B.Blocks.told l.fn.blocks ≡ Some stored → IndexesBlocks (blocks_of stored) l.tree.entries → CanBeFollowed stored l.from l.to
+      → g.S.Follows.stands what (blocks_of stored) l.from l.fn.first → g.S.Follows.stands what (blocks_of stored) l.low l.standing;
 }
 
 abbrev pub decreases-down : goal.decreases-down

@@ -2,12 +2,12 @@ use Rattle.std.proofs.Common.{List, ap, sym, subst}
 use Rattle.std.proofs.lemmas.Result.{IfOk-weaker}
 use Rattle.chain_defs.specs.Schema.{Block}
 use Rattle.chain_tree.specs.Told.{blocks_of}
-use Rattle.cell_index.specs.Index.{IndexesBranch}
+use Rattle.cell_index.specs.Balance.{IsBalance}
 use Rattle.rewards.specs.Reading.{YieldsUndamaged}
 use Rattle.node_store.specs.Kept.{KeptValue}
 use Rattle.node_store.proofs.EntryLemmas.{within-entries}
 use Rattle.node_store.proofs.KeptSources.{told-stored, counts-entries}
-use Rattle.run_import.specs.Watching.{StandsForTip}
+use Rattle.run_import.specs.Watching.{IsTipBalance}
 use Rattle.run_import.proofs.WatchLemmas.{way-there, comes-to}
 use Rattle.run_import.proofs.watching.moved.Goals as goal
 
@@ -28,16 +28,16 @@ pub returns-clause-read : goal.returns-clause-read
 returns-clause-read g c = c.follow.ensures.read
 
 pub returns-clause-followed : goal.returns-clause-followed
-returns-clause-followed g c tells stands =
+returns-clause-followed g c lock tells stands =
     let stored = c.kept.inside.blocks.stored in
     let seen = ap (λ (v : KeptValue). v.chain.blocks) c.kept.view_is in
     let told = told-stored c.kept.inside.spec stored c.kept.inside.tree.entries c.args.kept.now _ c.kept.view_is tells in
     let way = way-there c.kept.inside.spec stored c.kept.inside.tree.entries c.kept.inside.uncles c.args.kept.now c.kept.view_is
     c.kept.invariant c.args.from c.tip.result tells.joined in
-    let here = subst (λ (blocks : List Block). IndexesBranch blocks c.args.from c.args.index) (sym seen) stands in
-    subst (λ (blocks : List Block). YieldsUndamaged (StandsForTip blocks) c.follow.result) seen
-    (comes-to (StandsForTip (blocks_of stored)) c.follow.result
-    (IfOk-weaker c.follow.result (IndexesBranch (blocks_of stored) c.tip.result) (StandsForTip (blocks_of stored))
-    (λ index has. record { tip = c.tip.result; is_tip = c.tip.ensures.of_blocks (blocks_of stored) c.kept.invariant.indexed; stands = has })
-    (c.follow.ensures.stands stored told c.kept.invariant.indexed way here))
-    (c.follow.ensures.undamaged stored told c.kept.invariant.indexed way here))
+    let here = subst (λ (blocks : List Block). IsBalance lock blocks c.args.from c.args.balance) (sym seen) stands in
+    subst (λ (blocks : List Block). YieldsUndamaged (IsTipBalance lock blocks) c.follow.result) seen
+    (comes-to (IsTipBalance lock (blocks_of stored)) c.follow.result
+    (IfOk-weaker c.follow.result (IsBalance lock (blocks_of stored) c.tip.result) (IsTipBalance lock (blocks_of stored))
+    (λ balance has. record { tip = c.tip.result; is_tip = c.tip.ensures.of_blocks (blocks_of stored) c.kept.invariant.indexed; stands = has })
+    (c.follow.ensures.stands lock stored told c.kept.invariant.indexed way here))
+    (c.follow.ensures.undamaged lock stored told c.kept.invariant.indexed way here))

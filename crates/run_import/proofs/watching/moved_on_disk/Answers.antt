@@ -37,7 +37,7 @@ returns-clause-looked g c =
     (finds_after (ap (λ (it : CacheValue). it.damages) c.new-store.ensures.cache) c.moved.ensures.read.found)))
 
 pub returns-clause-followed : goal.returns-clause-followed
-returns-clause-followed g c told joined =
+returns-clause-followed g c lock told joined =
     let same = ap (λ (t : TreeValue). t.entries) c.new-store.ensures.tree ∙ ap (λ (v : KeptValue). v.entries) c.kept.view_is in
-    c.moved.ensures.followed (tells-joined c.args.kept.now c.new-store.result.tree.now.entries c.args.cache.now.held (g.D.Disk.reads_as c.new-store.result.disk.now)
+    c.moved.ensures.followed lock (tells-joined c.args.kept.now c.new-store.result.tree.now.entries c.args.cache.now.held (g.D.Disk.reads_as c.new-store.result.disk.now)
     (g.D.Disk.reads_as c.args.disk.now) same (ap g.D.Disk.reads_as c.new-store.ensures.disk) c.requires.own told joined)

@@ -1,9 +1,9 @@
 use Rattle.std.proofs.Common.{◌≡◌, sym, subst}
-use Rattle.cell_index.specs.Index.{IndexesBranch}
+use Rattle.cell_index.specs.Balance.{IsBalance}
 use Rattle.rewards.specs.Reading.{YieldsUndamaged}
 use Rattle.node_store.specs.Node.{NodeValue, IsSoundWhereTold}
 use Rattle.node_store.proofs.RecordedLemmas.{read-here, leaves-all}
-use Rattle.run_import.specs.Watching.{StandsForTip}
+use Rattle.run_import.specs.Watching.{IsTipBalance}
 use Rattle.run_import.proofs.watching.moved_on_node.Goals as goal
 
 pub moved_on_disk-requires-clause-own : goal.moved_on_disk-requires-clause-own
@@ -18,8 +18,8 @@ returns-clause-left g c =
     c.node.view_is c.requires.own c.moved_on_disk.ensures.looked
 
 pub returns-clause-followed : goal.returns-clause-followed
-returns-clause-followed g c = λ sound stands.
+returns-clause-followed g c lock = λ sound stands.
     let on = subst (λ (node : NodeValue). IsSoundWhereTold node (g.D.Disk.reads_as c.args.disk.now)) (sym c.node.view_is) sound in
-    subst (λ (node : NodeValue). YieldsUndamaged (StandsForTip node.chain.blocks) c.moved_on_disk.result) c.node.view_is
-    (c.moved_on_disk.ensures.followed on.told on.sound.joined
-    (subst (λ (node : NodeValue). IndexesBranch node.chain.blocks c.args.from c.args.index) (sym c.node.view_is) stands))
+    subst (λ (node : NodeValue). YieldsUndamaged (IsTipBalance lock node.chain.blocks) c.moved_on_disk.result) c.node.view_is
+    (c.moved_on_disk.ensures.followed lock on.told on.sound.joined
+    (subst (λ (node : NodeValue). IsBalance lock node.chain.blocks c.args.from c.args.balance) (sym c.node.view_is) stands))

@@ -5,17 +5,16 @@ use Rattle.chain_tree.specs.Blocks.{IndexesBlocks}
 use Rattle.chain_tree.specs.Told.{Stored, blocks_of}
 use Rattle.chain_tree.specs.Reading.{HasRead}
 use Rattle.cell_state.proofs.PathLemmas.{height_after}
-use Rattle.cell_index.specs.Index.{IndexesBranch}
 use Rattle.cell_index.specs.Follow.{CanBeFollowed}
-use Rattle.cell_index.proofs.index.Index.follow.Given as goal
+use Rattle.cell_index.proofs.following.moved.Given as goal
 
--- The index is that of the branch of the place that was reached last.
+-- It stands for the branch of the place that was reached last.
 abbrev pub invariant-up : goal.invariant-up
 invariant-up g l = record {
   read : HasRead g.B.Blocks.told g.B.Blocks.count g.B.Blocks.loans_of g.B.Blocks.faults g.B.Blocks.damages l.fn.blocks l.blocks None;
   most : l.i ≤ length l.up.items;
-  stands : (stored : List Stored) → g.B.Blocks.told l.fn.blocks ≡ Some stored → IndexesBlocks (blocks_of stored) l.tree.entries → CanBeFollowed stored l.from l.to
-      → IndexesBranch (blocks_of stored) l.from l.fn.self → (place : ℕ)
+  stands : (what : g.S.Follows.What) (stored : List Stored) → g.B.Blocks.told l.fn.blocks ≡ Some stored → IndexesBlocks (blocks_of stored) l.tree.entries → CanBeFollowed stored l.from l.to
+      → g.S.Follows.stands what (blocks_of stored) l.from l.fn.first → (place : ℕ)
       → slice_get (branch_places (blocks_of stored) l.to) (height_after (blocks_of stored) l.to l.up.items l.i) ≡ Some place
-      → IndexesBranch (blocks_of stored) place l.index;
+      → g.S.Follows.stands what (blocks_of stored) place l.standing;
 }
