@@ -23,3 +23,4 @@ pub mod WayLemmas
 pub mod OnWayLemmas
 pub mod BelowLemmas
 pub mod HandLemmas
+pub mod PutLemmas

@@ -42,16 +42,16 @@ Contains-cons : {X : Type 0} (x : X) (xs : List X) (y : X) → Contains (x ∷ x
 Contains-cons x xs y (zero, lt, is) = inl is
 Contains-cons x xs y (suc k, lt, is) = inr (k, omega (arith, lt), is)
 
-Contains-here : {X : Type 0} (x : X) (xs : List X) → Contains (x ∷ xs) x
+pub Contains-here : {X : Type 0} (x : X) (xs : List X) → Contains (x ∷ xs) x
 Contains-here x xs = (0, omega arith, refl)
 
-Contains-there : {X : Type 0} (x : X) (xs : List X) (y : X) → Contains xs y → Contains (x ∷ xs) y
+pub Contains-there : {X : Type 0} (x : X) (xs : List X) (y : X) → Contains xs y → Contains (x ∷ xs) y
 Contains-there x xs y (k, lt, is) = (suc k, omega (arith, lt), is)
 
-Contains-from_place : {X : Type 0} (xs : List X) (i : ℕ) (x : X) → slice_get xs i ≡ Some x → Contains xs x
+pub Contains-from_place : {X : Type 0} (xs : List X) (i : ℕ) (x : X) → slice_get xs i ≡ Some x → Contains xs x
 Contains-from_place xs i x is = (i, slice_get_within xs i x is, get_or_from_slice_get xs i x x is)
 
-place-from_Contains : {X : Type 0} (xs : List X) (x : X) → Contains xs x → (i : ℕ) × (slice_get xs i ≡ Some x)
+pub place-from_Contains : {X : Type 0} (xs : List X) (x : X) → Contains xs x → (i : ℕ) × (slice_get xs i ≡ Some x)
 place-from_Contains xs x (i, lt, is) = (i, slice_get-get_or xs i x lt ∙ ap (λ (y : _). Some y) is)
 
 -- what is listed has a slot

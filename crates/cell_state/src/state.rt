@@ -10,6 +10,7 @@ ghost use Rattle.chain_defs.specs.Fit.{are_live, AllFit};
 ghost use Rattle.chain_defs.specs.Undo.{undone, first_clash};
 ghost use Rattle.chain_defs.specs.UndoLaws.{ComesBefore};
 ghost use Rattle.cell_state.specs.declared.odd.Odd.TheVariants.{Live};
+ghost use Rattle.cell_state.specs.Listing.{ArePutInOrder};
 ghost use Rattle.cell_state.specs.State.{Grows, rows, count, outputs_of};
 
 use crate::events::Events;
@@ -195,6 +196,13 @@ impl State {
         ensures { IfOk result (λ list. ListsRows (rows self.now) list.items) }
     {
         self.slots.sorted(alloc)
+    }
+
+    /// Puts the bytes of the rows, in rising order of their out-points, after what is there. Beside them it takes 36 bytes a row.
+    pub fn put_rows(&self, alloc: Global, bytes: &mut Vec<u8>) -> Result<(), NoMemory>
+        ensures { OnOk result (ArePutInOrder (rows self.now) bytes.old.items bytes.new.items) }
+    {
+        self.slots.put_rows(alloc, bytes)
     }
 }
 

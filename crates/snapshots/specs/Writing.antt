@@ -1,7 +1,9 @@
 -- What a snapshot leaves of its area while it is written.
-use Rattle.std.specs.Prelude.{◌≡◌, ◌≢◌, ◌⊎◌, ℕ, ◌<◌, ◌==◌, ◌||◌, false, List, [], ◌∷◌, ◌++◌, length, slice_index, Option, Some, if◌then◌else◌}
+use Rattle.std.specs.Prelude.{◌≡◌, ◌≢◌, ◌⊎◌, ℕ, ◌<◌, ◌≤◌, ◌^◌, ◌==◌, ◌||◌, false, List, [], ◌∷◌, ◌++◌, length, slice_index, Option, Some, if◌then◌else◌}
+use Rattle.std.specs.List.{All}
 use Rattle.chain_defs.specs.Schema.{OutPoint}
 use Rattle.chain_defs.specs.Row.{Row, ListsRows}
+use Rattle.chain_defs.specs.Fits.{FitsRow}
 use Rattle.outside.specs.declared.disk.Area.{Area}
 use Rattle.outside.specs.Image.{Image, content, with_content, InArea}
 use Rattle.outside.specs.Disk.{written, ComesBy, IsDurable}
@@ -72,3 +74,11 @@ pub record IsBodyOf (number tip : ℕ) (hash : List ℕ) (rows : OutPoint → Op
   pub is : IsSnapshotOf number tip hash rows s
   pub form : HasForm s
   pub bytes : body ≡ body_bytes s
+
+-- The bytes of such a snapshot are put after what was there, but for the gate.
+pub record IsBodyPut (number tip : ℕ) (hash : List ℕ) (rows : OutPoint → Option Row) (old new : List ℕ) : Type 0 where
+  pub s : Snapshot
+  pub is : IsSnapshotOf number tip hash rows s
+  pub fits : All FitsRow s.rows
+  pub many : length s.rows ≤ 2 ^ 50
+  pub bytes : new ≡ old ++ body_bytes s

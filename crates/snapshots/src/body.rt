@@ -1,22 +1,13 @@
 // The bytes of a snapshot that stand after its gate.
-ghost use Rattle.std.specs.Prelude.{◌≡◌, ◌+◌, ◌*◌, ◌^◌, ◌<◌, ◌≤◌, ◌++◌, length, map, IfOk, OnOk};
-ghost use Rattle.std.specs.List.{All, concat};
+ghost use Rattle.std.specs.Prelude.{◌≡◌, ◌+◌, ◌*◌, ◌^◌, ◌<◌, ◌≤◌, ◌++◌, length, IfOk, OnOk};
 ghost use Rattle.std.specs.Int.{w32, w64, to_le_bytes};
-ghost use Rattle.chain_defs.specs.Ext.{row_bytes};
 ghost use Rattle.cell_state.specs.State.{rows};
-ghost use Rattle.chain_defs.specs.Fits.{FitsRow};
-ghost use Rattle.disk_defs.specs.Snapshot.{body_bytes};
-ghost use Rattle.snapshots.specs.Writing.{IsBodyOf};
+ghost use Rattle.snapshots.specs.Writing.{IsBodyOf, IsBodyPut};
 
 use crate::head::HEAD_SIZE;
-use cell_state::{CellMeta, OutPoint, ROW_SIZE, State, put_row};
+use cell_state::{ROW_SIZE, State};
 use outside::NoMemory;
 use std::alloc::Global;
-
-/// States that a row fits its bytes. It does nothing.
-fn fits(o: OutPoint, meta: CellMeta)
-    ensures { FitsRow (o, meta) }
-{}
 
 /// Puts what stands before the rows, but for the gate, after what is there.
 fn put_head(
@@ -35,20 +26,8 @@ fn put_head(
     Ok(())
 }
 
-/// Puts rows after what is there.
-fn put_rows(bytes: &mut Vec<u8>, rows: &[(OutPoint, CellMeta)]) -> Result<(), NoMemory>
-    ensures written { OnOk result (bytes.new.items ≡ bytes.old.items ++ concat (map row_bytes rows.now)) }
-    ensures fits { OnOk result (All FitsRow rows.now) }
-{
-    'rows: for (o, meta) in rows {
-        fits(*o, *meta);
-        put_row(bytes, o, meta)?;
-    }
-    Ok(())
-}
-
 /// What stands after the gate of the snapshot of a state, with this number, place and hash of the tip. Each row becomes bytes
-/// once, in one buffer of just this size beside the sorted rows.
+/// once, in one buffer of just this size beside the sorted out-points.
 pub(crate) fn body_of(
     alloc: Global,
     number: u32,
@@ -60,32 +39,29 @@ pub(crate) fn body_of(
     ensures few { IfOk result (λ body. length body.items ≤ 2 ^ 58) }
 {
     let count = state.rows();
-    let rows = match state.sorted(alloc) {
-        Ok(rows) => rows,
-        Err(NoMemory) => return Err(NoMemory),
-    };
     let mut bytes = match Vec::with_capacity(alloc, HEAD_SIZE - 1 + ROW_SIZE * count as usize) {
         Ok(bytes) => bytes,
         Err(_) => return Err(NoMemory),
     };
-    match put_body(&mut bytes, number, tip, hash, &rows) {
+    match put_body(alloc, &mut bytes, number, tip, hash, state) {
         Ok(()) => Ok(bytes),
         Err(NoMemory) => Err(NoMemory),
     }
 }
 
-/// Puts what stands after the gate of a snapshot after what is there.
+/// Puts what stands after the gate of the snapshot of a state after what is there.
 fn put_body(
+    alloc: Global,
     bytes: &mut Vec<u8>,
     number: u32,
     tip: u32,
     hash: &[u8; 32],
-    rows: &[(OutPoint, CellMeta)],
+    state: &State,
 ) -> Result<(), NoMemory>
-    ensures written { OnOk result (bytes.new.items ≡ bytes.old.items ++ body_bytes (record { number = number; tip = tip; hash = hash.now; rows = rows.now })) }
-    ensures fits { OnOk result (All FitsRow rows.now) }
+    ensures { OnOk result (IsBodyPut number tip hash.now (rows state.now) bytes.old.items bytes.new.items) }
 {
-    put_head(bytes, number, tip, hash, rows.len() as u64)?;
-    put_rows(bytes, rows)?;
+    let count = state.rows();
+    put_head(bytes, number, tip, hash, count)?;
+    state.put_rows(alloc, bytes)?;
     Ok(())
 }
