@@ -1,9 +1,10 @@
 -- Of listed rows those of a lock, against the list of the definition; and what they hold together.
-use Rattle.std.proofs.Common.{◌≡◌, ℕ, ⊎_elim, Bool, true, false, List, [], ◌∷◌, Option, Some, None, if◌then◌else◌, refl, sym, ap, ◌∙◌, subst, arith}
-use Rattle.std.specs.List.{Contains, filter}
+use Rattle.std.proofs.Common.{◌≡◌, ℕ, zero, suc, ◌+◌, ◌<◌, ◌≤◌, ⊎_elim, Bool, true, false, List, [], ◌∷◌, length, drop, get_or, Option, Some, None, if◌then◌else◌, refl, sym, ap, ◌∙◌, subst, arith}
+use Rattle.std.specs.List.{Contains, filter, sum_by}
 use Rattle.std.specs.Str.{bytes_eq}
 use Rattle.std.specs.declared.cmp.Ordering.TheVariants.{Less}
 use Rattle.std.proofs.lemmas.List.Kept.{AllPairs-filter}
+use Rattle.std.proofs.lemmas.List.Sums.{sum_by-cons, sum_by-drop_more}
 use Rattle.chain_defs.specs.Schema.{OutPoint, Block}
 use Rattle.chain_defs.specs.Tip.{tip_place}
 use Rattle.chain_defs.specs.Row.{Row, live_row, out_point_cmp, ListsRows}
@@ -70,3 +71,44 @@ kept-by-lock rows kept place lock list live lists = record {
 pub listed-at-tip : (kept : List Block) (place : ℕ) (lock : List ℕ) (list : List (OutPoint × Row)) → tip_place kept ≡ Some place → IsByLock kept place lock list
     → list ≡ cells_on kept lock (tip_place kept)
 listed-at-tip kept place lock list is by = (lists-by-lock kept place lock list).0 by ∙ sym (ap (cells_on kept lock) is)
+
+-- ---- Sums over some of a list
+
+-- what one of them counts, where a test has it
+abbrev pub part : {X : Type 0} → (X → Bool) → (X → ℕ) → X → ℕ
+part p number x = if p x then number x else 0
+
+pub filtered-sum : {X : Type 0} (p : X → Bool) (number : X → ℕ) (xs : List X) → sum_by number (filter p xs) ≡ sum_by (part p number) xs
+filtered-sum p number [] = refl
+filtered-sum {X} p number (x ∷ xs) = by_test (p x) (filtered-sum p number xs) ∙ sym (sum_by-cons (part p number) x xs)
+  where
+    by_test : (b : Bool) → sum_by number (filter p xs) ≡ sum_by (part p number) xs
+        → sum_by number (if b then x ∷ filter p xs else filter p xs) ≡ (if b then number x else 0) + sum_by (part p number) xs
+    by_test true rest = let all = sum_by-cons number x (filter p xs) in omega (arith, all, rest)
+    by_test false rest = omega (arith, rest)
+
+-- each counts one
+abbrev pub one_each : {X : Type 0} → X → ℕ
+one_each x = 1
+
+pub counted : {X : Type 0} (xs : List X) → length xs ≡ sum_by one_each xs
+counted [] = refl
+counted {X} (x ∷ xs) =
+    let rest = counted xs in
+    let all : sum_by one_each (x ∷ xs) ≡ 1 + sum_by one_each xs = sum_by-cons one_each x xs in
+    omega (arith, rest, all)
+
+-- one less is left
+pub next-sum-at : {X : Type 0} (f : X → ℕ) (xs : List X) (i : ℕ) (x : X) → i < length xs → get_or xs i x ≡ x → sum_by f (drop i xs) ≡ f x + sum_by f (drop (i + 1) xs)
+next-sum-at {X} f xs i x within is = sum_by-drop_more f xs i x within ∙ ap (λ (y : X). f y + sum_by f (drop (i + 1) xs)) is
+
+-- nothing is left
+pub over-sum : {X : Type 0} (f : X → ℕ) (xs : List X) (i : ℕ) → length xs ≤ i → sum_by f (drop i xs) ≡ 0
+over-sum f [] zero past = refl
+over-sum f [] (suc i) past = refl
+over-sum f (x ∷ xs) zero past = absurd (omega (arith, past))
+over-sum f (x ∷ xs) (suc i) past = over-sum f xs i (omega (arith, past))
+
+-- a pair by its parts
+pub pair-of : (a b c d : ℕ) → a ≡ c → b ≡ d → ◌≡◌ {A = ℕ × ℕ} (a, b) (c, d)
+pair-of a b c d one other = ap (λ (x : ℕ). (x, b)) one ∙ ap (λ (y : ℕ). (c, y)) other

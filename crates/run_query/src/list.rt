@@ -1,56 +1,22 @@
 // The query `list`: the live cells of a lock.
-ghost use Rattle.std.specs.Prelude.{◌≡◌, ◌++◌, map, codes, Err, IfOk, OnOk, string_bytes};
+ghost use Rattle.std.specs.Prelude.{◌≡◌, ◌<◌, ◌≤◌, ◌^◌, ◌++◌, map, codes, Err, IfOk, OnOk, string_bytes, if◌then◌else◌};
 ghost use Rattle.std.specs.Fmt.{decimal};
 ghost use Rattle.hex.specs.Hex.{encode_lower};
 ghost use Rattle.std.specs.List.{concat, filter};
 ghost use Rattle.cell_state.specs.State.{rows};
 ghost use Rattle.node_store.specs.Kept.{AreRowsOfTip};
 ghost use Rattle.report_defs.specs.Report as reports;
-ghost use Rattle.report_defs.specs.Queries.{cells_at_tip, total_of, line_of_listed, lines_of_cells};
+ghost use Rattle.report_defs.specs.Queries.{total_of, line_of_listed, lines_of_cells};
 ghost use Rattle.report_defs.specs.Text as texts;
 ghost use Rattle.report_defs.specs.declared.command.Query.TheVariants as queries;
-ghost use Rattle.chain_defs.specs.ByLock.{capacity_of};
 ghost use Rattle.run_query.specs.Queries.{is_of};
 
 use cell_state::{CellMeta, OutPoint};
 use itoa::Buffer;
 use node_store::Node;
-use outside::NoMemory;
 use report_defs::Status;
 use run_text::push_total;
 use std::alloc::{AllocError, Global};
-
-/// Of rows those whose lock has a hash.
-fn of_lock(
-    alloc: Global,
-    rows: &[(OutPoint, CellMeta)],
-    lock: &[u8; 32],
-) -> Result<Vec<(OutPoint, CellMeta)>, AllocError>
-    ensures { IfOk result (λ cells. cells.items ≡ filter (is_of lock.now) rows.now) }
-{
-    let mut cells = Vec::new(alloc);
-    'rows: for listed in rows {
-        if listed.1.lock_hash == *lock {
-            cells.push((listed.0, listed.1))?;
-        }
-    }
-    Ok(cells)
-}
-
-/// The live cells of the tip whose lock has a hash, in rising order of their out-points.
-fn find_cells(
-    alloc: Global,
-    node: &Node,
-    lock: &[u8; 32],
-) -> Result<Vec<(OutPoint, CellMeta)>, NoMemory>
-    ensures { AreRowsOfTip node.now.chain.blocks (rows node.now.cells) → IfOk result (λ it. it.items ≡ cells_at_tip lock.now node.now.chain) }
-{
-    // (there is a tip)
-    let _tip = node.tree().tip();
-    let rows = node.state().sorted(alloc)?;
-    let cells = of_lock(alloc, &rows, lock)?;
-    Ok(cells)
-}
 
 /// The hex digits of a hash.
 fn digits_of(hash: &[u8; 32]) -> [u8; 64]
@@ -85,44 +51,75 @@ fn push_cell(text: &mut Vec<u8>, listed: &(OutPoint, CellMeta)) -> Result<(), Al
     Ok(())
 }
 
-/// Adds the line of each cell.
-fn push_cells(text: &mut Vec<u8>, cells: &[(OutPoint, CellMeta)]) -> Result<(), AllocError>
-    ensures { OnOk result (text.new.items ≡ text.old.items ++ concat (map line_of_listed cells.now)) }
+/// Of rows adds the line of each whose lock has a hash.
+fn push_cells(
+    text: &mut Vec<u8>,
+    rows: &[(OutPoint, CellMeta)],
+    lock: &[u8; 32],
+) -> Result<(), AllocError>
+    ensures { OnOk result (text.new.items ≡ text.old.items ++ concat (map line_of_listed (filter (is_of lock.now) rows.now))) }
 {
-    'cells: for listed in cells {
-        push_cell(text, listed)?;
+    'rows: for listed in rows {
+        if listed.1.lock_hash == *lock {
+            push_cell(text, listed)?;
+        }
     }
     Ok(())
 }
 
-/// What cells hold together, in shannons.
-fn held_by(cells: &[(OutPoint, CellMeta)]) -> u128
-    ensures { result ≡ capacity_of cells.now }
+/// Whether the lock of a row has a hash: one with its capacity, in shannons, or nothing.
+fn total_of_row(row: &(OutPoint, CellMeta), lock: &[u8; 32]) -> (u64, u128)
+    ensures count { result.0 ≡ (if is_of lock.now row.now then 1 else 0) }
+    ensures capacity { result.1 ≡ (if is_of lock.now row.now then row.now.1.capacity else 0) }
+    ensures few { result.0 ≤ 1 }
+    ensures most { result.1 < 2 ^ 64 }
 {
-    let mut held = 0u128;
-    'cells: for listed in cells {
-        held += u128::from(listed.1.capacity);
+    if row.1.lock_hash == *lock {
+        return (1, u128::from(row.1.capacity));
     }
-    held
+    (0, 0)
 }
 
-/// The line of all cells.
-fn line_of_all(alloc: Global, cells: &[(OutPoint, CellMeta)]) -> Result<String, AllocError>
-    ensures { IfOk result (λ line. string_bytes line ≡ texts.total_line (total_of cells.now)) }
+/// Of rows how many have a lock with a hash, and what these hold together, in shannons.
+fn total_in(rows: &[(OutPoint, CellMeta)], lock: &[u8; 32]) -> (u64, u128)
+    ensures { result ≡ total_of (filter (is_of lock.now) rows.now) }
 {
+    let mut count = 0u64;
+    let mut held = 0u128;
+    'rows: for row in rows {
+        let one = total_of_row(row, lock);
+        count += one.0;
+        held += one.1;
+    }
+    (count, held)
+}
+
+/// The line of all of them.
+fn line_of_all(
+    alloc: Global,
+    rows: &[(OutPoint, CellMeta)],
+    lock: &[u8; 32],
+) -> Result<String, AllocError>
+    ensures { IfOk result (λ line. string_bytes line ≡ texts.total_line (total_of (filter (is_of lock.now) rows.now))) }
+{
+    let (count, held) = total_in(rows, lock);
     let mut line = String::from_str(alloc, "total ")?;
-    push_total(alloc, &mut line, cells.len() as u64, held_by(cells))?;
+    push_total(alloc, &mut line, count, held)?;
     line.push_str("\n")?;
     Ok(line)
 }
 
-/// The line of each cell, and that of all.
-fn lines_of(alloc: Global, cells: &[(OutPoint, CellMeta)]) -> Result<Vec<u8>, AllocError>
-    ensures { IfOk result (λ text. text.items ≡ lines_of_cells cells.now) }
+/// Of rows the line of each whose lock has a hash, and that of all of them. The rows are read where they stand: they may be very many.
+fn lines_of(
+    alloc: Global,
+    rows: &[(OutPoint, CellMeta)],
+    lock: &[u8; 32],
+) -> Result<Vec<u8>, AllocError>
+    ensures { IfOk result (λ text. text.items ≡ lines_of_cells (filter (is_of lock.now) rows.now)) }
 {
     let mut text = Vec::new(alloc);
-    push_cells(&mut text, cells)?;
-    let total = line_of_all(alloc, cells)?;
+    push_cells(&mut text, rows, lock)?;
+    let total = line_of_all(alloc, rows, lock)?;
     text.extend_from_slice(total.as_bytes())?;
     Ok(text)
 }
@@ -132,10 +129,13 @@ pub fn list(alloc: Global, node: &Node, lock: &[u8; 32]) -> Result<Vec<u8>, Stat
     ensures text { AreRowsOfTip node.now.chain.blocks (rows node.now.cells) → IfOk result (λ text. text.items ≡ reports.answer_to_query (queries.Cells lock.now) node.now.chain) }
     ensures memory { (status : Status) → result ≡ Err status → status ≡ Status.NoMemory }
 {
-    let Ok(cells) = find_cells(alloc, node, lock) else {
-        return Err(Status::NoMemory);
+    // (there is a tip)
+    let _tip = node.tree().tip();
+    let rows = match node.state().sorted(alloc) {
+        Ok(rows) => rows,
+        Err(_) => return Err(Status::NoMemory),
     };
-    match lines_of(alloc, &cells) {
+    match lines_of(alloc, &rows, lock) {
         Ok(text) => Ok(text),
         Err(_) => Err(Status::NoMemory),
     }
