@@ -4,7 +4,7 @@
 //! The contract of use: [`create`], [`append`] and [`open`] say of each moment what a crash may leave, in the words
 //! `IsSettled`, `IsAtRest` and `HasLog` of `disk_defs`; after `Ok` the log is settled with its records. [`open`]
 //! answers what a log says, or that LOG is none, exactly by `log_of`; it holds no block, and shows each to a [`Visitor`] as
-//! it is read. [`Body`] is filled before the disk is touched,
+//! it is read; [`look`] does so and writes nothing. [`Body`] is filled before the disk is touched,
 //! so that `append` takes no memory. [`judge_genesis`], [`parts`] and [`ext_form`] tell what the records of a log may
 //! hold. Which block may join is left to the rules above.
 #![tactic(auto)]
@@ -31,6 +31,6 @@ pub use creation::create;
 pub use ext::ext_form;
 pub use genesis::judge_genesis;
 pub use log::{Log, Rec};
-pub use opening::{Opened, open};
+pub use opening::{Opened, look, open};
 pub use stop::LogStop;
 pub use visitor::Visitor;

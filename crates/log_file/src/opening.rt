@@ -83,6 +83,40 @@ fn read_log<D: Disk, V: Visitor>(
     Ok((opened, open_gate))
 }
 
+/// Reads the log from start to end, once, and judges it as `open` does, and writes nothing. The visitor is shown each block
+/// as it is read, also where the log is none in the end. Answers beside what it says whether a gate stands open after its
+/// records, which `open` would close.
+pub fn look<D: Disk, V: Visitor>(
+    alloc: Global,
+    disk: &mut D,
+    visitor: &mut V,
+) -> Result<(Opened, bool), LogStop>
+    requires { V.visited visitor.old ≡ [] }
+
+    // Exactly a log is read, but for faults and want of memory.
+    ensures opened { IfSome (D.reads_as disk.old) (λ now. IfOk result (λ found. (log : LogContent)
+        × IsOpened now.log log found.0.spec (V.visited visitor.new) found.0.tree.entries)) }
+    ensures ends { IfSome (D.reads_as disk.old) (λ now. IfOk result (λ found. EndsAt found.0.log.place (records_of (drop 8 now.log)) now.log)) }
+    ensures gate { IfSome (D.reads_as disk.old) (λ now. IfOk result (λ found. found.1 ≡ (slice_index now.log found.0.log.place == 1))) }
+    ensures not_a_store { IfErr result (IfDamage (IsInLog (D.reads_as disk.old) IsNoLogFrom)) }
+
+    // Of each disk, also of one that tells nothing:
+    ensures blocks { IfOk result (λ found. AreBlocks (V.visited visitor.new) found.0.tree.entries) }
+    ensures place { IfOk result (λ found. found.0.log.place + edition_room found.0.spec.second_from ≤ 2 ^ 33 * (length (V.visited visitor.new) + 1)) }
+
+    ensures as_before { IsAsBefore D.reads_as D.images D.moment D.left_since disk.old disk.new }
+    ensures cause { CountsFault (D.faults disk.old) (D.faults disk.new) (result ≡ Err LogStop.DiskFault) }
+{
+    let len = match disk.len(Area::Log) {
+        Ok(len) => len,
+        Err(_) => return Err(LogStop::DiskFault),
+    };
+    match read_log(alloc, disk, visitor, len) {
+        Ok(found) => Ok(found),
+        Err(stop) => Err(stop),
+    }
+}
+
 /// Closes the gate where the records of a log end, if it stands open.
 fn mend<D: Disk>(disk: &mut D, place: u64, open_gate: bool) -> Result<(), Failed>
     requires limit { place < 2 ^ 62 }

@@ -1,0 +1,10 @@
+mod AnswerLemmas
+mod AreaLemmas
+mod Differing
+mod ExitLemmas
+mod GenesisLemmas
+mod LogLemmas
+mod PartLemmas
+mod ReplayLemmas
+mod RowLemmas
+mod TakeLemmas
