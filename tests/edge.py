@@ -40,6 +40,7 @@ import stored  # noqa: E402
 import streams  # noqa: E402
 import tracing  # noqa: E402
 import unproved  # noqa: E402
+import verifying  # noqa: E402
 from harness import TOP, Wrong  # noqa: E402
 
 
@@ -53,7 +54,7 @@ def main():
     a.add_argument('words', nargs='*')
     a = a.parse_args()
     modules = (runs, streams, assembling, making, pages, json_texts, folders, editions, allocations, chain_snapshots, script, unproved, layers,
-               documents, tracing, explaining, group_pages, json_program, asking, stored)
+               documents, tracing, explaining, group_pages, json_program, asking, verifying, stored)
     checks = [it for module in modules for it in checks_of(module)]
     checks = [it for it in checks if not a.words or any(word in it[0] for word in a.words)]
     program = a.program and os.path.abspath(a.program)

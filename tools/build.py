@@ -3,7 +3,7 @@
 
     tools/build.py [--found] [NAME]
 
-NAME is ckbdev, ckbask, ckbtrace or ckbjson; without a word it is ckbdev. The gate's build is taken
+NAME is ckbdev, ckbask, ckbverify, ckbtrace or ckbjson; without a word it is ckbdev. The gate's build is taken
 where `rt ci` in this checkout made and ran one of these sources. Else, where earlier
 checks left their work in each crate, `rt run` goes on from it. Else the crates below
 the program, without tests and must-fail edits, go through `rt ci` in a copy of their
@@ -36,7 +36,7 @@ import gate_time
 import times
 
 TOP = os.path.dirname(os.path.dirname(os.path.abspath(__file__)))
-PROGRAMS = ('ckbdev', 'ckbask', 'ckbtrace', 'ckbjson')
+PROGRAMS = ('ckbdev', 'ckbask', 'ckbverify', 'ckbtrace', 'ckbjson')
 ONLY_FOUND = sys.argv[1:2] == ['--found']
 WORDS = sys.argv[1 + ONLY_FOUND:]
 NAME = (WORDS or PROGRAMS)[0]

@@ -34,7 +34,7 @@ say_status() {
                *) why='memory could not be had: a store takes some for each kept block and for each live cell' ;;
            esac ;;
         7) if [ -s "$log" ]; then
-               why="the folder '$folder' holds no store: its log.bin is something else, or of an earlier form, or a file in it is damaged"
+               why="the folder '$folder' holds no store: its log.bin is something else, or of an earlier form, or the store is damaged: ./ckbverify '$folder' says where"
            else
                why="the folder '$folder' holds no store: init makes one"
            fi ;;
@@ -70,6 +70,8 @@ what_of_the_disk() {
         echo "another run has the folder '$folder'${waited:+, and had it for the 3 seconds that this one waited}: try again when it has ended"
     elif [ -n "$waited" ]; then
         echo "another run had the folder '$folder' for the 3 seconds that this one waited, and has ended since: try again"
+    elif [ "$name" = ckbverify ]; then
+        echo "can the folder '$folder' and the files in it be read? Or another run had the folder, and has ended since: try again"
     elif [ ! -w "$folder" ] || { [ -e "$log" ] && [ ! -w "$log" ]; }; then
         echo "the folder '$folder' or a file in it cannot be written"
     else

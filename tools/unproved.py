@@ -44,9 +44,15 @@ READ_NOTHING = ('migrate', 'tip', 'header', 'json', 'epoch', 'audit', 'cell', 'l
 # those that write to a store, and what may be there where one did not run to its end
 WRITE = {'init': 'a store may be made: ./%s FOLDER tip tells', 'import': 'blocks may be kept: ./%s FOLDER tip tells',
          'watch': 'blocks may be kept: ./%s FOLDER tip tells', 'migrate': 'the store may have its edition: the same command tells, ./%s FOLDER migrate N'}
+<<<<<<< 19e2739915e9d82a70081aa6307601f3da6f24e6
 IN_A_FOLDER = ('ckbdev', 'ckbask')
 # of the words after a folder, those that do not look at it
 IN_NO_FOLDER = ('exec', 'asm', 'dis', 'unjson', 'make', 'soak')
+=======
+IN_A_FOLDER = ('ckbdev', 'ckbask', 'ckbverify')
+# those whose one word is the folder, and that read no input
+READ_NO_INPUT = ('ckbverify',)
+>>>>>>> FETCH_HEAD
 # programs whose first word is a folder, where others follow it
 MAY_BE_IN_A_FOLDER = ('ckbtrace',)
 SIGNALS = (signal.SIGHUP, signal.SIGINT, signal.SIGQUIT, signal.SIGTERM)
@@ -206,7 +212,7 @@ def write_out(text):
 
 def run(words):
     must_have_rt()
-    reads = NAME not in IN_A_FOLDER or words[1:2] == [] or words[1] not in READ_NOTHING
+    reads = NAME not in READ_NO_INPUT and (NAME not in IN_A_FOLDER or words[1:2] == [] or words[1] not in READ_NOTHING)
     waits = reads and not stat.S_ISREG(os.fstat(INPUT).st_mode)
     tell('rt try compiles the program and runs this one command%s' % (' when its input has ended' if waits else ''))
     if NAME in IN_A_FOLDER and words[1:2] and words[1] not in IN_NO_FOLDER and words[0] and not os.path.isdir(words[0]):

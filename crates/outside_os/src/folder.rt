@@ -13,7 +13,7 @@ use std::io::ErrorKind;
 use std::marker::Model;
 use std::rt::Files;
 
-fn name_of(area: Area) -> &'static str {
+pub(crate) fn name_of(area: Area) -> &'static str {
     match area {
         Area::Log => "/log.bin",
         Area::SnapA => "/snap_a.bin",

@@ -10,10 +10,12 @@ mod claim;
 mod folder;
 mod folder_disk;
 mod pieces;
+mod read_only;
 mod stored_file;
 mod streams;
 
 pub use claim::Claim;
 pub use folder_disk::FolderDisk;
+pub use read_only::ReadOnlyFolder;
 pub use stored_file::StoredFile;
 pub use streams::{StdinSource, StdoutSink};
